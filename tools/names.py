@@ -22,16 +22,18 @@ ROW = re.compile(r'Row\("(.*)"\)')
 WIDTH = 99
 # The rows of texts, which are named together.
 TEXTS = (
-    "afm application/x-pem-key asc atom awk ccmx clj csh dart diashape eps escript execline exs fb2 fish fodt gjs "
-    "gnuplot gpx groovy gtkbuilder hs html ics imy it87 jl jnlp js json kml lingts lisp lua m m3u8 meta4 mk ml mml "
-    "ndjson nft nzb openssh opml owx pem pfa pgp php pl plist ps ps1 py qml qti r raku rb rkt rss rtf sami scala scm "
-    "sed sh sig srt srx stp svg tcl texlua ttx vcf vtt xhtml xml xmp xpm"
+    "afm age application/x-pem-key asc asxref atom awk bookmarks ccmx clj cmap cms csh csr dart dep5 diashape dtsi "
+    "eps escript execline exs fb2 fish fl fodt gjs gnuplot gpx groovy gtkbuilder gx hs html ics imy info it87 jad "
+    "jarmf jl jnlp js json kml lingts lisp lua lyx m m3u8 meta4 mk ml mml ndjson nft nsc nzb openssh opml owx p7c "
+    "param pem pfa pgp php pkginfo pl plist ps ps1 pubkey puml py pysu qml qti r raku raml rb rkt rq rss rtf sami "
+    "scala scc scm sed sgf sh sig srt srx ssa sshsig stp subviewer svg t2t tcl texi texlua tres tscn ttx vcf vnt vtt "
+    "xhtml xml xmp xpm yaml"
 ).split()
 # How many types, and how many sets of rows, are one list of the definition.
 TYPES, SETS = 256, 128
 # How many slots the rows have, and groups that are shifted together; and the weights of a text's length and of four of its bytes.
-ROW_SLOTS, ROW_GROUPS = 512, 64
-ROW_WEIGHTS = (1, 1031, 67, 259, 17)
+ROW_SLOTS, ROW_GROUPS = 1024, 64
+ROW_WEIGHTS = (1, 1999, 245, 85, 33)
 # How many marks there are for each length of a text, of which this one stands for all that are greater.
 MARKS, LONG = 64, 63
 KEYS_CODE = """//! Made by `tools/tables` from names.txt: the keys in the order of their slots, where the slots begin, and the readings.

@@ -20,10 +20,12 @@ COPIES = [b"~", b".bak", b".orig", b".old"]
 MAKERS = [b"makefile", b"gnumakefile", b"dockerfile", b"containerfile"]
 WHITE = b"\t\n\x0c\r "
 TEXTS = (
-    "afm application/x-pem-key asc atom awk ccmx clj csh dart diashape eps escript execline exs fb2 fish fodt gjs "
-    "gnuplot gpx groovy gtkbuilder hs html ics imy it87 jl jnlp js json kml lingts lisp lua m m3u8 meta4 mk ml mml "
-    "ndjson nft nzb openssh opml owx pem pfa pgp php pl plist ps ps1 py qml qti r raku rb rkt rss rtf sami scala scm "
-    "sed sh sig srt srx stp svg tcl texlua ttx vcf vtt xhtml xml xmp xpm"
+    "afm age application/x-pem-key asc asxref atom awk bookmarks ccmx clj cmap cms csh csr dart dep5 diashape dtsi "
+    "eps escript execline exs fb2 fish fl fodt gjs gnuplot gpx groovy gtkbuilder gx hs html ics imy info it87 jad "
+    "jarmf jl jnlp js json kml lingts lisp lua lyx m m3u8 meta4 mk ml mml ndjson nft nsc nzb openssh opml owx p7c "
+    "param pem pfa pgp php pkginfo pl plist ps ps1 pubkey puml py pysu qml qti r raku raml rb rkt rq rss rtf sami "
+    "scala scc scm sed sgf sh sig srt srx ssa sshsig stp subviewer svg t2t tcl texi texlua tres tscn ttx vcf vnt vtt "
+    "xhtml xml xmp xpm yaml"
 ).split()
 
 

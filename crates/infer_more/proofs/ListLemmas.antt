@@ -3,7 +3,9 @@ use Rattle.infer_more.proofs.Common.{◌≡◌, ℕ, Bool, true, false, IsTrue, 
 use Rattle.std.proofs.Common.{slice_get}
 use Rattle.std.proofs.lemmas.List.{take_all}
 use Rattle.std.proofs.lemmas.List.Folds.{list_all_more, list_any_more}
+use Rattle.std.proofs.lemmas.List.Elements.{All-cons, All-nil}
 use Rattle.std.proofs.lemmas.List.Sums.{AllPass-from_list_all}
+use Rattle.std.specs.List.{All}
 
 module _ {A B : Type 0} (p : B → Bool) (f : A → B) where
   pub list_all_map : (xs : List A) → list_all p (map f xs) ≡ list_all (λ x. p (f x)) xs
@@ -16,6 +18,15 @@ module _ {A B : Type 0} (p : B → Bool) (f : A → B) where
 
   pub passed_read : (xs : List A) (k : ℕ) (x : A) → slice_get xs k ≡ Some x → IsTrue (list_all p (map f xs)) → IsTrue (p (f x))
   passed_read xs k x e all = subst (λ y. IsTrue (p (f y))) (get_or_from_slice_get xs k x x e) (passed_by xs k x (slice_get_within xs k x e) all)
+
+-- each element of a list, one by one: what holds of all of them
+pub data Each {A : Type 0} (P : A → Type 0) : List A → Type 0 where
+  none : Each P []
+  more : (x : A) (xs : List A) → P x → Each P xs → Each P (x ∷ xs)
+
+pub all_each : {A : Type 0} (P : A → Type 0) (xs : List A) → Each P xs → All P xs
+all_each P [] none = All-nil P
+all_each P (x ∷ xs) (more y ys here others) = All-cons P x xs here (all_each P xs others)
 
 -- one more element, and all of them
 module _ {A : Type 0} (p : A → Bool) where

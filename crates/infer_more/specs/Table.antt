@@ -1,12 +1,12 @@
 -- The further rows, in order. A row whose signature has no alternative accepts nothing.
 use Rattle.std.specs.Prelude.{ℕ, List, [], ◌∷◌, ◌++◌, Option, None, Some, codes}
-use Rattle.infer_formats.specs.Relation.{animated, behind_id3, class_id, dbase, directory_tag, first_entry_ends_in, first_entry_has_extra, first_entry_is, has_entry, json_lines, json_text, package_with, plain_text, program, root, root_with, shared_object, subrip, tar_checksum}
+use Rattle.infer_formats.specs.Relation.{animated, behind_id3, class_id, dbase, directory_tag, first_entry_ends_in, first_entry_has_extra, first_entry_is, has_entry, json_lines, json_text, package_with, plain_text, program, root, root_with, shared_object, subrip, tar_checksum, text_first, text_first_with}
 use Rattle.infer_sig.specs.Signature as fixed
 use Rattle.infer_sig.specs.Signature.{text, byte, any_of, between}
 use Rattle.infer.specs.Triple.{triple}
 use Rattle.infer.specs.declared.table.file_type.MatcherType.{MatcherType}
 use Rattle.infer.specs.declared.table.file_type.MatcherType.TheVariants.{App, Archive, Audio, Book, Doc, Font, Image, Text, Video}
-use Rattle.infer.specs.declared.table.rows.TheConstants.{CAB, DER, DJVU, DOCX, ELF, GZ, HEIF, HTML, JPEG2000, MP3, MSI, ODP, ODS, ODT, OGG, PEM, PNG, PPTX, PS, RPM, SHELLSCRIPT, SQLITE, TIFF, XLSX, XML, ZIP}
+use Rattle.infer.specs.declared.table.rows.TheConstants.{AR, CAB, DER, DJVU, DOCX, ELF, EXE, GZ, HEIF, HTML, JPEG, JPEG2000, MP3, MSI, ODP, ODS, ODT, OGG, PEM, PNG, PPTX, PS, RPM, SHELLSCRIPT, SQLITE, TAR, TIFF, XLSX, XML, ZIP}
 use Rattle.infer_more.specs.Row.{Further}
 use Rattle.infer_notation.specs.Alternative.{Alternative, at_least, binary_bytes, related}
 
@@ -34,6 +34,7 @@ packages =
     ∷ row Doc (codes "application/vnd.oasis.opendocument.text-template") (codes "ott") (Some ODT) (at_least 86 (text 77 (codes "-template") ∷ []) ∷ [])
     ∷ row Doc (codes "application/vnd.oasis.opendocument.spreadsheet-template") (codes "ots") (Some ODS) (at_least 93 (text 84 (codes "-template") ∷ []) ∷ [])
     ∷ row Doc (codes "application/vnd.oasis.opendocument.presentation-template") (codes "otp") (Some ODP) (at_least 94 (text 85 (codes "-template") ∷ []) ∷ [])
+    ∷ row App (codes "application/x-cubin") (codes "cubin") (Some ELF) (at_least 20 (text 5 (0x01 ∷ []) ∷ text 18 (0xBE ∷ 0x00 ∷ []) ∷ []) ∷ [])
     ∷ []
 
 -- kinds of files whose parent has a header of its own: OLE storages, PEM, DER, SQLite, images and Ogg
@@ -58,6 +59,7 @@ headers =
     ∷ row Image (codes "image/x-eps") (codes "eps") (Some PS) (at_least 20 (text 0 (codes "%!PS-Adobe-") ∷ text 14 (codes " EPSF-") ∷ []) ∷ [])
     ∷ row Video (codes "video/ogg") (codes "ogv") (Some OGG) (at_least 35 (text 28 (0x80 ∷ [] ++ codes "theora") ∷ []) ∷ [])
     ∷ row Audio (codes "audio/ogg") (codes "oga") (Some OGG) (at_least 33 (text 28 (0x7F ∷ [] ++ codes "FLAC") ∷ []) ∷ [])
+    ∷ row Image (codes "image/jls") (codes "jls") (Some JPEG) (at_least 4 (text 3 (0xF7 ∷ []) ∷ []) ∷ [])
     ∷ []
 
 -- programs that name their interpreter, and kinds of XML and HTML
@@ -154,6 +156,7 @@ images =
     ∷ row Image (codes "image/x-eps") (codes "eps") None (at_least 4 (text 0 (0xC5 ∷ 0xD0 ∷ 0xD3 ∷ 0xC6 ∷ []) ∷ []) ∷ [])
     ∷ row Image (codes "model/gltf-binary") (codes "glb") None (at_least 8 (text 0 (codes "glTF") ∷ byte 4 (any_of (0x01 ∷ 0x02 ∷ [])) ∷ text 5 (0x00 ∷ 0x00 ∷ 0x00 ∷ []) ∷ []) ∷ [])
     ∷ row Image (codes "application/x-blender") (codes "blend") None (at_least 12 (text 0 (codes "BLENDER") ∷ byte 7 (any_of (0x2D ∷ 0x5F ∷ [])) ∷ byte 8 (any_of (0x56 ∷ 0x76 ∷ [])) ∷ byte 9 (between 0x30 0x39) ∷ []) ∷ [])
+    ∷ row Image (codes "image/jph") (codes "jph") (Some JPEG2000) (at_least 24 (text 16 (codes "ftypjph ") ∷ []) ∷ [])
     ∷ []
 
 -- sound, documents, fonts and texts that begin with fixed bytes
@@ -211,6 +214,10 @@ office =
     ∷ row Doc (codes "application/vnd.ms-excel.sheet.macroEnabled.12") (codes "xlsm") (Some XLSX) (related (has_entry (codes "xl/vbaProject.bin")) ∷ [])
     ∷ row Doc (codes "application/vnd.ms-excel.sheet.binary.macroEnabled.12") (codes "xlsb") (Some XLSX) (related (has_entry (codes "xl/workbook.bin")) ∷ [])
     ∷ row Doc (codes "application/vnd.ms-powerpoint.presentation.macroEnabled.12") (codes "pptm") (Some PPTX) (related (has_entry (codes "ppt/vbaProject.bin")) ∷ [])
+    ∷ row Doc (codes "application/vnd.stardivision.writer") (codes "sdw") (Some MSI) (related (class_id (0xD1 ∷ 0xF9 ∷ 0x0C ∷ 0xC2 ∷ 0xAE ∷ 0x85 ∷ 0xD1 ∷ 0x11 ∷ 0xAA ∷ 0xB4 ∷ 0x00 ∷ 0x60 ∷ 0x97 ∷ 0xDA ∷ 0x56 ∷ 0x1A ∷ [])) ∷ [])
+    ∷ row App (codes "application/x-linux-kernel") (codes "bzimage") (Some EXE) (at_least 518 (text 510 (codes "U" ++ 0xAA ∷ []) ∷ text 514 (codes "HdrS") ∷ []) ∷ [])
+    ∷ row Archive (codes "application/x-ruby-gem") (codes "gem") (Some TAR) (at_least 12 (text 0 (codes "metadata.gz" ++ 0x00 ∷ []) ∷ []) ∷ at_least 12 (text 0 (codes "data.tar.gz" ++ 0x00 ∷ []) ∷ []) ∷ [])
+    ∷ row App (codes "application/x-go-archive") (codes "goa") (Some AR) (at_least 17 (text 8 (codes "__.PKGDEF") ∷ []) ∷ [])
     ∷ []
 
 -- kinds of other files that have a parent: PEM, JPEG 2000, Ogg, PostScript, RPM, scripts and gzip
@@ -333,6 +340,9 @@ packed =
     ∷ row Archive (codes "application/x-bsdiff") (codes "bsdiff") None (at_least 8 (text 0 (codes "BSDIFF40") ∷ []) ∷ at_least 8 (text 0 (codes "BSDIFN40") ∷ []) ∷ [])
     ∷ row Archive (codes "application/x-asar") (codes "asar") None (at_least 25 (text 0 (0x04 ∷ 0x00 ∷ 0x00 ∷ 0x00 ∷ []) ∷ text 16 (codes "{" ++ 0x22 ∷ [] ++ codes "files" ++ 0x22 ∷ [] ++ codes ":") ∷ []) ∷ [])
     ∷ row Archive (codes "application/vnd.flatpak") (codes "flatpak") None (at_least 12 (text 0 (codes "flatpak" ++ 0x00 ∷ 0x01 ∷ 0x00 ∷ 0x89 ∷ 0xE5 ∷ []) ∷ []) ∷ at_least 12 (text 0 (codes "xdg-app" ++ 0x00 ∷ 0x01 ∷ 0x00 ∷ 0x89 ∷ 0xE5 ∷ []) ∷ []) ∷ [])
+    ∷ row Archive (codes "application/x-bgzf") (codes "bgzf") (Some GZ) (at_least 16 (text 3 (0x04 ∷ []) ∷ text 10 (0x06 ∷ 0x00 ∷ [] ++ codes "BC" ++ 0x02 ∷ 0x00 ∷ []) ∷ []) ∷ [])
+    ∷ row Image (codes "application/x-killustrator") (codes "kil") (Some GZ) (at_least 46 (byte 3 (any_of (0x08 ∷ 0x18 ∷ [])) ∷ text 10 (codes "KOffice application/x-killustrator" ++ 0x04 ∷ 0x06 ∷ []) ∷ []) ∷ [])
+    ∷ row Image (codes "application/x-karbon") (codes "karbon") (Some GZ) (at_least 40 (byte 3 (any_of (0x08 ∷ 0x18 ∷ [])) ∷ text 10 (codes "KOffice application/x-karbon" ++ 0x04 ∷ 0x06 ∷ []) ∷ []) ∷ [])
     ∷ []
 
 -- disks and what instruments write
@@ -358,6 +368,8 @@ papers =
     ∷ row Doc (codes "application/x-indesign") (codes "indd") None (at_least 16 (text 0 (0x06 ∷ 0x06 ∷ 0xED ∷ 0xF5 ∷ 0xD8 ∷ 0x1D ∷ [] ++ codes "F" ++ 0xE5 ∷ 0xBD ∷ [] ++ codes "1" ++ 0xEF ∷ 0xE7 ∷ 0xFE ∷ [] ++ codes "t" ++ 0xB7 ∷ 0x1D ∷ []) ∷ []) ∷ [])
     ∷ row Doc (codes "application/vnd.ms-tnef") (codes "tnef") None (at_least 4 (text 0 (codes "x" ++ 0x9F ∷ [] ++ codes ">" ++ 0x22 ∷ []) ∷ []) ∷ [])
     ∷ row Doc (codes "application/x-dvi") (codes "dvi") None (at_least 10 (text 0 (0xF7 ∷ 0x02 ∷ 0x01 ∷ 0x83 ∷ 0x92 ∷ 0xC0 ∷ 0x1C ∷ [] ++ codes ";" ++ 0x00 ∷ 0x00 ∷ []) ∷ []) ∷ [])
+    ∷ row Font (codes "application/x-adobe-cmap") (codes "cmap") (Some PS) (at_least 28 (text 0 (codes "%!PS-Adobe-3.0 Resource-CMap") ∷ []) ∷ [])
+    ∷ row Text (codes "text/x-txt2tags") (codes "t2t") (Some PS) (at_least 10 (text 0 (codes "%!postproc") ∷ []) ∷ at_least 10 (text 0 (codes "%!encoding") ∷ []) ∷ [])
     ∷ []
 
 -- archives of programs, fonts and keys
@@ -378,6 +390,10 @@ games =
     ∷ row App (codes "application/x-atari-7800-rom") (codes "a78") None (at_least 10 (byte 0 (between 0x00 0x04) ∷ text 1 (codes "ATARI7800") ∷ []) ∷ [])
     ∷ row App (codes "application/x-wii-wad") (codes "wiiwad") None (at_least 8 (text 0 (0x00 ∷ 0x00 ∷ 0x00 ∷ [] ++ codes " Is" ++ 0x00 ∷ 0x00 ∷ []) ∷ []) ∷ at_least 8 (text 0 (0x00 ∷ 0x00 ∷ 0x00 ∷ [] ++ codes " ib" ++ 0x00 ∷ 0x00 ∷ []) ∷ []) ∷ at_least 8 (text 0 (0x00 ∷ 0x00 ∷ 0x00 ∷ [] ++ codes " Bk" ++ 0x00 ∷ 0x00 ∷ []) ∷ []) ∷ [])
     ∷ row Archive (codes "application/x-mame-chd") (codes "chd") None (at_least 11 (text 0 (codes "MComprHD" ++ 0x00 ∷ 0x00 ∷ 0x00 ∷ []) ∷ []) ∷ [])
+    ∷ row Video (codes "video/x-ogm+ogg") (codes "ogm") (Some OGG) (at_least 37 (text 28 (0x01 ∷ [] ++ codes "video" ++ 0x00 ∷ 0x00 ∷ 0x00 ∷ []) ∷ []) ∷ [])
+    ∷ row Video (codes "application/ogg") (codes "ogx") (Some OGG) (at_least 36 (text 28 (codes "fishead" ++ 0x00 ∷ []) ∷ []) ∷ [])
+    ∷ row Audio (codes "audio/x-vorbis+ogg") (codes "vorbis") (Some OGG) (at_least 35 (text 28 (0x01 ∷ [] ++ codes "vorbis") ∷ []) ∷ [])
+    ∷ row Text (codes "application/x-kate") (codes "kate") (Some OGG) (at_least 36 (text 28 (0x80 ∷ [] ++ codes "kate" ++ 0x00 ∷ 0x00 ∷ 0x00 ∷ []) ∷ []) ∷ [])
     ∷ []
 
 -- patches, profiles and others
@@ -421,6 +437,97 @@ scripts =
     ∷ row Text (codes "text/x-elixir") (codes "exs") (Some SHELLSCRIPT) (related (program (codes "elixir")) ∷ [])
     ∷ []
 
+-- more kinds of ZIP archives, and documents in OLE storages
+unfoldable pub documents : List Further
+documents =
+    row Doc (codes "application/vnd.oasis.opendocument.text-master") (codes "odm") (Some ODT) (at_least 86 (text 77 (codes "-masterPK") ∷ []) ∷ [])
+    ∷ row Doc (codes "application/vnd.oasis.opendocument.base") (codes "odb") (Some ZIP) (at_least 79 (text 0 (codes "PK" ++ 0x03 ∷ 0x04 ∷ []) ∷ text 30 (codes "mimetypeapplication/vnd.oasis.opendocument.basePK") ∷ []) ∷ [])
+    ∷ row Image (codes "application/vnd.oasis.opendocument.image") (codes "odi") (Some ZIP) (at_least 80 (text 0 (codes "PK" ++ 0x03 ∷ 0x04 ∷ []) ∷ text 30 (codes "mimetypeapplication/vnd.oasis.opendocument.imagePK") ∷ []) ∷ [])
+    ∷ row Doc (codes "application/vnd.sun.xml.calc") (codes "sxc") (Some ZIP) (at_least 68 (text 0 (codes "PK" ++ 0x03 ∷ 0x04 ∷ []) ∷ text 30 (codes "mimetypeapplication/vnd.sun.xml.calcPK") ∷ []) ∷ [])
+    ∷ row Image (codes "application/vnd.sun.xml.draw") (codes "sxd") (Some ZIP) (at_least 68 (text 0 (codes "PK" ++ 0x03 ∷ 0x04 ∷ []) ∷ text 30 (codes "mimetypeapplication/vnd.sun.xml.drawPK") ∷ []) ∷ [])
+    ∷ row Doc (codes "application/vnd.sun.xml.impress") (codes "sxi") (Some ZIP) (at_least 71 (text 0 (codes "PK" ++ 0x03 ∷ 0x04 ∷ []) ∷ text 30 (codes "mimetypeapplication/vnd.sun.xml.impressPK") ∷ []) ∷ [])
+    ∷ row Doc (codes "application/vnd.sun.xml.math") (codes "sxm") (Some ZIP) (at_least 68 (text 0 (codes "PK" ++ 0x03 ∷ 0x04 ∷ []) ∷ text 30 (codes "mimetypeapplication/vnd.sun.xml.mathPK") ∷ []) ∷ [])
+    ∷ row Doc (codes "application/x-kformula") (codes "kfo") (Some ZIP) (at_least 60 (text 0 (codes "PK" ++ 0x03 ∷ 0x04 ∷ []) ∷ text 30 (codes "mimetypeapplication/x-kformula") ∷ []) ∷ [])
+    ∷ row Image (codes "application/x-kontour") (codes "kon") (Some ZIP) (at_least 59 (text 0 (codes "PK" ++ 0x03 ∷ 0x04 ∷ []) ∷ text 30 (codes "mimetypeapplication/x-kontour") ∷ []) ∷ [])
+    ∷ row Doc (codes "application/x-kpresenter") (codes "kpr") (Some ZIP) (at_least 62 (text 0 (codes "PK" ++ 0x03 ∷ 0x04 ∷ []) ∷ text 30 (codes "mimetypeapplication/x-kpresenter") ∷ []) ∷ [])
+    ∷ row Doc (codes "application/x-kspread") (codes "ksp") (Some ZIP) (at_least 59 (text 0 (codes "PK" ++ 0x03 ∷ 0x04 ∷ []) ∷ text 30 (codes "mimetypeapplication/x-kspread") ∷ []) ∷ [])
+    ∷ row Doc (codes "application/x-kword") (codes "kwd") (Some ZIP) (at_least 57 (text 0 (codes "PK" ++ 0x03 ∷ 0x04 ∷ []) ∷ text 30 (codes "mimetypeapplication/x-kword") ∷ []) ∷ [])
+    ∷ row Doc (codes "application/x-iwork") (codes "iwa") (Some ZIP) (related (first_entry_is (codes "Index/Document.iwa")) ∷ [])
+    ∷ row App (codes "application/x-silverlight-app") (codes "xap") (Some ZIP) (related (first_entry_is (codes "AppManifest.xaml")) ∷ [])
+    ∷ row Image (codes "application/x-extension-fcstd") (codes "fcstd") (Some ZIP) (related (first_entry_is (codes "Document.xml")) ∷ [])
+    ∷ row Doc (codes "application/x-musescore") (codes "mscz") (Some ZIP) (related (first_entry_ends_in (codes ".mscx")) ∷ [])
+    ∷ row Image (codes "application/x-qgis-project") (codes "qgz") (Some ZIP) (related (first_entry_ends_in (codes ".qgs")) ∷ [])
+    ∷ row Doc (codes "application/vnd.ms-project") (codes "mpp") (Some MSI) (related (class_id (0x3A ∷ 0x8F ∷ 0xB7 ∷ 0x74 ∷ 0xC8 ∷ 0xC8 ∷ 0xD1 ∷ 0x11 ∷ 0xBE ∷ 0x11 ∷ 0x00 ∷ 0xC0 ∷ 0x4F ∷ 0xB6 ∷ 0xFA ∷ 0xF1 ∷ [])) ∷ [])
+    ∷ row Image (codes "image/vnd.fpx") (codes "fpx") (Some MSI) (related (class_id (0x00 ∷ 0x67 ∷ 0x61 ∷ 0x56 ∷ 0x54 ∷ 0xC1 ∷ 0xCE ∷ 0x11 ∷ 0x85 ∷ 0x53 ∷ 0x00 ∷ 0xAA ∷ 0x00 ∷ 0xA1 ∷ 0xF9 ∷ 0x5B ∷ [])) ∷ [])
+    ∷ row Doc (codes "application/x-corelpresentations") (codes "shw") (Some MSI) (related (class_id (0x62 ∷ 0xFE ∷ 0x2E ∷ 0x40 ∷ 0x99 ∷ 0x19 ∷ 0x1B ∷ 0x10 ∷ 0x99 ∷ 0xAE ∷ 0x04 ∷ 0x02 ∷ 0x1C ∷ 0x00 ∷ 0x70 ∷ 0x02 ∷ [])) ∷ [])
+    ∷ []
+
+-- keys and certificates: kinds of PEM and DER
+unfoldable pub secrets : List Further
+secrets =
+    row App (codes "application/pkcs10") (codes "csr") (Some PEM) (at_least 35 (text 0 (codes "-----BEGIN CERTIFICATE REQUEST-----") ∷ []) ∷ at_least 39 (text 0 (codes "-----BEGIN NEW CERTIFICATE REQUEST-----") ∷ []) ∷ [])
+    ∷ row App (codes "application/pkcs7-mime") (codes "p7c") (Some PEM) (at_least 21 (text 0 (codes "-----BEGIN PKCS7-----") ∷ []) ∷ [])
+    ∷ row App (codes "application/cms") (codes "cms") (Some PEM) (at_least 19 (text 0 (codes "-----BEGIN CMS-----") ∷ []) ∷ [])
+    ∷ row App (codes "application/x-pem-public-key") (codes "pubkey") (Some PEM) (at_least 26 (text 0 (codes "-----BEGIN PUBLIC KEY-----") ∷ []) ∷ at_least 30 (text 0 (codes "-----BEGIN RSA PUBLIC KEY-----") ∷ []) ∷ [])
+    ∷ row Text (codes "text/pgp") (codes "asc") (Some PEM) (at_least 34 (text 0 (codes "-----BEGIN PGP SIGNED MESSAGE-----") ∷ []) ∷ [])
+    ∷ row App (codes "application/x-pem-parameters") (codes "param") (Some PEM) (at_least 29 (text 0 (codes "-----BEGIN DH PARAMETERS-----") ∷ []) ∷ at_least 35 (text 0 (codes "-----BEGIN X9.42 DH PARAMETERS-----") ∷ []) ∷ [])
+    ∷ row App (codes "application/x-age-encryption") (codes "age") (Some PEM) (at_least 34 (text 0 (codes "-----BEGIN AGE ENCRYPTED FILE-----") ∷ []) ∷ [])
+    ∷ row App (codes "application/x-openssh-signature") (codes "sshsig") (Some PEM) (at_least 29 (text 0 (codes "-----BEGIN SSH SIGNATURE-----") ∷ []) ∷ [])
+    ∷ row App (codes "application/pkcs8") (codes "p8") (Some DER) (at_least 8 (text 4 (0x02 ∷ 0x01 ∷ 0x00 ∷ [] ++ codes "0") ∷ []) ∷ [])
+    ∷ row App (codes "application/pkcs10") (codes "p10") (Some DER) (at_least 12 (text 4 (codes "0" ++ 0x82 ∷ []) ∷ text 8 (0x02 ∷ 0x01 ∷ 0x00 ∷ [] ++ codes "0") ∷ []) ∷ [])
+    ∷ row App (codes "application/pkix-cert") (codes "cer") (Some DER) (at_least 13 (text 4 (codes "0" ++ 0x82 ∷ []) ∷ text 8 (0xA0 ∷ 0x03 ∷ 0x02 ∷ 0x01 ∷ 0x02 ∷ []) ∷ []) ∷ [])
+    ∷ row App (codes "application/x-fossil-checkout") (codes "fossil") (Some SQLITE) (at_least 72 (text 68 (0x0F ∷ 0x05 ∷ [] ++ codes "Q") ∷ byte 71 (between 0x11 0x13) ∷ []) ∷ [])
+    ∷ row Image (codes "application/x-mbtiles") (codes "mbtiles") (Some SQLITE) (at_least 72 (text 68 (codes "MPBX") ∷ []) ∷ [])
+    ∷ row App (codes "application/x-monotone-database") (codes "mtn") (Some SQLITE) (at_least 64 (text 60 (codes "_MTN") ∷ []) ∷ [])
+    ∷ row Audio (codes "application/x-audacity-project+sqlite3") (codes "aup3") (Some SQLITE) (at_least 72 (text 68 (codes "AUDY") ∷ []) ∷ [])
+    ∷ []
+
+-- texts that begin with a text of their own
+unfoldable pub openings : List Further
+openings =
+    row Text (codes "application/yaml") (codes "yaml") None (related (text_first (codes "%YAML ")) ∷ [])
+    ∷ row Text (codes "application/raml+yaml") (codes "raml") None (related (text_first (codes "#%RAML ")) ∷ [])
+    ∷ row Audio (codes "audio/x-scpls") (codes "pls") None (related (text_first (codes "[playlist]")) ∷ related (text_first (codes "[Playlist]")) ∷ related (text_first (codes "[PLAYLIST]")) ∷ [])
+    ∷ row Text (codes "video/x-ms-asf") (codes "asxref") None (related (text_first_with (codes "[Reference]") (codes "Ref1=")) ∷ [])
+    ∷ row Text (codes "application/x-netshow-channel") (codes "nsc") None (related (text_first_with (codes "[Address]") (codes "NSC Format")) ∷ [])
+    ∷ row Text (codes "application/x-godot-scene") (codes "tscn") None (related (text_first (codes "[gd_scene ")) ∷ [])
+    ∷ row Text (codes "application/x-godot-resource") (codes "tres") None (related (text_first (codes "[gd_resource ")) ∷ [])
+    ∷ row Text (codes "application/x-go-sgf") (codes "sgf") None (related (text_first (codes "(;FF[")) ∷ related (text_first (codes "(;GM[")) ∷ [])
+    ∷ row Text (codes "application/sparql-query") (codes "rq") None (related (text_first_with (codes "PREFIX ") (codes "SELECT")) ∷ related (text_first_with (codes "PREFIX ") (codes "CONSTRUCT")) ∷ related (text_first_with (codes "PREFIX ") (codes "ASK")) ∷ [])
+    ∷ row Image (codes "model/vrml") (codes "wrl") None (related (text_first (codes "#VRML V")) ∷ [])
+    ∷ row Image (codes "model/step") (codes "stp") None (related (text_first (codes "ISO-10303-21;")) ∷ [])
+    ∷ row Image (codes "application/x-fbx-text") (codes "fbxtext") None (related (text_first_with (codes "; FBX ") (codes "FBXHeaderExtension")) ∷ [])
+    ∷ row Image (codes "model/stl") (codes "stl") None (related (text_first_with (codes "solid") (codes "facet normal ")) ∷ related (text_first_with (codes "SOLID") (codes "FACET NORMAL ")) ∷ [])
+    ∷ row Image (codes "image/x-xfig") (codes "fig") None (related (text_first (codes "#FIG 3.")) ∷ related (text_first (codes "#FIG 2.")) ∷ related (text_first (codes "#FIG 1.")) ∷ [])
+    ∷ row Image (codes "image/x-skencil") (codes "sk") None (related (text_first (codes "##Sketch ")) ∷ [])
+    ∷ row Text (codes "text/x-texinfo") (codes "texi") None (related (text_first (0x5C ∷ [] ++ codes "input texinfo")) ∷ [])
+    ∷ row Text (codes "text/x-info") (codes "info") None (related (text_first_with (codes "This is ") (codes "produced by makeinfo")) ∷ [])
+    ∷ row Text (codes "application/x-lyx") (codes "lyx") None (related (text_first (codes "#LyX ")) ∷ [])
+    ∷ row Text (codes "application/x-mozilla-bookmarks") (codes "bookmarks") None (related (text_first (codes "<!DOCTYPE NETSCAPE-Bookmark-file-1>")) ∷ [])
+    ∷ row Doc (codes "text/spreadsheet") (codes "slk") None (related (text_first (codes "ID;P")) ∷ [])
+    ∷ []
+
+-- more texts that begin with a text of their own
+unfoldable pub prefaces : List Further
+prefaces =
+    row Text (codes "text/x-ssa") (codes "ssa") None (related (text_first (codes "[Script Info]")) ∷ [])
+    ∷ row Text (codes "text/x-subviewer") (codes "subviewer") None (related (text_first_with (codes "[INFORMATION]") (codes "[SUBTITLE]")) ∷ [])
+    ∷ row Text (codes "text/x-scc") (codes "scc") None (related (text_first (codes "Scenarist_SCC V1.0")) ∷ [])
+    ∷ row Text (codes "text/x-plantuml") (codes "puml") None (related (text_first (codes "@startuml")) ∷ [])
+    ∷ row Text (codes "text/x-java-manifest") (codes "jarmf") None (related (text_first (codes "Manifest-Version: 1")) ∷ related (text_first (codes "Signature-Version: 1")) ∷ [])
+    ∷ row Text (codes "text/vnd.sun.j2me.app-descriptor") (codes "jad") None (related (text_first (codes "MIDlet-")) ∷ [])
+    ∷ row Text (codes "text/x-debian-copyright") (codes "dep5") None (related (text_first_with (codes "Format: http") (codes "copyright-format/1.0")) ∷ [])
+    ∷ row Text (codes "text/x-python-metadata") (codes "pkginfo") None (related (text_first (codes "Metadata-Version: ")) ∷ [])
+    ∷ row Text (codes "application/x-fluid") (codes "fl") None (related (text_first (codes "# data file for the Fltk")) ∷ [])
+    ∷ row Text (codes "text/x-gcode-gx") (codes "gx") None (related (text_first (codes "xgcode 1.0")) ∷ [])
+    ∷ row Text (codes "application/x-pyspread-spreadsheet") (codes "pysu") None (related (text_first (codes "[Pyspread save file version]")) ∷ [])
+    ∷ row Text (codes "text/x-vnote") (codes "vnt") None (related (text_first (codes "BEGIN:VNOTE")) ∷ [])
+    ∷ row Audio (codes "application/vnd.ms-wpl") (codes "wpl") None (related (text_first (codes "<?wpl ")) ∷ [])
+    ∷ row Text (codes "text/x-devicetree") (codes "dtsi") None (related (text_first (codes "/dts-v1/;")) ∷ [])
+    ∷ row Video (codes "application/x-quicktime-media-link") (codes "qtl") None (related (text_first (codes "RTSPtext")) ∷ related (text_first (codes "rtsptext")) ∷ related (text_first (codes "SMILtext")) ∷ [])
+    ∷ row Image (codes "image/x-mvg") (codes "mvg") None (related (text_first (codes "push graphic-context")) ∷ [])
+    ∷ []
+
 -- texts, which come last, as they accept what other rows do
 unfoldable pub texts : List Further
 texts =
@@ -432,4 +539,4 @@ texts =
 -- all of them
 unfoldable pub further : List Further
 further =
-    packages ++ (headers ++ (markup ++ (code ++ (records ++ (archives ++ (images ++ (media ++ (late ++ (office ++ (kinds ++ (roots ++ (elements ++ (pictures ++ (rasters ++ (sounds ++ (packed ++ (disks ++ (papers ++ (stores ++ (games ++ (others ++ (scripts ++ (texts ++ [])))))))))))))))))))))))
+    packages ++ (headers ++ (markup ++ (code ++ (records ++ (archives ++ (images ++ (media ++ (late ++ (office ++ (kinds ++ (roots ++ (elements ++ (pictures ++ (rasters ++ (sounds ++ (packed ++ (disks ++ (papers ++ (stores ++ (games ++ (others ++ (scripts ++ (documents ++ (secrets ++ (openings ++ (prefaces ++ (texts ++ [])))))))))))))))))))))))))))

@@ -87,6 +87,7 @@ macro_rules! is {
 mod archives;
 mod code;
 mod disks;
+mod documents;
 mod elements;
 mod games;
 mod generated;
@@ -97,15 +98,18 @@ mod late;
 mod markup;
 mod media;
 mod office;
+mod openings;
 mod others;
 mod packages;
 mod packed;
 mod papers;
 mod pictures;
+mod prefaces;
 mod rasters;
 mod records;
 mod roots;
 mod scripts;
+mod secrets;
 mod sounds;
 mod stores;
 mod texts;
@@ -114,7 +118,7 @@ pub(crate) use generated::{row_at, widens};
 
 /// The rows, list by list.
 #[inline(always)]
-pub(crate) fn lists() -> [&'static [FurtherRow]; 24]
+pub(crate) fn lists() -> [&'static [FurtherRow]; 28]
     ensures listed { joined result ≡ further }
     ensures ended { All (λ rows. AreEnded rows.now) result }
 {
@@ -142,6 +146,10 @@ pub(crate) fn lists() -> [&'static [FurtherRow]; 24]
         games::rows(),
         others::rows(),
         scripts::rows(),
+        documents::rows(),
+        secrets::rows(),
+        openings::rows(),
+        prefaces::rows(),
         texts::rows(),
     ]
 }

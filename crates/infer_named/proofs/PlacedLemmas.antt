@@ -97,7 +97,7 @@ sets_2-listed : map set_listed (take 128 (drop 256 SETS)) ≡ sets_2
 unfolding sets_2 ranges row_spans row_texts
 sets_2-listed = refl
 
-sets_3-listed : map set_listed (take 2 (drop 384 SETS)) ≡ sets_3
+sets_3-listed : map set_listed (take 44 (drop 384 SETS)) ≡ sets_3
 unfolding sets_3 ranges row_spans row_texts
 sets_3-listed = refl
 
@@ -107,4 +107,4 @@ sets_listed =
     listed_append set_listed SETS 0 128 sets_0-listed
     (listed_append set_listed SETS 128 128 sets_1-listed
     (listed_append set_listed SETS 256 128 sets_2-listed
-    (listed_last set_listed SETS 384 2 refl sets_3-listed)))
+    (listed_last set_listed SETS 384 44 refl sets_3-listed)))

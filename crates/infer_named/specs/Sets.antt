@@ -62,8 +62,8 @@ rows-3gp-mp4 = 5
 abbrev pub rows-3mf : ℕ
 rows-3mf = 6
 
-abbrev pub rows-3mf-apk-application-vnd-apple-keynote-chrt-docx-epub-fbz-flw-jar-karbon-kmz-kra-odc-odf-odg-odp-ods-odt-ora-otg-otp-ots-ott-pkpass-pptx-sxw-vsdx-xlsx : ℕ
-rows-3mf-apk-application-vnd-apple-keynote-chrt-docx-epub-fbz-flw-jar-karbon-kmz-kra-odc-odf-odg-odp-ods-odt-ora-otg-otp-ots-ott-pkpass-pptx-sxw-vsdx-xlsx = 7
+abbrev pub rows-3mf-apk-application-vnd-apple-keynote-chrt-docx-epub-fbz-fcstd-flw-iwa-jar-karbon-kfo-kmz-kon-kpr-kra-ksp-kwd-mscz-odb-odc-odf-odg-odi-odp-ods-odt-ora-otg-otp-ots-ott-pkpass-pptx-qgz-sxc-sxd-sxi-sxm-sxw-vsdx-xap-xlsx : ℕ
+rows-3mf-apk-application-vnd-apple-keynote-chrt-docx-epub-fbz-fcstd-flw-iwa-jar-karbon-kfo-kmz-kon-kpr-kra-ksp-kwd-mscz-odb-odc-odf-odg-odi-odp-ods-odt-ora-otg-otp-ots-ott-pkpass-pptx-qgz-sxc-sxd-sxi-sxm-sxw-vsdx-xap-xlsx = 7
 
 abbrev pub rows-7z : ℕ
 rows-7z = 8
@@ -89,86 +89,86 @@ text-rows = 14
 abbrev pub rows-age : ℕ
 rows-age = 15
 
+abbrev pub rows-age-asc-cms-crl-application-x-pem-key-csr-openssh-p7c-param-pgp-pubkey-sig-sshsig : ℕ
+rows-age-asc-cms-crl-application-x-pem-key-csr-openssh-p7c-param-pgp-pubkey-sig-sshsig = 16
+
 abbrev pub rows-aifc : ℕ
-rows-aifc = 16
+rows-aifc = 17
 
 abbrev pub rows-aiff : ℕ
-rows-aiff = 17
+rows-aiff = 18
 
 abbrev pub rows-alz : ℕ
-rows-alz = 18
+rows-alz = 19
 
 abbrev pub rows-amr : ℕ
-rows-amr = 19
+rows-amr = 20
 
 abbrev pub rows-ani : ℕ
-rows-ani = 20
+rows-ani = 21
 
 abbrev pub rows-ape : ℕ
-rows-ape = 21
+rows-ape = 22
 
 abbrev pub rows-apk : ℕ
-rows-apk = 22
+rows-apk = 23
 
 abbrev pub rows-apk-jar-zip : ℕ
-rows-apk-jar-zip = 23
+rows-apk-jar-zip = 24
 
 abbrev pub rows-apng : ℕ
-rows-apng = 24
+rows-apng = 25
 
 abbrev pub rows-appimage : ℕ
-rows-appimage = 25
+rows-appimage = 26
 
-abbrev pub rows-appimage-core-o-so : ℕ
-rows-appimage-core-o-so = 26
+abbrev pub rows-appimage-core-cubin-o-so : ℕ
+rows-appimage-core-cubin-o-so = 27
 
 abbrev pub rows-application-vnd-apple-keynote : ℕ
-rows-application-vnd-apple-keynote = 27
+rows-application-vnd-apple-keynote = 28
 
 abbrev pub rows-application-x-installshield : ℕ
-rows-application-x-installshield = 28
+rows-application-x-installshield = 29
 
 abbrev pub rows-application-x-msi : ℕ
-rows-application-x-msi = 29
+rows-application-x-msi = 30
 
 abbrev pub rows-application-x-ole-storage : ℕ
-rows-application-x-ole-storage = 30
+rows-application-x-ole-storage = 31
 
 abbrev pub rows-application-x-ole-storage-pptm-pptx-zip : ℕ
-rows-application-x-ole-storage-pptm-pptx-zip = 31
+rows-application-x-ole-storage-pptm-pptx-zip = 32
 
 abbrev pub rows-application-x-ole-storage-pptx-zip : ℕ
-rows-application-x-ole-storage-pptx-zip = 32
+rows-application-x-ole-storage-pptx-zip = 33
 
 abbrev pub rows-application-x-ole-storage-xlsm-xlsx-zip : ℕ
-rows-application-x-ole-storage-xlsm-xlsx-zip = 33
+rows-application-x-ole-storage-xlsm-xlsx-zip = 34
 
 abbrev pub rows-application-x-ole-storage-xlsx-zip : ℕ
-rows-application-x-ole-storage-xlsx-zip = 34
+rows-application-x-ole-storage-xlsx-zip = 35
 
 abbrev pub rows-application-x-ole-storage-zip : ℕ
-rows-application-x-ole-storage-zip = 35
+rows-application-x-ole-storage-zip = 36
 
 abbrev pub rows-application-x-pem-key : ℕ
-rows-application-x-pem-key = 36
+rows-application-x-pem-key = 37
 
 abbrev pub rows-ar : ℕ
-rows-ar = 37
+rows-ar = 38
 
 abbrev pub rows-arj : ℕ
-rows-arj = 38
+rows-arj = 39
 
 abbrev pub rows-arrow : ℕ
-rows-arrow = 39
+rows-arrow = 40
 
 abbrev pub rows-asar : ℕ
-rows-asar = 40
+rows-asar = 41
 
 abbrev pub rows-asc : ℕ
-rows-asc = 41
-
-abbrev pub rows-asc-crl-application-x-pem-key-openssh-pgp-sig : ℕ
-rows-asc-crl-application-x-pem-key-openssh-pgp-sig = 42
+rows-asc = 42
 
 abbrev pub rows-astc : ℕ
 rows-astc = 43
@@ -182,1022 +182,1148 @@ rows-atom-diashape-fb2-fodt-gpx-gtkbuilder-jnlp-kml-lingts-meta4-mml-nzb-opml-ow
 abbrev pub rows-au : ℕ
 rows-au = 46
 
+abbrev pub rows-aup3-fossil-gpkg-mbtiles-mtn : ℕ
+rows-aup3-fossil-gpkg-mbtiles-mtn = 47
+
 abbrev pub rows-avi : ℕ
-rows-avi = 47
+rows-avi = 48
 
 abbrev pub rows-avif : ℕ
-rows-avif = 48
+rows-avif = 49
 
 abbrev pub rows-avro : ℕ
-rows-avro = 49
+rows-avro = 50
 
 abbrev pub rows-awk : ℕ
-rows-awk = 50
+rows-awk = 51
 
 abbrev pub rows-bc : ℕ
-rows-bc = 51
+rows-bc = 52
 
 abbrev pub rows-bdb : ℕ
-rows-bdb = 52
+rows-bdb = 53
 
 abbrev pub rows-beam : ℕ
-rows-beam = 53
+rows-beam = 54
+
+abbrev pub rows-bgzf-karbon-kil-kpr-ksp-kwd : ℕ
+rows-bgzf-karbon-kil-kpr-ksp-kwd = 55
 
 abbrev pub rows-blend : ℕ
-rows-blend = 54
+rows-blend = 56
 
 abbrev pub rows-bmp : ℕ
-rows-bmp = 55
+rows-bmp = 57
+
+abbrev pub rows-bookmarks : ℕ
+rows-bookmarks = 58
 
 abbrev pub rows-bpg : ℕ
-rows-bpg = 56
+rows-bpg = 59
 
 abbrev pub rows-bplist : ℕ
-rows-bplist = 57
+rows-bplist = 60
 
 abbrev pub rows-bz2 : ℕ
-rows-bz2 = 58
+rows-bz2 = 61
 
 abbrev pub rows-bz2-gz-xz : ℕ
-rows-bz2-gz-xz = 59
+rows-bz2-gz-xz = 62
 
 abbrev pub rows-bz3 : ℕ
-rows-bz3 = 60
+rows-bz3 = 63
 
 abbrev pub rows-cab : ℕ
-rows-cab = 61
+rows-cab = 64
+
+abbrev pub rows-cer : ℕ
+rows-cer = 65
+
+abbrev pub rows-cer-crl : ℕ
+rows-cer-crl = 66
+
+abbrev pub rows-cer-p10-p8 : ℕ
+rows-cer-p10-p8 = 67
 
 abbrev pub rows-chd : ℕ
-rows-chd = 62
+rows-chd = 68
 
 abbrev pub rows-chm : ℕ
-rows-chm = 63
+rows-chm = 69
 
 abbrev pub rows-class : ℕ
-rows-class = 64
+rows-class = 70
 
 abbrev pub rows-clj : ℕ
-rows-clj = 65
+rows-clj = 71
+
+abbrev pub rows-cmap-eps-pfa-t2t : ℕ
+rows-cmap-eps-pfa-t2t = 72
 
 abbrev pub rows-core : ℕ
-rows-core = 66
+rows-core = 73
 
 abbrev pub rows-cpio : ℕ
-rows-cpio = 67
+rows-cpio = 74
 
 abbrev pub rows-cr2 : ℕ
-rows-cr2 = 68
+rows-cr2 = 75
 
 abbrev pub rows-cr2-dng : ℕ
-rows-cr2-dng = 69
+rows-cr2-dng = 76
 
 abbrev pub rows-cr3 : ℕ
-rows-cr3 = 70
+rows-cr3 = 77
 
 abbrev pub rows-crl : ℕ
-rows-crl = 71
+rows-crl = 78
 
 abbrev pub rows-crx : ℕ
-rows-crx = 72
+rows-crx = 79
 
 abbrev pub rows-csh : ℕ
-rows-csh = 73
+rows-csh = 80
+
+abbrev pub rows-csr-p10 : ℕ
+rows-csr-p10 = 81
 
 abbrev pub rows-cur : ℕ
-rows-cur = 74
+rows-cur = 82
 
 abbrev pub rows-dart : ℕ
-rows-dart = 75
+rows-dart = 83
 
 abbrev pub rows-dbf : ℕ
-rows-dbf = 76
+rows-dbf = 84
 
 abbrev pub rows-dcm : ℕ
-rows-dcm = 77
+rows-dcm = 85
 
 abbrev pub rows-deb : ℕ
-rows-deb = 78
+rows-deb = 86
+
+abbrev pub rows-deb-goa : ℕ
+rows-deb-goa = 87
 
 abbrev pub rows-der : ℕ
-rows-der = 79
+rows-der = 88
 
 abbrev pub rows-der-application-x-pem-key-pem : ℕ
-rows-der-application-x-pem-key-pem = 80
+rows-der-application-x-pem-key-pem = 89
 
 abbrev pub rows-der-p7b-pem : ℕ
-rows-der-p7b-pem = 81
+rows-der-p7b-pem = 90
 
 abbrev pub rows-der-pem : ℕ
-rows-der-pem = 82
+rows-der-pem = 91
 
 abbrev pub rows-der-pem-txt : ℕ
-rows-der-pem-txt = 83
+rows-der-pem-txt = 92
 
 abbrev pub rows-dex : ℕ
-rows-dex = 84
+rows-dex = 93
 
 abbrev pub rows-dey : ℕ
-rows-dey = 85
+rows-dey = 94
 
 abbrev pub rows-dff : ℕ
-rows-dff = 86
+rows-dff = 95
 
 abbrev pub rows-djvm : ℕ
-rows-djvm = 87
+rows-djvm = 96
 
 abbrev pub rows-djvu : ℕ
-rows-djvu = 88
+rows-djvu = 97
 
 abbrev pub rows-dng : ℕ
-rows-dng = 89
+rows-dng = 98
 
 abbrev pub rows-doc : ℕ
-rows-doc = 90
+rows-doc = 99
 
 abbrev pub rows-docm : ℕ
-rows-docm = 91
+rows-docm = 100
 
 abbrev pub rows-docm-docx-application-x-ole-storage-zip : ℕ
-rows-docm-docx-application-x-ole-storage-zip = 92
+rows-docm-docx-application-x-ole-storage-zip = 101
 
 abbrev pub rows-docx : ℕ
-rows-docx = 93
+rows-docx = 102
 
 abbrev pub rows-docx-application-x-ole-storage-zip : ℕ
-rows-docx-application-x-ole-storage-zip = 94
+rows-docx-application-x-ole-storage-zip = 103
 
 abbrev pub rows-dsf : ℕ
-rows-dsf = 95
+rows-dsf = 104
 
 abbrev pub rows-dts : ℕ
-rows-dts = 96
+rows-dts = 105
+
+abbrev pub rows-dtsi : ℕ
+rows-dtsi = 106
 
 abbrev pub rows-dv : ℕ
-rows-dv = 97
+rows-dv = 107
 
 abbrev pub rows-dvi : ℕ
-rows-dvi = 98
+rows-dvi = 108
 
 abbrev pub rows-dwg : ℕ
-rows-dwg = 99
+rows-dwg = 109
 
 abbrev pub rows-elf : ℕ
-rows-elf = 100
+rows-elf = 110
 
 abbrev pub rows-elf-so : ℕ
-rows-elf-so = 101
+rows-elf-so = 111
 
 abbrev pub rows-eot : ℕ
-rows-eot = 102
+rows-eot = 112
 
 abbrev pub rows-eps : ℕ
-rows-eps = 103
+rows-eps = 113
 
 abbrev pub rows-eps-pdf-ps : ℕ
-rows-eps-pdf-ps = 104
-
-abbrev pub rows-eps-pfa : ℕ
-rows-eps-pfa = 105
+rows-eps-pdf-ps = 114
 
 abbrev pub rows-epub : ℕ
-rows-epub = 106
+rows-epub = 115
 
 abbrev pub rows-escript : ℕ
-rows-escript = 107
+rows-escript = 116
 
 abbrev pub rows-evtx : ℕ
-rows-evtx = 108
+rows-evtx = 117
 
 abbrev pub rows-exe : ℕ
-rows-exe = 109
+rows-exe = 118
 
 abbrev pub rows-exr : ℕ
-rows-exr = 110
+rows-exr = 119
 
 abbrev pub rows-exs : ℕ
-rows-exs = 111
+rows-exs = 120
 
 abbrev pub rows-ext2 : ℕ
-rows-ext2 = 112
+rows-ext2 = 121
 
 abbrev pub rows-f4v : ℕ
-rows-f4v = 113
+rows-f4v = 122
 
 abbrev pub rows-fb2 : ℕ
-rows-fb2 = 114
+rows-fb2 = 123
+
+abbrev pub rows-fbxtext : ℕ
+rows-fbxtext = 124
+
+abbrev pub rows-fcstd : ℕ
+rows-fcstd = 125
+
+abbrev pub rows-fig : ℕ
+rows-fig = 126
 
 abbrev pub rows-fish : ℕ
-rows-fish = 115
+rows-fish = 127
 
 abbrev pub rows-fits : ℕ
-rows-fits = 116
+rows-fits = 128
 
 abbrev pub rows-flac : ℕ
-rows-flac = 117
+rows-flac = 129
 
 abbrev pub rows-flac-ogg-opus : ℕ
-rows-flac-ogg-opus = 118
+rows-flac-ogg-opus = 130
 
 abbrev pub rows-flatpak : ℕ
-rows-flatpak = 119
+rows-flatpak = 131
 
 abbrev pub rows-flv : ℕ
-rows-flv = 120
+rows-flv = 132
 
 abbrev pub rows-fodt : ℕ
-rows-fodt = 121
+rows-fodt = 133
+
+abbrev pub rows-fpx : ℕ
+rows-fpx = 134
 
 abbrev pub rows-gbr : ℕ
-rows-gbr = 122
+rows-gbr = 135
 
 abbrev pub rows-gdbm : ℕ
-rows-gdbm = 123
+rows-gdbm = 136
+
+abbrev pub rows-gem : ℕ
+rows-gem = 137
 
 abbrev pub rows-gguf : ℕ
-rows-gguf = 124
+rows-gguf = 138
 
 abbrev pub rows-gif : ℕ
-rows-gif = 125
+rows-gif = 139
 
 abbrev pub rows-gjs-js : ℕ
-rows-gjs-js = 126
+rows-gjs-js = 140
 
 abbrev pub rows-glb : ℕ
-rows-glb = 127
+rows-glb = 141
 
 abbrev pub rows-gnuplot : ℕ
-rows-gnuplot = 128
+rows-gnuplot = 142
 
 abbrev pub rows-gpg : ℕ
-rows-gpg = 129
+rows-gpg = 143
 
 abbrev pub rows-gpkg : ℕ
-rows-gpkg = 130
+rows-gpkg = 144
 
 abbrev pub rows-gpx : ℕ
-rows-gpx = 131
+rows-gpx = 145
 
 abbrev pub rows-groovy : ℕ
-rows-groovy = 132
+rows-groovy = 146
 
 abbrev pub rows-gtkbuilder : ℕ
-rows-gtkbuilder = 133
+rows-gtkbuilder = 147
 
 abbrev pub rows-gz : ℕ
-rows-gz = 134
+rows-gz = 148
 
 abbrev pub rows-gz-sqlite-xml : ℕ
-rows-gz-sqlite-xml = 135
+rows-gz-sqlite-xml = 149
 
 abbrev pub rows-gz-txt-xml : ℕ
-rows-gz-txt-xml = 136
+rows-gz-txt-xml = 150
 
 abbrev pub rows-gz-xml : ℕ
-rows-gz-xml = 137
+rows-gz-xml = 151
 
 abbrev pub rows-gz-zip : ℕ
-rows-gz-zip = 138
+rows-gz-zip = 152
 
 abbrev pub rows-gz-zst : ℕ
-rows-gz-zst = 139
+rows-gz-zst = 153
 
 abbrev pub rows-hdf4 : ℕ
-rows-hdf4 = 140
+rows-hdf4 = 154
 
 abbrev pub rows-hdf5 : ℕ
-rows-hdf5 = 141
+rows-hdf5 = 155
 
 abbrev pub rows-hdr : ℕ
-rows-hdr = 142
+rows-hdr = 156
 
 abbrev pub rows-heic : ℕ
-rows-heic = 143
+rows-heic = 157
 
 abbrev pub rows-heics : ℕ
-rows-heics = 144
+rows-heics = 158
 
 abbrev pub rows-heics-heif : ℕ
-rows-heics-heif = 145
+rows-heics-heif = 159
 
 abbrev pub rows-heif : ℕ
-rows-heif = 146
+rows-heif = 160
 
 abbrev pub rows-hlp : ℕ
-rows-hlp = 147
+rows-hlp = 161
 
 abbrev pub rows-hs : ℕ
-rows-hs = 148
+rows-hs = 162
 
 abbrev pub rows-html : ℕ
-rows-html = 149
+rows-html = 163
 
 abbrev pub rows-html-json-php-svg-txt-xhtml-xml : ℕ
-rows-html-json-php-svg-txt-xhtml-xml = 150
+rows-html-json-php-svg-txt-xhtml-xml = 164
 
 abbrev pub rows-html-rss-txt-xml : ℕ
-rows-html-rss-txt-xml = 151
+rows-html-rss-txt-xml = 165
 
 abbrev pub rows-html-sh-svg-txt-xhtml-xml : ℕ
-rows-html-sh-svg-txt-xhtml-xml = 152
+rows-html-sh-svg-txt-xhtml-xml = 166
 
 abbrev pub rows-html-txt : ℕ
-rows-html-txt = 153
+rows-html-txt = 167
 
 abbrev pub rows-html-txt-xhtml-xml : ℕ
-rows-html-txt-xhtml-xml = 154
+rows-html-txt-xhtml-xml = 168
 
 abbrev pub rows-html-txt-xml : ℕ
-rows-html-txt-xml = 155
+rows-html-txt-xml = 169
 
 abbrev pub rows-icc : ℕ
-rows-icc = 156
+rows-icc = 170
 
 abbrev pub rows-icns : ℕ
-rows-icns = 157
+rows-icns = 171
 
 abbrev pub rows-ico : ℕ
-rows-ico = 158
+rows-ico = 172
 
 abbrev pub rows-ics : ℕ
-rows-ics = 159
+rows-ics = 173
 
 abbrev pub rows-ilbm : ℕ
-rows-ilbm = 160
+rows-ilbm = 174
 
 abbrev pub rows-it : ℕ
-rows-it = 161
+rows-it = 175
 
 abbrev pub rows-j2c : ℕ
-rows-j2c = 162
+rows-j2c = 176
 
 abbrev pub rows-jar : ℕ
-rows-jar = 163
+rows-jar = 177
 
 abbrev pub rows-jar-zip : ℕ
-rows-jar-zip = 164
+rows-jar-zip = 178
+
+abbrev pub rows-jarmf : ℕ
+rows-jarmf = 179
 
 abbrev pub rows-jceks : ℕ
-rows-jceks = 165
+rows-jceks = 180
 
 abbrev pub rows-jks : ℕ
-rows-jks = 166
+rows-jks = 181
 
 abbrev pub rows-jl : ℕ
-rows-jl = 167
+rows-jl = 182
+
+abbrev pub rows-jls : ℕ
+rows-jls = 183
 
 abbrev pub rows-jmod : ℕ
-rows-jmod = 168
+rows-jmod = 184
 
 abbrev pub rows-jnlp : ℕ
-rows-jnlp = 169
+rows-jnlp = 185
 
 abbrev pub rows-journal : ℕ
-rows-journal = 170
+rows-journal = 186
 
 abbrev pub rows-jp2 : ℕ
-rows-jp2 = 171
+rows-jp2 = 187
 
 abbrev pub rows-jpg : ℕ
-rows-jpg = 172
+rows-jpg = 188
 
-abbrev pub rows-jpm-jpx-mj2 : ℕ
-rows-jpm-jpx-mj2 = 173
+abbrev pub rows-jph-jpm-jpx-mj2 : ℕ
+rows-jph-jpm-jpx-mj2 = 189
 
 abbrev pub rows-jpx : ℕ
-rows-jpx = 174
+rows-jpx = 190
 
 abbrev pub rows-json : ℕ
-rows-json = 175
+rows-json = 191
 
 abbrev pub rows-json-ndjson-txt : ℕ
-rows-json-ndjson-txt = 176
+rows-json-ndjson-txt = 192
 
 abbrev pub rows-json-plist-txt-xml : ℕ
-rows-json-plist-txt-xml = 177
+rows-json-plist-txt-xml = 193
 
 abbrev pub rows-json-sh-txt : ℕ
-rows-json-sh-txt = 178
+rows-json-sh-txt = 194
 
 abbrev pub rows-json-txt : ℕ
-rows-json-txt = 179
+rows-json-txt = 195
 
 abbrev pub rows-jxl : ℕ
-rows-jxl = 180
+rows-jxl = 196
 
 abbrev pub rows-jxr : ℕ
-rows-jxr = 181
+rows-jxr = 197
+
+abbrev pub rows-kate-oga-ogm-ogv-ogx-opus-spx-vorbis : ℕ
+rows-kate-oga-ogm-ogv-ogx-opus-spx-vorbis = 198
 
 abbrev pub rows-kml : ℕ
-rows-kml = 182
+rows-kml = 199
 
 abbrev pub rows-kmz : ℕ
-rows-kmz = 183
-
-abbrev pub rows-kpr-ksp-kwd : ℕ
-rows-kpr-ksp-kwd = 184
+rows-kmz = 200
 
 abbrev pub rows-kra : ℕ
-rows-kra = 185
+rows-kra = 201
 
 abbrev pub rows-ktx : ℕ
-rows-ktx = 186
+rows-ktx = 202
 
 abbrev pub rows-ktx2 : ℕ
-rows-ktx2 = 187
+rows-ktx2 = 203
 
 abbrev pub rows-lingts : ℕ
-rows-lingts = 188
+rows-lingts = 204
 
 abbrev pub rows-lisp : ℕ
-rows-lisp = 189
+rows-lisp = 205
 
 abbrev pub rows-lnk : ℕ
-rows-lnk = 190
+rows-lnk = 206
 
 abbrev pub rows-lrz : ℕ
-rows-lrz = 191
+rows-lrz = 207
 
 abbrev pub rows-lua : ℕ
-rows-lua = 192
+rows-lua = 208
 
 abbrev pub rows-luac : ℕ
-rows-luac = 193
+rows-luac = 209
 
 abbrev pub rows-luks : ℕ
-rows-luks = 194
+rows-luks = 210
 
 abbrev pub rows-lwp : ℕ
-rows-lwp = 195
+rows-lwp = 211
 
 abbrev pub rows-lz : ℕ
-rows-lz = 196
+rows-lz = 212
 
 abbrev pub rows-lz4 : ℕ
-rows-lz4 = 197
+rows-lz4 = 213
 
 abbrev pub rows-lzh : ℕ
-rows-lzh = 198
+rows-lzh = 214
 
 abbrev pub rows-lzma : ℕ
-rows-lzma = 199
+rows-lzma = 215
 
 abbrev pub rows-lzo : ℕ
-rows-lzo = 200
+rows-lzo = 216
 
 abbrev pub rows-m : ℕ
-rows-m = 201
+rows-m = 217
 
 abbrev pub rows-m3u8 : ℕ
-rows-m3u8 = 202
+rows-m3u8 = 218
 
 abbrev pub rows-m4a : ℕ
-rows-m4a = 203
+rows-m4a = 219
 
 abbrev pub rows-m4a-mp4 : ℕ
-rows-m4a-mp4 = 204
+rows-m4a-mp4 = 220
 
 abbrev pub rows-m4b : ℕ
-rows-m4b = 205
+rows-m4b = 221
 
 abbrev pub rows-m4b-m4v-mp4 : ℕ
-rows-m4b-m4v-mp4 = 206
+rows-m4b-m4v-mp4 = 222
 
 abbrev pub rows-m4v : ℕ
-rows-m4v = 207
+rows-m4v = 223
 
 abbrev pub rows-mach : ℕ
-rows-mach = 208
+rows-mach = 224
+
+abbrev pub rows-mbtiles : ℕ
+rows-mbtiles = 225
 
 abbrev pub rows-mdb : ℕ
-rows-mdb = 209
+rows-mdb = 226
 
 abbrev pub rows-med : ℕ
-rows-med = 210
+rows-med = 227
 
 abbrev pub rows-meta4 : ℕ
-rows-meta4 = 211
+rows-meta4 = 228
 
 abbrev pub rows-midi : ℕ
-rows-midi = 212
+rows-midi = 229
 
 abbrev pub rows-mj2 : ℕ
-rows-mj2 = 213
+rows-mj2 = 230
 
 abbrev pub rows-mk : ℕ
-rows-mk = 214
+rows-mk = 231
 
 abbrev pub rows-mkv : ℕ
-rows-mkv = 215
+rows-mkv = 232
 
 abbrev pub rows-ml : ℕ
-rows-ml = 216
+rows-ml = 233
 
 abbrev pub rows-mmf : ℕ
-rows-mmf = 217
+rows-mmf = 234
 
 abbrev pub rows-mml : ℕ
-rows-mml = 218
+rows-mml = 235
 
 abbrev pub rows-mng : ℕ
-rows-mng = 219
+rows-mng = 236
 
 abbrev pub rows-mo : ℕ
-rows-mo = 220
+rows-mo = 237
 
 abbrev pub rows-mo3 : ℕ
-rows-mo3 = 221
+rows-mo3 = 238
 
 abbrev pub rows-mobi : ℕ
-rows-mobi = 222
+rows-mobi = 239
+
+abbrev pub rows-model-step : ℕ
+rows-model-step = 240
 
 abbrev pub rows-mov : ℕ
-rows-mov = 223
+rows-mov = 241
 
 abbrev pub rows-mp3 : ℕ
-rows-mp3 = 224
+rows-mp3 = 242
 
 abbrev pub rows-mp4 : ℕ
-rows-mp4 = 225
+rows-mp4 = 243
 
 abbrev pub rows-mpc : ℕ
-rows-mpc = 226
+rows-mpc = 244
 
 abbrev pub rows-mpg : ℕ
-rows-mpg = 227
+rows-mpg = 245
+
+abbrev pub rows-mpp : ℕ
+rows-mpp = 246
 
 abbrev pub rows-msg : ℕ
-rows-msg = 228
+rows-msg = 247
 
 abbrev pub rows-mtm : ℕ
-rows-mtm = 229
+rows-mtm = 248
 
 abbrev pub rows-mxf : ℕ
-rows-mxf = 230
+rows-mxf = 249
 
 abbrev pub rows-n64 : ℕ
-rows-n64 = 231
+rows-n64 = 250
 
 abbrev pub rows-ndjson : ℕ
-rows-ndjson = 232
+rows-ndjson = 251
 
 abbrev pub rows-nes : ℕ
-rows-nes = 233
+rows-nes = 252
 
 abbrev pub rows-nft : ℕ
-rows-nft = 234
+rows-nft = 253
 
 abbrev pub rows-npy : ℕ
-rows-npy = 235
+rows-npy = 254
 
 abbrev pub rows-o : ℕ
-rows-o = 236
+rows-o = 255
 
 abbrev pub rows-obj : ℕ
-rows-obj = 237
+rows-obj = 256
+
+abbrev pub rows-odb : ℕ
+rows-odb = 257
 
 abbrev pub rows-odc : ℕ
-rows-odc = 238
+rows-odc = 258
 
 abbrev pub rows-odf : ℕ
-rows-odf = 239
+rows-odf = 259
 
 abbrev pub rows-odg : ℕ
-rows-odg = 240
+rows-odg = 260
 
 abbrev pub rows-odg-zip : ℕ
-rows-odg-zip = 241
+rows-odg-zip = 261
+
+abbrev pub rows-odi : ℕ
+rows-odi = 262
+
+abbrev pub rows-odm : ℕ
+rows-odm = 263
+
+abbrev pub rows-odm-ott : ℕ
+rows-odm-ott = 264
 
 abbrev pub rows-odp : ℕ
-rows-odp = 242
+rows-odp = 265
 
 abbrev pub rows-odp-zip : ℕ
-rows-odp-zip = 243
+rows-odp-zip = 266
 
 abbrev pub rows-ods : ℕ
-rows-ods = 244
+rows-ods = 267
 
 abbrev pub rows-ods-zip : ℕ
-rows-ods-zip = 245
+rows-ods-zip = 268
 
 abbrev pub rows-odt : ℕ
-rows-odt = 246
+rows-odt = 269
 
 abbrev pub rows-odt-zip : ℕ
-rows-odt-zip = 247
+rows-odt-zip = 270
 
 abbrev pub rows-oga : ℕ
-rows-oga = 248
-
-abbrev pub rows-oga-ogv-opus-spx : ℕ
-rows-oga-ogv-opus-spx = 249
+rows-oga = 271
 
 abbrev pub rows-ogg : ℕ
-rows-ogg = 250
+rows-ogg = 272
 
 abbrev pub rows-ogg-ogv : ℕ
-rows-ogg-ogv = 251
+rows-ogg-ogv = 273
+
+abbrev pub rows-ogm : ℕ
+rows-ogm = 274
 
 abbrev pub rows-ogv : ℕ
-rows-ogv = 252
+rows-ogv = 275
 
 abbrev pub rows-openssh : ℕ
-rows-openssh = 253
+rows-openssh = 276
 
 abbrev pub rows-opml : ℕ
-rows-opml = 254
+rows-opml = 277
 
 abbrev pub rows-opus : ℕ
-rows-opus = 255
+rows-opus = 278
 
 abbrev pub rows-ora : ℕ
-rows-ora = 256
+rows-ora = 279
 
 abbrev pub rows-orc : ℕ
-rows-orc = 257
+rows-orc = 280
 
 abbrev pub rows-otf : ℕ
-rows-otf = 258
+rows-otf = 281
 
 abbrev pub rows-otg : ℕ
-rows-otg = 259
+rows-otg = 282
 
 abbrev pub rows-otp : ℕ
-rows-otp = 260
+rows-otp = 283
 
 abbrev pub rows-ots : ℕ
-rows-ots = 261
+rows-ots = 284
 
 abbrev pub rows-ott : ℕ
-rows-ott = 262
+rows-ott = 285
 
 abbrev pub rows-owx : ℕ
-rows-owx = 263
+rows-owx = 286
 
 abbrev pub rows-p12 : ℕ
-rows-p12 = 264
+rows-p12 = 287
 
-abbrev pub rows-p7b : ℕ
-rows-p7b = 265
+abbrev pub rows-p7b-p7c : ℕ
+rows-p7b-p7c = 288
+
+abbrev pub rows-p8 : ℕ
+rows-p8 = 289
 
 abbrev pub rows-par2 : ℕ
-rows-par2 = 266
+rows-par2 = 290
 
 abbrev pub rows-parquet : ℕ
-rows-parquet = 267
+rows-parquet = 291
 
 abbrev pub rows-pat : ℕ
-rows-pat = 268
+rows-pat = 292
 
 abbrev pub rows-pcap : ℕ
-rows-pcap = 269
+rows-pcap = 293
 
 abbrev pub rows-pcapng : ℕ
-rows-pcapng = 270
+rows-pcapng = 294
 
 abbrev pub rows-pcx : ℕ
-rows-pcx = 271
+rows-pcx = 295
 
 abbrev pub rows-pdf : ℕ
-rows-pdf = 272
+rows-pdf = 296
 
 abbrev pub rows-pem : ℕ
-rows-pem = 273
+rows-pem = 297
 
 abbrev pub rows-pfa-pfb : ℕ
-rows-pfa-pfb = 274
+rows-pfa-pfb = 298
 
 abbrev pub rows-pfb : ℕ
-rows-pfb = 275
+rows-pfb = 299
 
 abbrev pub rows-pgp : ℕ
-rows-pgp = 276
+rows-pgp = 300
 
 abbrev pub rows-php : ℕ
-rows-php = 277
+rows-php = 301
 
 abbrev pub rows-php-svg-txt-xhtml-xml : ℕ
-rows-php-svg-txt-xhtml-xml = 278
+rows-php-svg-txt-xhtml-xml = 302
 
 abbrev pub rows-pl : ℕ
-rows-pl = 279
+rows-pl = 303
 
 abbrev pub rows-plist : ℕ
-rows-plist = 280
+rows-plist = 304
 
 abbrev pub rows-plist-txt-xml : ℕ
-rows-plist-txt-xml = 281
+rows-plist-txt-xml = 305
+
+abbrev pub rows-pls : ℕ
+rows-pls = 306
 
 abbrev pub rows-png : ℕ
-rows-png = 282
+rows-png = 307
 
 abbrev pub rows-pnm : ℕ
-rows-pnm = 283
+rows-pnm = 308
 
 abbrev pub rows-ppt : ℕ
-rows-ppt = 284
+rows-ppt = 309
 
 abbrev pub rows-pptm : ℕ
-rows-pptm = 285
+rows-pptm = 310
 
 abbrev pub rows-pptx : ℕ
-rows-pptx = 286
+rows-pptx = 311
 
 abbrev pub rows-ppu : ℕ
-rows-ppu = 287
+rows-ppu = 312
 
 abbrev pub rows-ps : ℕ
-rows-ps = 288
+rows-ps = 313
 
 abbrev pub rows-ps-sh-txt : ℕ
-rows-ps-sh-txt = 289
+rows-ps-sh-txt = 314
 
 abbrev pub rows-ps-txt : ℕ
-rows-ps-txt = 290
+rows-ps-txt = 315
 
 abbrev pub rows-ps1 : ℕ
-rows-ps1 = 291
+rows-ps1 = 316
 
 abbrev pub rows-psd : ℕ
-rows-psd = 292
+rows-psd = 317
 
 abbrev pub rows-pst : ℕ
-rows-pst = 293
+rows-pst = 318
 
 abbrev pub rows-pub : ℕ
-rows-pub = 294
+rows-pub = 319
+
+abbrev pub rows-puml : ℕ
+rows-puml = 320
 
 abbrev pub rows-py : ℕ
-rows-py = 295
+rows-py = 321
 
 abbrev pub rows-py-sh-zip : ℕ
-rows-py-sh-zip = 296
+rows-py-sh-zip = 322
 
 abbrev pub rows-pyc : ℕ
-rows-pyc = 297
+rows-pyc = 323
 
 abbrev pub rows-qcow2 : ℕ
-rows-qcow2 = 298
+rows-qcow2 = 324
 
 abbrev pub rows-qml : ℕ
-rows-qml = 299
+rows-qml = 325
 
 abbrev pub rows-r : ℕ
-rows-r = 300
+rows-r = 326
 
 abbrev pub rows-ra : ℕ
-rows-ra = 301
+rows-ra = 327
 
 abbrev pub rows-raf : ℕ
-rows-raf = 302
+rows-raf = 328
 
 abbrev pub rows-raku : ℕ
-rows-raku = 303
+rows-raku = 329
+
+abbrev pub rows-raml : ℕ
+rows-raml = 330
 
 abbrev pub rows-rar : ℕ
-rows-rar = 304
+rows-rar = 331
 
 abbrev pub rows-ras : ℕ
-rows-ras = 305
+rows-ras = 332
 
 abbrev pub rows-rb : ℕ
-rows-rb = 306
+rows-rb = 333
 
 abbrev pub rows-rkt : ℕ
-rows-rkt = 307
+rows-rkt = 334
 
 abbrev pub rows-rm : ℕ
-rows-rm = 308
+rows-rm = 335
 
 abbrev pub rows-rpm : ℕ
-rows-rpm = 309
+rows-rpm = 336
+
+abbrev pub rows-rq : ℕ
+rows-rq = 337
 
 abbrev pub rows-rss : ℕ
-rows-rss = 310
+rows-rss = 338
 
 abbrev pub rows-rtf : ℕ
-rows-rtf = 311
+rows-rtf = 339
 
 abbrev pub rows-rw2 : ℕ
-rows-rw2 = 312
+rows-rw2 = 340
 
 abbrev pub rows-safetensors : ℕ
-rows-safetensors = 313
+rows-safetensors = 341
 
 abbrev pub rows-sav : ℕ
-rows-sav = 314
+rows-sav = 342
 
 abbrev pub rows-scala : ℕ
-rows-scala = 315
+rows-scala = 343
 
 abbrev pub rows-scm : ℕ
-rows-scm = 316
+rows-scm = 344
 
 abbrev pub rows-sed : ℕ
-rows-sed = 317
+rows-sed = 345
+
+abbrev pub rows-sgf : ℕ
+rows-sgf = 346
 
 abbrev pub rows-sgi : ℕ
-rows-sgi = 318
+rows-sgi = 347
 
 abbrev pub rows-sh : ℕ
-rows-sh = 319
+rows-sh = 348
 
 abbrev pub rows-sh-txt : ℕ
-rows-sh-txt = 320
+rows-sh-txt = 349
 
 abbrev pub rows-shp : ℕ
-rows-shp = 321
+rows-shp = 350
 
 abbrev pub rows-shx : ℕ
-rows-shx = 322
+rows-shx = 351
 
 abbrev pub rows-sid : ℕ
-rows-sid = 323
+rows-sid = 352
 
 abbrev pub rows-sig : ℕ
-rows-sig = 324
+rows-sig = 353
 
 abbrev pub rows-so : ℕ
-rows-so = 325
+rows-so = 354
 
 abbrev pub rows-spx : ℕ
-rows-spx = 326
+rows-spx = 355
 
 abbrev pub rows-sqlite : ℕ
-rows-sqlite = 327
+rows-sqlite = 356
 
 abbrev pub rows-squashfs : ℕ
-rows-squashfs = 328
+rows-squashfs = 357
 
 abbrev pub rows-srpm : ℕ
-rows-srpm = 329
+rows-srpm = 358
 
 abbrev pub rows-srt : ℕ
-rows-srt = 330
+rows-srt = 359
+
+abbrev pub rows-ssa : ℕ
+rows-ssa = 360
+
+abbrev pub rows-stl : ℕ
+rows-stl = 361
+
+abbrev pub rows-subviewer : ℕ
+rows-subviewer = 362
 
 abbrev pub rows-svg : ℕ
-rows-svg = 331
+rows-svg = 363
 
 abbrev pub rows-swf : ℕ
-rows-swf = 332
+rows-swf = 364
+
+abbrev pub rows-sxc : ℕ
+rows-sxc = 365
+
+abbrev pub rows-sxd : ℕ
+rows-sxd = 366
+
+abbrev pub rows-sxi : ℕ
+rows-sxi = 367
 
 abbrev pub rows-sxw : ℕ
-rows-sxw = 333
+rows-sxw = 368
 
 abbrev pub rows-sz : ℕ
-rows-sz = 334
+rows-sz = 369
+
+abbrev pub rows-t2t : ℕ
+rows-t2t = 370
 
 abbrev pub rows-tar : ℕ
-rows-tar = 335
+rows-tar = 371
 
 abbrev pub rows-tcl : ℕ
-rows-tcl = 336
+rows-tcl = 372
 
 abbrev pub rows-terminfo : ℕ
-rows-terminfo = 337
+rows-terminfo = 373
+
+abbrev pub rows-texi : ℕ
+rows-texi = 374
 
 abbrev pub rows-tif : ℕ
-rows-tif = 338
+rows-tif = 375
 
 abbrev pub rows-tnef : ℕ
-rows-tnef = 339
+rows-tnef = 376
 
 abbrev pub rows-torrent : ℕ
-rows-torrent = 340
+rows-torrent = 377
+
+abbrev pub rows-tres : ℕ
+rows-tres = 378
 
 abbrev pub rows-ts : ℕ
-rows-ts = 341
+rows-ts = 379
+
+abbrev pub rows-tscn : ℕ
+rows-tscn = 380
 
 abbrev pub rows-tta : ℕ
-rows-tta = 342
+rows-tta = 381
 
 abbrev pub rows-ttc : ℕ
-rows-ttc = 343
+rows-ttc = 382
 
 abbrev pub rows-ttf : ℕ
-rows-ttf = 344
+rows-ttf = 383
 
 abbrev pub rows-txt : ℕ
-rows-txt = 345
+rows-txt = 384
 
 abbrev pub rows-txt-xml : ℕ
-rows-txt-xml = 346
+rows-txt-xml = 385
+
+abbrev pub rows-txt-yaml : ℕ
+rows-txt-yaml = 386
 
 abbrev pub rows-tzif : ℕ
-rows-tzif = 347
+rows-tzif = 387
 
 abbrev pub rows-vcf : ℕ
-rows-vcf = 348
+rows-vcf = 388
 
 abbrev pub rows-vdi : ℕ
-rows-vdi = 349
+rows-vdi = 389
 
 abbrev pub rows-vhd : ℕ
-rows-vhd = 350
+rows-vhd = 390
 
 abbrev pub rows-vhdx : ℕ
-rows-vhdx = 351
+rows-vhdx = 391
 
 abbrev pub rows-vmdk : ℕ
-rows-vmdk = 352
+rows-vmdk = 392
 
 abbrev pub rows-voc : ℕ
-rows-voc = 353
+rows-voc = 393
 
 abbrev pub rows-vsd : ℕ
-rows-vsd = 354
+rows-vsd = 394
 
 abbrev pub rows-vsdx : ℕ
-rows-vsdx = 355
+rows-vsdx = 395
 
 abbrev pub rows-vsdx-zip : ℕ
-rows-vsdx-zip = 356
+rows-vsdx-zip = 396
 
 abbrev pub rows-vtt : ℕ
-rows-vtt = 357
+rows-vtt = 397
 
 abbrev pub rows-wad : ℕ
-rows-wad = 358
+rows-wad = 398
 
 abbrev pub rows-warc : ℕ
-rows-warc = 359
+rows-warc = 399
 
 abbrev pub rows-wasm : ℕ
-rows-wasm = 360
+rows-wasm = 400
 
 abbrev pub rows-wav : ℕ
-rows-wav = 361
+rows-wav = 401
 
 abbrev pub rows-webm : ℕ
-rows-webm = 362
+rows-webm = 402
 
 abbrev pub rows-webp : ℕ
-rows-webp = 363
+rows-webp = 403
 
 abbrev pub rows-wiiwad : ℕ
-rows-wiiwad = 364
+rows-wiiwad = 404
 
 abbrev pub rows-wim : ℕ
-rows-wim = 365
+rows-wim = 405
 
 abbrev pub rows-wmv : ℕ
-rows-wmv = 366
+rows-wmv = 406
 
 abbrev pub rows-woff : ℕ
-rows-woff = 367
+rows-woff = 407
 
 abbrev pub rows-woff2 : ℕ
-rows-woff2 = 368
+rows-woff2 = 408
+
+abbrev pub rows-wrl : ℕ
+rows-wrl = 409
 
 abbrev pub rows-wv : ℕ
-rows-wv = 369
+rows-wv = 410
 
 abbrev pub rows-x3f : ℕ
-rows-x3f = 370
+rows-x3f = 411
 
 abbrev pub rows-xar : ℕ
-rows-xar = 371
+rows-xar = 412
 
 abbrev pub rows-xcf : ℕ
-rows-xcf = 372
+rows-xcf = 413
 
 abbrev pub rows-xhtml : ℕ
-rows-xhtml = 373
+rows-xhtml = 414
 
 abbrev pub rows-xls : ℕ
-rows-xls = 374
+rows-xls = 415
 
 abbrev pub rows-xlsb : ℕ
-rows-xlsb = 375
+rows-xlsb = 416
 
 abbrev pub rows-xlsm : ℕ
-rows-xlsm = 376
+rows-xlsm = 417
 
 abbrev pub rows-xlsx : ℕ
-rows-xlsx = 377
+rows-xlsx = 418
 
 abbrev pub rows-xm : ℕ
-rows-xm = 378
+rows-xm = 419
 
 abbrev pub rows-xml : ℕ
-rows-xml = 379
+rows-xml = 420
 
 abbrev pub rows-xpm : ℕ
-rows-xpm = 380
+rows-xpm = 421
 
 abbrev pub rows-xwd : ℕ
-rows-xwd = 381
+rows-xwd = 422
 
 abbrev pub rows-xz : ℕ
-rows-xz = 382
+rows-xz = 423
+
+abbrev pub rows-yaml : ℕ
+rows-yaml = 424
 
 abbrev pub rows-zim : ℕ
-rows-zim = 383
+rows-zim = 425
 
 abbrev pub rows-zip : ℕ
-rows-zip = 384
+rows-zip = 426
 
 abbrev pub rows-zst : ℕ
-rows-zst = 385
+rows-zst = 427
 
 unfoldable pub lead_lists : List (List (List ℕ))
 lead_lists =
@@ -1225,7 +1351,7 @@ sets_0 =
     ∷ (codes "3gp" ∷ [])
     ∷ (codes "3gp" ∷ codes "mp4" ∷ [])
     ∷ (codes "3mf" ∷ [])
-    ∷ (codes "3mf" ∷ codes "apk" ∷ codes "application/vnd.apple.keynote" ∷ codes "chrt" ∷ codes "docx" ∷ codes "epub" ∷ codes "fbz" ∷ codes "flw" ∷ codes "jar" ∷ codes "karbon" ∷ codes "kmz" ∷ codes "kra" ∷ codes "odc" ∷ codes "odf" ∷ codes "odg" ∷ codes "odp" ∷ codes "ods" ∷ codes "odt" ∷ codes "ora" ∷ codes "otg" ∷ codes "otp" ∷ codes "ots" ∷ codes "ott" ∷ codes "pkpass" ∷ codes "pptx" ∷ codes "sxw" ∷ codes "vsdx" ∷ codes "xlsx" ∷ [])
+    ∷ (codes "3mf" ∷ codes "apk" ∷ codes "application/vnd.apple.keynote" ∷ codes "chrt" ∷ codes "docx" ∷ codes "epub" ∷ codes "fbz" ∷ codes "fcstd" ∷ codes "flw" ∷ codes "iwa" ∷ codes "jar" ∷ codes "karbon" ∷ codes "kfo" ∷ codes "kmz" ∷ codes "kon" ∷ codes "kpr" ∷ codes "kra" ∷ codes "ksp" ∷ codes "kwd" ∷ codes "mscz" ∷ codes "odb" ∷ codes "odc" ∷ codes "odf" ∷ codes "odg" ∷ codes "odi" ∷ codes "odp" ∷ codes "ods" ∷ codes "odt" ∷ codes "ora" ∷ codes "otg" ∷ codes "otp" ∷ codes "ots" ∷ codes "ott" ∷ codes "pkpass" ∷ codes "pptx" ∷ codes "qgz" ∷ codes "sxc" ∷ codes "sxd" ∷ codes "sxi" ∷ codes "sxm" ∷ codes "sxw" ∷ codes "vsdx" ∷ codes "xap" ∷ codes "xlsx" ∷ [])
     ∷ (codes "7z" ∷ [])
     ∷ (codes "Z" ∷ [])
     ∷ (codes "aac" ∷ [])
@@ -1234,6 +1360,7 @@ sets_0 =
     ∷ (codes "afm" ∷ [])
     ∷ texts
     ∷ (codes "age" ∷ [])
+    ∷ (codes "age" ∷ codes "asc" ∷ codes "cms" ∷ codes "crl" ∷ codes "application/x-pem-key" ∷ codes "csr" ∷ codes "openssh" ∷ codes "p7c" ∷ codes "param" ∷ codes "pgp" ∷ codes "pubkey" ∷ codes "sig" ∷ codes "sshsig" ∷ [])
     ∷ (codes "aifc" ∷ [])
     ∷ (codes "aiff" ∷ [])
     ∷ (codes "alz" ∷ [])
@@ -1244,7 +1371,7 @@ sets_0 =
     ∷ (codes "apk" ∷ codes "jar" ∷ codes "zip" ∷ [])
     ∷ (codes "apng" ∷ [])
     ∷ (codes "appimage" ∷ [])
-    ∷ (codes "appimage" ∷ codes "core" ∷ codes "o" ∷ codes "so" ∷ [])
+    ∷ (codes "appimage" ∷ codes "core" ∷ codes "cubin" ∷ codes "o" ∷ codes "so" ∷ [])
     ∷ (codes "application/vnd.apple.keynote" ∷ [])
     ∷ (codes "application/x-installshield" ∷ [])
     ∷ (codes "application/x-msi" ∷ [])
@@ -1260,11 +1387,11 @@ sets_0 =
     ∷ (codes "arrow" ∷ [])
     ∷ (codes "asar" ∷ [])
     ∷ (codes "asc" ∷ [])
-    ∷ (codes "asc" ∷ codes "crl" ∷ codes "application/x-pem-key" ∷ codes "openssh" ∷ codes "pgp" ∷ codes "sig" ∷ [])
     ∷ (codes "astc" ∷ [])
     ∷ (codes "atom" ∷ [])
     ∷ (codes "atom" ∷ codes "diashape" ∷ codes "fb2" ∷ codes "fodt" ∷ codes "gpx" ∷ codes "gtkbuilder" ∷ codes "jnlp" ∷ codes "kml" ∷ codes "lingts" ∷ codes "meta4" ∷ codes "mml" ∷ codes "nzb" ∷ codes "opml" ∷ codes "owx" ∷ codes "plist" ∷ codes "rss" ∷ codes "srx" ∷ codes "svg" ∷ codes "ttx" ∷ codes "xhtml" ∷ codes "xmp" ∷ [])
     ∷ (codes "au" ∷ [])
+    ∷ (codes "aup3" ∷ codes "fossil" ∷ codes "gpkg" ∷ codes "mbtiles" ∷ codes "mtn" ∷ [])
     ∷ (codes "avi" ∷ [])
     ∷ (codes "avif" ∷ [])
     ∷ (codes "avro" ∷ [])
@@ -1272,18 +1399,24 @@ sets_0 =
     ∷ (codes "bc" ∷ [])
     ∷ (codes "bdb" ∷ [])
     ∷ (codes "beam" ∷ [])
+    ∷ (codes "bgzf" ∷ codes "karbon" ∷ codes "kil" ∷ codes "kpr" ∷ codes "ksp" ∷ codes "kwd" ∷ [])
     ∷ (codes "blend" ∷ [])
     ∷ (codes "bmp" ∷ [])
+    ∷ (codes "bookmarks" ∷ [])
     ∷ (codes "bpg" ∷ [])
     ∷ (codes "bplist" ∷ [])
     ∷ (codes "bz2" ∷ [])
     ∷ (codes "bz2" ∷ codes "gz" ∷ codes "xz" ∷ [])
     ∷ (codes "bz3" ∷ [])
     ∷ (codes "cab" ∷ [])
+    ∷ (codes "cer" ∷ [])
+    ∷ (codes "cer" ∷ codes "crl" ∷ [])
+    ∷ (codes "cer" ∷ codes "p10" ∷ codes "p8" ∷ [])
     ∷ (codes "chd" ∷ [])
     ∷ (codes "chm" ∷ [])
     ∷ (codes "class" ∷ [])
     ∷ (codes "clj" ∷ [])
+    ∷ (codes "cmap" ∷ codes "eps" ∷ codes "pfa" ∷ codes "t2t" ∷ [])
     ∷ (codes "core" ∷ [])
     ∷ (codes "cpio" ∷ [])
     ∷ (codes "cr2" ∷ [])
@@ -1292,11 +1425,13 @@ sets_0 =
     ∷ (codes "crl" ∷ [])
     ∷ (codes "crx" ∷ [])
     ∷ (codes "csh" ∷ [])
+    ∷ (codes "csr" ∷ codes "p10" ∷ [])
     ∷ (codes "cur" ∷ [])
     ∷ (codes "dart" ∷ [])
     ∷ (codes "dbf" ∷ [])
     ∷ (codes "dcm" ∷ [])
     ∷ (codes "deb" ∷ [])
+    ∷ (codes "deb" ∷ codes "goa" ∷ [])
     ∷ (codes "der" ∷ [])
     ∷ (codes "der" ∷ codes "application/x-pem-key" ∷ codes "pem" ∷ [])
     ∷ (codes "der" ∷ codes "p7b" ∷ codes "pem" ∷ [])
@@ -1315,6 +1450,7 @@ sets_0 =
     ∷ (codes "docx" ∷ codes "application/x-ole-storage" ∷ codes "zip" ∷ [])
     ∷ (codes "dsf" ∷ [])
     ∷ (codes "dts" ∷ [])
+    ∷ (codes "dtsi" ∷ [])
     ∷ (codes "dv" ∷ [])
     ∷ (codes "dvi" ∷ [])
     ∷ (codes "dwg" ∷ [])
@@ -1323,7 +1459,6 @@ sets_0 =
     ∷ (codes "eot" ∷ [])
     ∷ (codes "eps" ∷ [])
     ∷ (codes "eps" ∷ codes "pdf" ∷ codes "ps" ∷ [])
-    ∷ (codes "eps" ∷ codes "pfa" ∷ [])
     ∷ (codes "epub" ∷ [])
     ∷ (codes "escript" ∷ [])
     ∷ (codes "evtx" ∷ [])
@@ -1333,24 +1468,29 @@ sets_0 =
     ∷ (codes "ext2" ∷ [])
     ∷ (codes "f4v" ∷ [])
     ∷ (codes "fb2" ∷ [])
+    ∷ (codes "fbxtext" ∷ [])
+    ∷ (codes "fcstd" ∷ [])
+    ∷ (codes "fig" ∷ [])
     ∷ (codes "fish" ∷ [])
-    ∷ (codes "fits" ∷ [])
+    ∷ []
+
+unfoldable pub sets_1 : List (List (List ℕ))
+sets_1 =
+    (codes "fits" ∷ [])
     ∷ (codes "flac" ∷ [])
     ∷ (codes "flac" ∷ codes "ogg" ∷ codes "opus" ∷ [])
     ∷ (codes "flatpak" ∷ [])
     ∷ (codes "flv" ∷ [])
     ∷ (codes "fodt" ∷ [])
+    ∷ (codes "fpx" ∷ [])
     ∷ (codes "gbr" ∷ [])
     ∷ (codes "gdbm" ∷ [])
+    ∷ (codes "gem" ∷ [])
     ∷ (codes "gguf" ∷ [])
     ∷ (codes "gif" ∷ [])
     ∷ (codes "gjs" ∷ codes "js" ∷ [])
     ∷ (codes "glb" ∷ [])
-    ∷ []
-
-unfoldable pub sets_1 : List (List (List ℕ))
-sets_1 =
-    (codes "gnuplot" ∷ [])
+    ∷ (codes "gnuplot" ∷ [])
     ∷ (codes "gpg" ∷ [])
     ∷ (codes "gpkg" ∷ [])
     ∷ (codes "gpx" ∷ [])
@@ -1387,15 +1527,17 @@ sets_1 =
     ∷ (codes "j2c" ∷ [])
     ∷ (codes "jar" ∷ [])
     ∷ (codes "jar" ∷ codes "zip" ∷ [])
+    ∷ (codes "jarmf" ∷ [])
     ∷ (codes "jceks" ∷ [])
     ∷ (codes "jks" ∷ [])
     ∷ (codes "jl" ∷ [])
+    ∷ (codes "jls" ∷ [])
     ∷ (codes "jmod" ∷ [])
     ∷ (codes "jnlp" ∷ [])
     ∷ (codes "journal" ∷ [])
     ∷ (codes "jp2" ∷ [])
     ∷ (codes "jpg" ∷ [])
-    ∷ (codes "jpm" ∷ codes "jpx" ∷ codes "mj2" ∷ [])
+    ∷ (codes "jph" ∷ codes "jpm" ∷ codes "jpx" ∷ codes "mj2" ∷ [])
     ∷ (codes "jpx" ∷ [])
     ∷ (codes "json" ∷ [])
     ∷ (codes "json" ∷ codes "ndjson" ∷ codes "txt" ∷ [])
@@ -1404,9 +1546,9 @@ sets_1 =
     ∷ (codes "json" ∷ codes "txt" ∷ [])
     ∷ (codes "jxl" ∷ [])
     ∷ (codes "jxr" ∷ [])
+    ∷ (codes "kate" ∷ codes "oga" ∷ codes "ogm" ∷ codes "ogv" ∷ codes "ogx" ∷ codes "opus" ∷ codes "spx" ∷ codes "vorbis" ∷ [])
     ∷ (codes "kml" ∷ [])
     ∷ (codes "kmz" ∷ [])
-    ∷ (codes "kpr" ∷ codes "ksp" ∷ codes "kwd" ∷ [])
     ∷ (codes "kra" ∷ [])
     ∷ (codes "ktx" ∷ [])
     ∷ (codes "ktx2" ∷ [])
@@ -1431,6 +1573,7 @@ sets_1 =
     ∷ (codes "m4b" ∷ codes "m4v" ∷ codes "mp4" ∷ [])
     ∷ (codes "m4v" ∷ [])
     ∷ (codes "mach" ∷ [])
+    ∷ (codes "mbtiles" ∷ [])
     ∷ (codes "mdb" ∷ [])
     ∷ (codes "med" ∷ [])
     ∷ (codes "meta4" ∷ [])
@@ -1445,11 +1588,13 @@ sets_1 =
     ∷ (codes "mo" ∷ [])
     ∷ (codes "mo3" ∷ [])
     ∷ (codes "mobi" ∷ [])
+    ∷ (codes "model/step" ∷ [])
     ∷ (codes "mov" ∷ [])
     ∷ (codes "mp3" ∷ [])
     ∷ (codes "mp4" ∷ [])
     ∷ (codes "mpc" ∷ [])
     ∷ (codes "mpg" ∷ [])
+    ∷ (codes "mpp" ∷ [])
     ∷ (codes "msg" ∷ [])
     ∷ (codes "mtm" ∷ [])
     ∷ (codes "mxf" ∷ [])
@@ -1459,11 +1604,19 @@ sets_1 =
     ∷ (codes "nft" ∷ [])
     ∷ (codes "npy" ∷ [])
     ∷ (codes "o" ∷ [])
-    ∷ (codes "obj" ∷ [])
+    ∷ []
+
+unfoldable pub sets_2 : List (List (List ℕ))
+sets_2 =
+    (codes "obj" ∷ [])
+    ∷ (codes "odb" ∷ [])
     ∷ (codes "odc" ∷ [])
     ∷ (codes "odf" ∷ [])
     ∷ (codes "odg" ∷ [])
     ∷ (codes "odg" ∷ codes "zip" ∷ [])
+    ∷ (codes "odi" ∷ [])
+    ∷ (codes "odm" ∷ [])
+    ∷ (codes "odm" ∷ codes "ott" ∷ [])
     ∷ (codes "odp" ∷ [])
     ∷ (codes "odp" ∷ codes "zip" ∷ [])
     ∷ (codes "ods" ∷ [])
@@ -1471,18 +1624,14 @@ sets_1 =
     ∷ (codes "odt" ∷ [])
     ∷ (codes "odt" ∷ codes "zip" ∷ [])
     ∷ (codes "oga" ∷ [])
-    ∷ (codes "oga" ∷ codes "ogv" ∷ codes "opus" ∷ codes "spx" ∷ [])
     ∷ (codes "ogg" ∷ [])
     ∷ (codes "ogg" ∷ codes "ogv" ∷ [])
+    ∷ (codes "ogm" ∷ [])
     ∷ (codes "ogv" ∷ [])
     ∷ (codes "openssh" ∷ [])
     ∷ (codes "opml" ∷ [])
     ∷ (codes "opus" ∷ [])
-    ∷ []
-
-unfoldable pub sets_2 : List (List (List ℕ))
-sets_2 =
-    (codes "ora" ∷ [])
+    ∷ (codes "ora" ∷ [])
     ∷ (codes "orc" ∷ [])
     ∷ (codes "otf" ∷ [])
     ∷ (codes "otg" ∷ [])
@@ -1491,7 +1640,8 @@ sets_2 =
     ∷ (codes "ott" ∷ [])
     ∷ (codes "owx" ∷ [])
     ∷ (codes "p12" ∷ [])
-    ∷ (codes "p7b" ∷ [])
+    ∷ (codes "p7b" ∷ codes "p7c" ∷ [])
+    ∷ (codes "p8" ∷ [])
     ∷ (codes "par2" ∷ [])
     ∷ (codes "parquet" ∷ [])
     ∷ (codes "pat" ∷ [])
@@ -1508,6 +1658,7 @@ sets_2 =
     ∷ (codes "pl" ∷ [])
     ∷ (codes "plist" ∷ [])
     ∷ (codes "plist" ∷ codes "txt" ∷ codes "xml" ∷ [])
+    ∷ (codes "pls" ∷ [])
     ∷ (codes "png" ∷ [])
     ∷ (codes "pnm" ∷ [])
     ∷ (codes "ppt" ∷ [])
@@ -1521,6 +1672,7 @@ sets_2 =
     ∷ (codes "psd" ∷ [])
     ∷ (codes "pst" ∷ [])
     ∷ (codes "pub" ∷ [])
+    ∷ (codes "puml" ∷ [])
     ∷ (codes "py" ∷ [])
     ∷ (codes "py" ∷ codes "sh" ∷ codes "zip" ∷ [])
     ∷ (codes "pyc" ∷ [])
@@ -1530,12 +1682,14 @@ sets_2 =
     ∷ (codes "ra" ∷ [])
     ∷ (codes "raf" ∷ [])
     ∷ (codes "raku" ∷ [])
+    ∷ (codes "raml" ∷ [])
     ∷ (codes "rar" ∷ [])
     ∷ (codes "ras" ∷ [])
     ∷ (codes "rb" ∷ [])
     ∷ (codes "rkt" ∷ [])
     ∷ (codes "rm" ∷ [])
     ∷ (codes "rpm" ∷ [])
+    ∷ (codes "rq" ∷ [])
     ∷ (codes "rss" ∷ [])
     ∷ (codes "rtf" ∷ [])
     ∷ (codes "rw2" ∷ [])
@@ -1544,6 +1698,7 @@ sets_2 =
     ∷ (codes "scala" ∷ [])
     ∷ (codes "scm" ∷ [])
     ∷ (codes "sed" ∷ [])
+    ∷ (codes "sgf" ∷ [])
     ∷ (codes "sgi" ∷ [])
     ∷ (codes "sh" ∷ [])
     ∷ (codes "sh" ∷ codes "txt" ∷ [])
@@ -1557,22 +1712,37 @@ sets_2 =
     ∷ (codes "squashfs" ∷ [])
     ∷ (codes "srpm" ∷ [])
     ∷ (codes "srt" ∷ [])
+    ∷ (codes "ssa" ∷ [])
+    ∷ (codes "stl" ∷ [])
+    ∷ (codes "subviewer" ∷ [])
     ∷ (codes "svg" ∷ [])
     ∷ (codes "swf" ∷ [])
+    ∷ (codes "sxc" ∷ [])
+    ∷ (codes "sxd" ∷ [])
+    ∷ (codes "sxi" ∷ [])
     ∷ (codes "sxw" ∷ [])
     ∷ (codes "sz" ∷ [])
+    ∷ (codes "t2t" ∷ [])
     ∷ (codes "tar" ∷ [])
     ∷ (codes "tcl" ∷ [])
     ∷ (codes "terminfo" ∷ [])
+    ∷ (codes "texi" ∷ [])
     ∷ (codes "tif" ∷ [])
     ∷ (codes "tnef" ∷ [])
     ∷ (codes "torrent" ∷ [])
+    ∷ (codes "tres" ∷ [])
     ∷ (codes "ts" ∷ [])
+    ∷ (codes "tscn" ∷ [])
     ∷ (codes "tta" ∷ [])
     ∷ (codes "ttc" ∷ [])
     ∷ (codes "ttf" ∷ [])
-    ∷ (codes "txt" ∷ [])
+    ∷ []
+
+unfoldable pub sets_3 : List (List (List ℕ))
+sets_3 =
+    (codes "txt" ∷ [])
     ∷ (codes "txt" ∷ codes "xml" ∷ [])
+    ∷ (codes "txt" ∷ codes "yaml" ∷ [])
     ∷ (codes "tzif" ∷ [])
     ∷ (codes "vcf" ∷ [])
     ∷ (codes "vdi" ∷ [])
@@ -1595,6 +1765,7 @@ sets_2 =
     ∷ (codes "wmv" ∷ [])
     ∷ (codes "woff" ∷ [])
     ∷ (codes "woff2" ∷ [])
+    ∷ (codes "wrl" ∷ [])
     ∷ (codes "wv" ∷ [])
     ∷ (codes "x3f" ∷ [])
     ∷ (codes "xar" ∷ [])
@@ -1609,12 +1780,9 @@ sets_2 =
     ∷ (codes "xpm" ∷ [])
     ∷ (codes "xwd" ∷ [])
     ∷ (codes "xz" ∷ [])
+    ∷ (codes "yaml" ∷ [])
     ∷ (codes "zim" ∷ [])
-    ∷ []
-
-unfoldable pub sets_3 : List (List (List ℕ))
-sets_3 =
-    (codes "zip" ∷ [])
+    ∷ (codes "zip" ∷ [])
     ∷ (codes "zst" ∷ [])
     ∷ []
 

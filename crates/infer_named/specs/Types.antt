@@ -3145,16 +3145,16 @@ types_0 =
     ∷ named (codes "application/pgp-keys") (row (codes "asc"))
     ∷ named (codes "application/pgp-keys") (row (codes "gpg"))
     ∷ named (codes "application/pgp-signature") (row (codes "sig"))
-    ∷ named (codes "application/pkcs10") known
+    ∷ named (codes "application/pkcs10") (row (codes "csr"))
     ∷ named (codes "application/pkcs12") (row (codes "p12"))
     ∷ named (codes "application/pkcs7-mime") (row (codes "p7b"))
     ∷ named (codes "application/pkcs7-signature") known
-    ∷ named (codes "application/pkcs8") known
-    ∷ named (codes "application/pkix-cert") known
+    ∷ named (codes "application/pkcs8") (row (codes "p8"))
+    ∷ named (codes "application/pkix-cert") (row (codes "cer"))
     ∷ named (codes "application/pkix-crl") (row (codes "crl"))
     ∷ named (codes "application/postscript") (row (codes "ps"))
     ∷ named (codes "application/protobuf") own
-    ∷ named (codes "application/raml+yaml") known
+    ∷ named (codes "application/raml+yaml") (row (codes "raml"))
     ∷ named (codes "application/rdf+xml") known
     ∷ named (codes "application/relax-ng-compact-syntax") known
     ∷ named (codes "application/rss+xml") (row (codes "rss"))
@@ -3164,7 +3164,7 @@ types_0 =
     ∷ named (codes "application/schema+json") known
     ∷ named (codes "application/smil+xml") known
     ∷ named (codes "application/sourcemap+json") own
-    ∷ named (codes "application/sparql-query") known
+    ∷ named (codes "application/sparql-query") (row (codes "rq"))
     ∷ named (codes "application/sql") known
     ∷ named (codes "application/srgs+xml") known
     ∷ named (codes "application/tei+xml") known
@@ -3224,7 +3224,7 @@ types_0 =
     ∷ named (codes "application/vnd.ms-powerpoint.presentation.macroEnabled.12") (row (codes "pptm"))
     ∷ named (codes "application/vnd.ms-powerpoint.slideshow.macroEnabled.12") known
     ∷ named (codes "application/vnd.ms-powerpoint.template.macroEnabled.12") known
-    ∷ named (codes "application/vnd.ms-project") known
+    ∷ named (codes "application/vnd.ms-project") (row (codes "mpp"))
     ∷ named (codes "application/vnd.ms-publisher") (row (codes "pub"))
     ∷ named (codes "application/vnd.ms-tnef") (row (codes "tnef"))
     ∷ named (codes "application/vnd.ms-visio.drawing.macroEnabled.main+xml") known
@@ -3237,13 +3237,13 @@ types_0 =
     ∷ named (codes "application/vnd.ms-xpsdocument") known
     ∷ named (codes "application/vnd.nintendo.nitro.rom") known
     ∷ named (codes "application/vnd.nintendo.snes.rom") known
-    ∷ named (codes "application/vnd.oasis.opendocument.base") known
+    ∷ named (codes "application/vnd.oasis.opendocument.base") (row (codes "odb"))
     ∷ named (codes "application/vnd.oasis.opendocument.chart") (row (codes "odc"))
     ∷ named (codes "application/vnd.oasis.opendocument.formula") (row (codes "odf"))
     ∷ named (codes "application/vnd.oasis.opendocument.graphics") (row (codes "odg"))
     ∷ named (codes "application/vnd.oasis.opendocument.graphics-flat-xml") known
     ∷ named (codes "application/vnd.oasis.opendocument.graphics-template") (row (codes "otg"))
-    ∷ named (codes "application/vnd.oasis.opendocument.image") known
+    ∷ named (codes "application/vnd.oasis.opendocument.image") (row (codes "odi"))
     ∷ named (codes "application/vnd.oasis.opendocument.presentation") (row (codes "odp"))
     ∷ named (codes "application/vnd.oasis.opendocument.presentation-flat-xml") known
     ∷ named (codes "application/vnd.oasis.opendocument.presentation-template") (row (codes "otp"))
@@ -3252,7 +3252,7 @@ types_0 =
     ∷ named (codes "application/vnd.oasis.opendocument.spreadsheet-template") (row (codes "ots"))
     ∷ named (codes "application/vnd.oasis.opendocument.text") (row (codes "odt"))
     ∷ named (codes "application/vnd.oasis.opendocument.text-flat-xml") (row (codes "fodt"))
-    ∷ named (codes "application/vnd.oasis.opendocument.text-master") known
+    ∷ named (codes "application/vnd.oasis.opendocument.text-master") (row (codes "odm"))
     ∷ named (codes "application/vnd.oasis.opendocument.text-template") (row (codes "ott"))
     ∷ named (codes "application/vnd.oasis.opendocument.text-web") known
     ∷ named (codes "application/vnd.openxmlformats-officedocument.presentationml.presentation") (row (codes "pptx"))
@@ -3273,9 +3273,9 @@ types_0 =
     ∷ named (codes "application/vnd.snap") known
     ∷ named (codes "application/vnd.sqlite3") (row (codes "sqlite"))
     ∷ named (codes "application/vnd.squashfs") (row (codes "squashfs"))
-    ∷ named (codes "application/vnd.sun.xml.calc") known
-    ∷ named (codes "application/vnd.sun.xml.draw") known
-    ∷ named (codes "application/vnd.sun.xml.impress") known
+    ∷ named (codes "application/vnd.sun.xml.calc") (row (codes "sxc"))
+    ∷ named (codes "application/vnd.sun.xml.draw") (row (codes "sxd"))
+    ∷ named (codes "application/vnd.sun.xml.impress") (row (codes "sxi"))
     ∷ named (codes "application/vnd.sun.xml.writer") (row (codes "sxw"))
     ∷ named (codes "application/vnd.tcpdump.pcap") (row (codes "pcap"))
     ∷ named (codes "application/vnd.visio") (row (codes "vsd"))
@@ -3380,10 +3380,10 @@ types_1 =
     ∷ named (codes "application/x-glib-typelib") own
     ∷ named (codes "application/x-gnucash") known
     ∷ named (codes "application/x-gnuplot") (row (codes "gnuplot"))
-    ∷ named (codes "application/x-go-sgf") known
+    ∷ named (codes "application/x-go-sgf") (row (codes "sgf"))
     ∷ named (codes "application/x-godot-package") own
-    ∷ named (codes "application/x-godot-resource") known
-    ∷ named (codes "application/x-godot-scene") known
+    ∷ named (codes "application/x-godot-resource") (row (codes "tres"))
+    ∷ named (codes "application/x-godot-scene") (row (codes "tscn"))
     ∷ named (codes "application/x-google-chrome-extension") (row (codes "crx"))
     ∷ named (codes "application/x-grib") own
     ∷ named (codes "application/x-gschema+xml") own
@@ -3571,7 +3571,7 @@ types_1 =
     ∷ named (codes "application/xquery") known
     ∷ named (codes "application/xslt+xml") known
     ∷ named (codes "application/xspf+xml") known
-    ∷ named (codes "application/yaml") own
+    ∷ named (codes "application/yaml") (row (codes "yaml"))
     ∷ named (codes "application/zip") (row (codes "zip"))
     ∷ named (codes "application/zstd") (row (codes "zst"))
     ∷ named (codes "audio/aac") (row (codes "aac"))
@@ -3613,7 +3613,7 @@ types_2 =
     ∷ named (codes "audio/x-ms-wma") known
     ∷ named (codes "audio/x-musepack") (row (codes "mpc"))
     ∷ named (codes "audio/x-s3m") known
-    ∷ named (codes "audio/x-scpls") known
+    ∷ named (codes "audio/x-scpls") (row (codes "pls"))
     ∷ named (codes "audio/x-speex+ogg") (row (codes "spx"))
     ∷ named (codes "audio/x-tta") (row (codes "tta"))
     ∷ named (codes "audio/x-voc") (row (codes "voc"))
@@ -3639,7 +3639,7 @@ types_2 =
     ∷ named (codes "image/heic") (row (codes "heic"))
     ∷ named (codes "image/heic-sequence") (row (codes "heics"))
     ∷ named (codes "image/heif") (row (codes "heif"))
-    ∷ named (codes "image/jls") known
+    ∷ named (codes "image/jls") (row (codes "jls"))
     ∷ named (codes "image/jp2") (row (codes "jp2"))
     ∷ named (codes "image/jpeg") (row (codes "jpg"))
     ∷ named (codes "image/jpx") (row (codes "jpx"))
@@ -3656,7 +3656,7 @@ types_2 =
     ∷ named (codes "image/vnd.djvu") (row (codes "djvu"))
     ∷ named (codes "image/vnd.dwg") (row (codes "dwg"))
     ∷ named (codes "image/vnd.dxf") known
-    ∷ named (codes "image/vnd.fpx") known
+    ∷ named (codes "image/vnd.fpx") (row (codes "fpx"))
     ∷ named (codes "image/vnd.microsoft.icon") (row (codes "ico"))
     ∷ named (codes "image/vnd.ms-photo") (row (codes "jxr"))
     ∷ named (codes "image/vnd.radiance") (row (codes "hdr"))
@@ -3703,7 +3703,7 @@ types_2 =
     ∷ named (codes "image/x-win-bitmap") (row (codes "cur"))
     ∷ named (codes "image/x-xbitmap") known
     ∷ named (codes "image/x-xcf") (row (codes "xcf"))
-    ∷ named (codes "image/x-xfig") known
+    ∷ named (codes "image/x-xfig") (row (codes "fig"))
     ∷ named (codes "image/x-xpixmap") (row (codes "xpm"))
     ∷ named (codes "image/x-xwindowdump") (row (codes "xwd"))
     ∷ named (codes "message/rfc822") known
@@ -3713,11 +3713,11 @@ types_2 =
     ∷ named (codes "model/iges") known
     ∷ named (codes "model/mtl") known
     ∷ named (codes "model/obj") known
-    ∷ named (codes "model/step") known
-    ∷ named (codes "model/stl") known
+    ∷ named (codes "model/step") (row (codes "model/step"))
+    ∷ named (codes "model/stl") (row (codes "stl"))
     ∷ named (codes "model/vnd.collada+xml") known
     ∷ named (codes "model/vnd.usdc") own
-    ∷ named (codes "model/vrml") known
+    ∷ named (codes "model/vrml") (row (codes "wrl"))
     ∷ named (codes "model/x3d+xml") known
     ∷ named (codes "model/x3d-vrml") known
     ∷ named (codes "multipart/related") known
@@ -3893,7 +3893,7 @@ types_3 =
     ∷ named (codes "text/x-isabelle") own
     ∷ named (codes "text/x-janet") own
     ∷ named (codes "text/x-java") known
-    ∷ named (codes "text/x-java-manifest") own
+    ∷ named (codes "text/x-java-manifest") (row (codes "jarmf"))
     ∷ named (codes "text/x-java-properties") own
     ∷ named (codes "text/x-jcl") own
     ∷ named (codes "text/x-jelly") own
@@ -3974,7 +3974,7 @@ types_3 =
     ∷ named (codes "text/x-pig") own
     ∷ named (codes "text/x-pike") own
     ∷ named (codes "text/x-pkg-config") own
-    ∷ named (codes "text/x-plantuml") own
+    ∷ named (codes "text/x-plantuml") (row (codes "puml"))
     ∷ named (codes "text/x-pli") own
     ∷ named (codes "text/x-pod") own
     ∷ named (codes "text/x-pony") own
@@ -4046,13 +4046,13 @@ types_3 =
     ∷ named (codes "text/x-spice") own
     ∷ named (codes "text/x-spin") own
     ∷ named (codes "text/x-squirrel") own
-    ∷ named (codes "text/x-ssa") known
+    ∷ named (codes "text/x-ssa") (row (codes "ssa"))
     ∷ named (codes "text/x-stan") own
     ∷ named (codes "text/x-starlark") own
     ∷ named (codes "text/x-stata") own
     ∷ named (codes "text/x-strings") own
     ∷ named (codes "text/x-stylus") own
-    ∷ named (codes "text/x-subviewer") known
+    ∷ named (codes "text/x-subviewer") (row (codes "subviewer"))
     ∷ named (codes "text/x-supercollider") own
     ∷ named (codes "text/x-svelte") own
     ∷ named (codes "text/x-svhdr") known
@@ -4063,7 +4063,7 @@ types_3 =
     ∷ named (codes "text/x-tcl") (row (codes "tcl"))
     ∷ named (codes "text/x-template-toolkit") own
     ∷ named (codes "text/x-tex") known
-    ∷ named (codes "text/x-texinfo") known
+    ∷ named (codes "text/x-texinfo") (row (codes "texi"))
     ∷ named (codes "text/x-textile") known
     ∷ named (codes "text/x-textproto") own
     ∷ named (codes "text/x-thrift") own
@@ -4071,7 +4071,7 @@ types_3 =
     ∷ named (codes "text/x-tmux-conf") own
     ∷ named (codes "text/x-tsx") own
     ∷ named (codes "text/x-twig") known
-    ∷ named (codes "text/x-txt2tags") known
+    ∷ named (codes "text/x-txt2tags") (row (codes "t2t"))
     ∷ named (codes "text/x-typescript") own
     ∷ named (codes "text/x-typst") own
     ∷ named (codes "text/x-uc") own
@@ -4130,7 +4130,7 @@ unfoldable pub types_4 : List NamedType
 types_4 =
     named (codes "video/x-msvideo") (row (codes "avi"))
     ∷ named (codes "video/x-nsv") known
-    ∷ named (codes "video/x-ogm+ogg") known
+    ∷ named (codes "video/x-ogm+ogg") (row (codes "ogm"))
     ∷ named (codes "video/x-y4m") own
     ∷ []
 

@@ -8,42 +8,65 @@ use crate::index::asked::found_row_apart;
 use crate::index::{Below, Entry, Except, Gate, Guard, Named, Parentless, Range, Rooted, Texts};
 
 /// How many further rows there are.
-pub const FURTHER_COUNT: usize = 296;
+pub const FURTHER_COUNT: usize = 383;
 
 pub(super) static BELOW: &[Below] = &[
     Nothing,
-    Entries(entries![16 0x01 0, 17 0x01 0, 16 0x04 1, 17 0x04 1, 9 0x49 2, 16 0x03 3, 17 0x03 3]),
+    Entries(
+        entries![16 0x01 0, 17 0x01 0, 16 0x04 1, 17 0x04 1, 9 0x49 2, 16 0x03 3, 17 0x03 3, 18 0xBE 18],
+    ),
+    Entries(entries![517 0x53 154]),
     Nothing,
     Nothing,
     Nothing,
     Nothing,
     Nothing,
     Nothing,
-    Nothing,
-    Entries(entries![7 0x30 27, 14 0x02 28]),
+    Entries(entries![6 0x03 28, 5 0x09 29, 4 0x02 337, 11 0x30 338, 12 0x02 339]),
     Nothing,
     Entries(
-        entries![20 0x47 22, 20 0x43 23, 28 0x4C 23, 21 0x55 24, 23 0x41 25, 20 0x45 26, 23 0x49 26, 23 0x4B 26, 23 0x2D 150],
+        entries![18 0x53 23, 25 0x20 24, 28 0x4C 24, 13 0x50 25, 17 0x48 26, 11 0x45 27, 17 0x45 27, 18 0x56 27, 14 0x39 157, 12 0x45 329, 15 0x37 330, 18 0x2D 331, 23 0x2D 332, 24 0x59 332, 27 0x47 333, 23 0x53 334, 28 0x52 334, 28 0x45 335, 28 0x2D 336],
+    ),
+    Nothing,
+    Nothing,
+    Nothing,
+    Entries(entries![3 0xF7 38]),
+    Entries(entries![22 0x78 34, 22 0x68 110, 22 0x6D 158, 21 0x6A 159]),
+    Entries(entries![3 0x47 32]),
+    Nothing,
+    Nothing,
+    Nothing,
+    Entries(entries![1 0x49 31, 1 0x4D 31]),
+    Nothing,
+    Nothing,
+    Nothing,
+    Nothing,
+    Entries(entries![10 0x69 33]),
+    Nothing,
+    Nothing,
+    Nothing,
+    Entries(entries![15 0x4D 160]),
+    Nothing,
+    Nothing,
+    Nothing,
+    Nothing,
+    Nothing,
+    Nothing,
+    Nothing,
+    Nothing,
+    Nothing,
+    Nothing,
+    Nothing,
+    Entries(entries![2 0x33 229, 2 0x33 230, 2 0x33 231, 2 0x33 232, 2 0x33 233]),
+    Nothing,
+    Nothing,
+    Entries(
+        entries![32 0x6F 36, 32 0x43 37, 32 0x78 161, 33 0x6F 274, 28 0x66 275, 32 0x62 276, 29 0x6B 277],
     ),
     Nothing,
     Nothing,
     Nothing,
     Nothing,
-    Entries(entries![22 0x78 33, 22 0x6D 151, 21 0x6A 152]),
-    Entries(entries![3 0x47 31]),
-    Nothing,
-    Nothing,
-    Nothing,
-    Entries(entries![1 0x49 30, 1 0x4D 30]),
-    Nothing,
-    Nothing,
-    Nothing,
-    Nothing,
-    Entries(entries![10 0x69 32]),
-    Nothing,
-    Nothing,
-    Nothing,
-    Entries(entries![15 0x4D 153]),
     Nothing,
     Nothing,
     Nothing,
@@ -51,149 +74,130 @@ pub(super) static BELOW: &[Below] = &[
     Nothing,
     Nothing,
     Nothing,
-    Nothing,
-    Nothing,
-    Nothing,
-    Nothing,
-    Entries(entries![2 0x33 222, 2 0x33 223, 2 0x33 224, 2 0x33 225, 2 0x33 226]),
-    Nothing,
-    Nothing,
-    Entries(entries![28 0x80 35, 32 0x43 36, 32 0x78 154]),
-    Nothing,
-    Nothing,
-    Nothing,
-    Nothing,
-    Nothing,
-    Nothing,
-    Nothing,
-    Nothing,
-    Nothing,
-    Nothing,
-    Nothing,
-    Nothing,
-    Entries(entries![3 0x04 146]),
-    Nothing,
-    Entries(entries![3 0x04 147, 3 0x04 148]),
     Nothing,
     Entries(entries![3 0x04 149]),
-    Entries(entries![81 0x70 15]),
+    Nothing,
+    Entries(entries![3 0x04 150, 3 0x04 151]),
+    Nothing,
+    Entries(entries![3 0x04 152]),
+    Entries(entries![81 0x70 15, 85 0x4B 309]),
     Entries(entries![88 0x70 16]),
     Entries(entries![89 0x70 17]),
     Nothing,
     Packages(
-        entries![37 0x4D 4, 39 0x63 4, 38 0x2F 6, 81 0x50 12, 76 0x6D 13, 56 0x61 14, 79 0x4B 137, 56 0x73 138, 53 0x2E 139, 55 0x62 140, 53 0x63 141, 36 0x70 142, 38 0x78 143, 35 0x6A 144],
-        excepts![26 0x00 5, 27 0x00 5, 28 0x00 6, 29 0x00 6, 26 0x00 145, 27 0x00 145],
+        entries![37 0x4D 4, 39 0x63 4, 38 0x2F 6, 81 0x50 12, 76 0x6D 13, 56 0x61 14, 73 0x63 140, 76 0x70 141, 62 0x77 142, 55 0x62 143, 53 0x63 144, 54 0x76 145, 38 0x78 146, 35 0x6A 147, 78 0x4B 310, 55 0x61 311, 65 0x63 312, 65 0x77 313, 64 0x70 314, 53 0x2E 315, 56 0x6D 316, 56 0x6F 317, 53 0x70 318, 54 0x70 319, 40 0x70 320, 38 0x63 321, 41 0x2E 322, 40 0x6D 323],
+        excepts![26 0x00 5, 27 0x00 5, 28 0x00 6, 29 0x00 6, 26 0x00 148, 27 0x00 148, 26 0x00 324, 27 0x00 324, 26 0x00 325, 27 0x00 325],
         named![b"word/" 7, b"xl/" 8, b"ppt/" 9, b"visio/" 10, b"3D/" 11],
     ),
+    Entries(entries![10 0x7A 155]),
     Nothing,
     Nothing,
-    Nothing,
-    Entries(entries![33 0x70 160, 38 0x06 161, 40 0x06 162]),
-    Nothing,
-    Nothing,
-    Nothing,
-    Nothing,
+    Entries(entries![33 0x70 167, 38 0x06 168, 39 0x04 169, 14 0x02 244, 39 0x72 245, 39 0x06 246]),
     Nothing,
     Nothing,
     Nothing,
     Nothing,
-    Entries(entries![10 0x2D 34, 1 0x21 155]),
-    Entries(entries![69 0x50 29]),
-    Nothing,
-    Nothing,
-    Entries(entries![3 0x28 156]),
     Nothing,
     Nothing,
     Nothing,
     Nothing,
-    Entries(entries![7 0x01 157]),
+    Entries(entries![15 0x45 35, 8 0x70 162, 15 0x31 162, 8 0x62 262, 1 0x21 263]),
+    Entries(entries![68 0x47 30, 70 0x51 340, 71 0x58 341, 63 0x4E 342, 71 0x59 343]),
+    Nothing,
+    Nothing,
+    Entries(entries![3 0x28 163]),
+    Nothing,
+    Entries(entries![16 0x46 156]),
+    Nothing,
+    Nothing,
+    Entries(entries![7 0x01 164]),
     Nothing,
     Nothing,
     Nothing,
     ClassIds(
-        named![b"\x84\x10\x0C\0\0\0\0\0\xC0\0\0\0\0\0\0\x46" 18, b"\x0B\x0D\x02\0\0\0\0\0\xC0\0\0\0\0\0\0\x46" 19, b"\x01\x12\x02\0\0\0\0\0\0\xC0\0\0\0\0\0\x46" 20, b"\x11\x1A\x02\0\0\0\0\0\xC0\0\0\0\0\0\0\x46" 21, b"\x14\x1A\x02\0\0\0\0\0\xC0\0\0\0\0\0\0\x46" 21],
+        named![b"\x84\x10\x0C\0\0\0\0\0\xC0\0\0\0\0\0\0\x46" 19, b"\x0B\x0D\x02\0\0\0\0\0\xC0\0\0\0\0\0\0\x46" 20, b"\x01\x12\x02\0\0\0\0\0\0\xC0\0\0\0\0\0\x46" 21, b"\x11\x1A\x02\0\0\0\0\0\xC0\0\0\0\0\0\0\x46" 22, b"\x14\x1A\x02\0\0\0\0\0\xC0\0\0\0\0\0\0\x46" 22, b"\xD1\xF9\x0C\xC2\xAE\x85\xD1\x11\xAA\xB4\0`\x97\xDAV\x1A" 153, b":\x8F\xB7t\xC8\xC8\xD1\x11\xBE\x11\0\xC0O\xB6\xFA\xF1" 326, b"\0gaVT\xC1\xCE\x11\x85S\0\xAA\0\xA1\xF9[" 327, b"b\xFE.@\x99\x19\x1B\x10\x99\xAE\x04\x02\x1C\0p\x02" 328],
     ),
     Nothing,
-    Roots(rooted![b"svg" () 52]),
+    Roots(rooted![b"svg" () 54]),
     Roots(
-        rooted![b"svg" () 45, b"rss" () 46, b"RDF" (b"http://purl.org/rss/1.0/") 46, b"feed" (b"http://www.w3.org/2005/Atom") 47, b"kml" () 48, b"gpx" () 49, b"html" (b"http://www.w3.org/1999/xhtml") 50, b"plist" () 51, b"opml" () 169, b"FictionBook" () 170, b"interface" () 171, b"TS" () 172, b"Ontology" (b"http://www.w3.org/2002/07/owl#") 173, b"sparql" (b"http://www.w3.org/2005/sparql-results#") 174, b"metalink" (b"urn:ietf:params:xml:ns:metalink") 175, b"nzb" () 176, b"jnlp" () 177, b"shape" (b"http://www.daa.com.au/~james/dia-shape-ns") 178, b"document" (b"application/vnd.oasis.opendocument.text") 179, b"ttFont" () 180],
+        rooted![b"svg" () 47, b"rss" () 48, b"RDF" (b"http://purl.org/rss/1.0/") 48, b"feed" (b"http://www.w3.org/2005/Atom") 49, b"kml" () 50, b"gpx" () 51, b"html" (b"http://www.w3.org/1999/xhtml") 52, b"plist" () 53, b"opml" () 176, b"FictionBook" () 177, b"interface" () 178, b"TS" () 179, b"Ontology" (b"http://www.w3.org/2002/07/owl#") 180, b"sparql" (b"http://www.w3.org/2005/sparql-results#") 181, b"metalink" (b"urn:ietf:params:xml:ns:metalink") 182, b"nzb" () 183, b"jnlp" () 184, b"shape" (b"http://www.daa.com.au/~james/dia-shape-ns") 185, b"document" (b"application/vnd.oasis.opendocument.text") 186, b"ttFont" () 187],
     ),
     Programs(
-        buckets![() (b"awk" 43) (b"bun" 40) (b"cjs" 158, b"clisp" 166, b"csh" 273, b"csi" 276, b"clj" 277, b"clojure" 277) (b"deno" 40, b"dart" 167) (b"expect" 44, b"escript" 163, b"ecl" 166, b"execlineb" 289, b"elixir" 292) (b"fish" 274) (b"gawk" 43, b"gjs" 158, b"guile" 276, b"gosh" 276, b"groovy" 278, b"gnuplot" 285, b"gmake" 286, b"gsed" 287) () () (b"jruby" 39, b"julia" 283) () (b"lua" 42, b"luajit" 42, b"littler" 275, b"luatex" 290) (b"mawk" 43, b"make" 286) (b"node" 40, b"nodejs" 40, b"nawk" 43, b"nft" 168) (b"ocaml" 280, b"ocamlscript" 280, b"ocamlrun" 281, b"octave" 284, b"octave-cli" 284) (b"python" 37, b"pypy" 37, b"perl" 38, b"php" 41, b"pwsh" 291, b"powershell" 291) (b"qjs" 158, b"qml" 159, b"qmlscene" 159) (b"ruby" 39, b"rhino" 158, b"raku" 164, b"rakudo" 164, b"racket" 165, b"Rscript" 275, b"r" 275, b"runhaskell" 282, b"runghc" 282) (b"sbcl" 166, b"scheme" 276, b"scala" 279, b"stack" 282, b"sed" 287, b"stap" 288) (b"tclsh" 44, b"tcsh" 273, b"texlua" 290) (b"utop" 280) () (b"wish" 44) () () () () () () () ()],
+        buckets![() (b"awk" 45) (b"bun" 42) (b"cjs" 165, b"clisp" 173, b"csh" 289, b"csi" 292, b"clj" 293, b"clojure" 293) (b"deno" 42, b"dart" 174) (b"expect" 46, b"escript" 170, b"ecl" 173, b"execlineb" 305, b"elixir" 308) (b"fish" 290) (b"gawk" 45, b"gjs" 165, b"guile" 292, b"gosh" 292, b"groovy" 294, b"gnuplot" 301, b"gmake" 302, b"gsed" 303) () () (b"jruby" 41, b"julia" 299) () (b"lua" 44, b"luajit" 44, b"littler" 291, b"luatex" 306) (b"mawk" 45, b"make" 302) (b"node" 42, b"nodejs" 42, b"nawk" 45, b"nft" 175) (b"ocaml" 296, b"ocamlscript" 296, b"ocamlrun" 297, b"octave" 300, b"octave-cli" 300) (b"python" 39, b"pypy" 39, b"perl" 40, b"php" 43, b"pwsh" 307, b"powershell" 307) (b"qjs" 165, b"qml" 166, b"qmlscene" 166) (b"ruby" 41, b"rhino" 165, b"raku" 171, b"rakudo" 171, b"racket" 172, b"Rscript" 291, b"r" 291, b"runhaskell" 298, b"runghc" 298) (b"sbcl" 173, b"scheme" 292, b"scala" 295, b"stack" 298, b"sed" 303, b"stap" 304) (b"tclsh" 46, b"tcsh" 289, b"texlua" 306) (b"utop" 296) () (b"wish" 46) () () () () () () () ()],
     ),
 ];
 
 pub(super) static PARENTLESS: Parentless = Parentless {
     first: lists![
-        (7 0x00 260, 6 0x63 270, 6 0x44 271, 39 0x70 272) (1 0xDA 190, 14 0x2A 240) (3 0x18 90, 13 0x00 133) (13 0x00 133) (24 0x3A 235) () (13 0x02 227, 15 0x1D 249) ()
-        () () (2 0x0D 54, 64 0x00 189) () () () (2 0x13 245) ()
-        () () () (2 0x9A 83, 3 0x5C 186) () () () ()
-        () () (7 0x00 56) (1 0x4C 60) () () (1 0x02 56) (2 0xE8 216, 1 0x07 228)
-        () (9 0x4D 73) () (5 0x33 113, 2 0x52 188) (7 0x29 246) () () ()
-        () () (32 0x32 243) () () () (3 0x64 108, 3 0xFD 217, 3 0x46 218) (8 0x2F 104)
-        (4 0x30 93, 0 0x30 120, 13 0x00 133) (0 0x31 120, 13 0x00 133) (0 0x32 120, 13 0x00 133) (0 0x33 120) (0 0x34 120) (0 0x35 120) (0 0x36 120) (0 0x37 120, 3 0x12 257)
-        (0 0x38 120) (0 0x39 120) () () (4 0x70 119) () () (2 0x03 248)
-        (3 0x80 257) (5 0x31 79, 2 0x5A 232) (3 0x4E 107, 11 0x4E 116, 7 0x43 117, 3 0xFB 195, 2 0x47 221, 3 0x49 234, 3 0x31 263) (12 0x63 112, 13 0x00 133, 3 0x58 266) (2 0x53 238) (3 0x46 71, 2 0x2A 205, 15 0x3A 210) (3 0x31 61, 3 0x49 98, 11 0x43 109, 3 0x46 194, 3 0x62 201, 3 0x4D 208, 3 0x38 219, 3 0x1A 240) (3 0x46 80, 752 0x47 135)
-        (2 0x43 239) (2 0x55 99, 3 0x46 114, 2 0x1A 202, 3 0x4D 209, 3 0x44 262, 4 0x37 265) (7 0x04 59) (3 0x56 66) (1 0x55 63, 3 0x53 69, 3 0x00 72, 3 0x49 231, 3 0x58 258) (1 0x3C 70, 1 0x53 87, 1 0x50 111, 8 0x0A 207, 3 0x10 211, 2 0x44 212, 2 0x33 213, 10 0x54 220, 7 0x44 261) (4 0x1A 215) (2 0x6A 77, 2 0x43 78)
-        (2 0x55 62, 2 0x52 76, 2 0x09 103, 2 0x0A 103, 2 0x0D 103, 2 0x20 103, 3 0x23 103, 3 0x6E 198, 2 0x46 206, 2 0x49 214, 3 0x44 262, 4 0x48 264) (2 0x44 237, 3 0x50 268) (3 0x46 102, 3 0x44 214) (4 0x4C 97, 3 0x58 200, 14 0x63 254) (3 0x66 58) () () (6 0x2E 94, 5 0x54 118, 4 0x50 247)
-        (1 0x63 95, 3 0x53 200) (3 0x95 191) (5 0x57 242, 3 0x04 244) () () (2 0x00 92) () ()
-        (10 0x02 89) (20 0x31 64) (7 0x30 100) (7 0x78 67, 13 0x00 133) (2 0x3A 74, 3 0x3A 74) () (11 0xE5 236) (7 0x66 96, 3 0x46 106)
-        (2 0x71 86) (1 0x63 101, 13 0x6B 199) () () () () () ()
-        () (7 0x30 233) () (1 0x71 86) (3 0x66 115) () (3 0x78 68, 2 0x31 187) (9 0x04 110)
-        (3 0x21 88, 3 0x2D 236, 3 0x22 250) () () (3 0x77 269) () () () (2 0x80 216)
-        (1 0x01 253, 1 0x37 257, 9 0x33 258) () () (13 0x00 133) () () () ()
-        () (3 0x46 130, 7 0x1A 230, 3 0x50 241, 6 0x1A 267) (6 0x1A 196) (13 0x00 133) () () () ()
-        () () () (5 0x59 75) (2 0x04 65) (3 0xDE 57, 3 0x04 65) () ()
-        (2 0x04 65) (3 0x04 65) () () () () () ()
-        () (5 0x02 70) () () () () () ()
-        () () () (6 0x31 184, 10 0x1A 185) () () () ()
-        () () () () () () () (15 0x8D 229)
+        (7 0x00 272, 6 0x63 286, 6 0x44 287, 39 0x70 288) (1 0xDA 197, 14 0x2A 250) (3 0x18 92, 13 0x00 136) (13 0x00 136) (24 0x3A 242) () (13 0x02 234, 15 0x1D 259) ()
+        () () (2 0x0D 56, 64 0x00 196) () () () (2 0x13 255) ()
+        () () () (2 0x9A 85, 3 0x5C 193) () () () ()
+        () () (7 0x00 58) (1 0x4C 62) () () (1 0x02 58) (2 0xE8 223, 1 0x07 235)
+        () (9 0x4D 75) () (3 0x54 116, 1 0x3F 195, 4 0x4D 345, 4 0x4C 353, 3 0x47 357, 3 0x6B 358, 3 0x58 361, 23 0x6B 372) (7 0x29 256) (4 0x4C 344) () ()
+        (4 0x5B 351) () (32 0x32 253) () () () (3 0x64 111, 3 0xFD 224, 3 0x46 225) (8 0x2F 106, 8 0x3B 377)
+        (4 0x30 95, 0 0x30 123, 13 0x00 136) (0 0x31 123, 13 0x00 136) (0 0x32 123, 13 0x00 136) (0 0x33 123) (0 0x34 123) (0 0x35 123) (0 0x36 123) (0 0x37 123, 3 0x12 269)
+        (0 0x38 123) (0 0x39 123) () (4 0x58 355) (4 0x70 122, 5 0x54 362, 3 0x70 376) () () (2 0x03 258)
+        (3 0x80 269, 7 0x6D 367) (5 0x31 81, 2 0x5A 239) (3 0x4E 109, 11 0x4E 119, 7 0x43 120, 3 0xFB 202, 7 0x4D 228, 2 0x44 241, 3 0x31 279, 10 0x45 375) (12 0x63 115, 13 0x00 136, 3 0x58 282) (2 0x53 248) (3 0x46 73, 2 0x2A 212, 15 0x3A 217) (3 0x31 63, 3 0x49 100, 11 0x43 112, 3 0x46 201, 3 0x62 208, 3 0x4D 215, 3 0x38 226, 3 0x1A 250, 11 0x70 370) (3 0x46 82, 752 0x47 138)
+        (2 0x43 249) (2 0x55 101, 3 0x46 117, 2 0x1A 209, 3 0x4D 216, 3 0x44 278, 3 0x2E 281, 3 0x2D 354, 3 0x50 363) (7 0x04 61) (3 0x56 68) (1 0x55 65, 3 0x53 71, 3 0x00 74, 3 0x49 238, 3 0x58 270) (1 0x3C 72, 1 0x53 89, 1 0x50 114, 6 0x02 214, 3 0x10 218, 4 0x00 219, 2 0x33 220, 3 0x44 227, 6 0x48 273, 4 0x66 368, 6 0x2D 369, 16 0x3A 371) (4 0x1A 222) (2 0x6A 79, 2 0x43 80)
+        (2 0x55 64, 2 0x52 78, 2 0x09 105, 2 0x0A 105, 2 0x0D 105, 2 0x20 105, 3 0x23 105, 3 0x6E 205, 2 0x46 213, 2 0x49 221, 3 0x44 278, 4 0x48 280, 5 0x58 352) (2 0x44 247, 3 0x50 284) (3 0x46 104, 3 0x44 221, 6 0x78 378) (4 0x4C 99, 3 0x58 207, 3 0x72 266, 4 0x44 356, 1 0x63 366, 2 0x67 368, 6 0x78 378) (3 0x66 60, 7 0x20 360) () () (6 0x2E 96, 5 0x54 121, 4 0x50 257)
+        (1 0x63 97, 3 0x53 207) (3 0x95 198) (5 0x57 252, 3 0x04 254) (4 0x79 346, 7 0x53 346, 8 0x63 347, 8 0x5D 348, 5 0x63 349, 10 0x63 350, 10 0x66 364, 12 0x5D 365, 27 0x5D 374) (12 0x66 359) (2 0x00 94) () ()
+        (10 0x02 91) (20 0x31 66) (7 0x30 102) (7 0x78 69, 13 0x00 136) (2 0x3A 76, 3 0x3A 76) () (11 0xE5 243) (7 0x66 98, 3 0x46 108)
+        (2 0x71 88) (1 0x63 103, 13 0x6B 206) () () () () () ()
+        (18 0x78 379) (7 0x30 240) (6 0x78 378) (1 0x71 88, 4 0x64 356) (3 0x66 118) () (3 0x78 70, 2 0x31 194) (9 0x04 113)
+        (3 0x21 90, 3 0x2D 243, 3 0x22 260, 9 0x30 373) () () (3 0x77 285) () () () (2 0x80 223)
+        (1 0x01 265, 1 0x37 269, 9 0x33 270) () () (13 0x00 136) () () () ()
+        () (3 0x46 133, 7 0x1A 237, 3 0x50 251, 6 0x1A 283) (6 0x1A 203) (13 0x00 136) () () () ()
+        () () () (5 0x59 77) (2 0x04 67) (3 0xDE 59, 3 0x04 67) () ()
+        (2 0x04 67) (3 0x04 67) () () () () () ()
+        () (5 0x02 72) () () () () () ()
+        () () () (6 0x31 191, 10 0x1A 192) () () () ()
+        () () () () () () () (15 0x8D 236)
         () () () () () () () ()
-        () () () () () (2 0x04 65, 3 0x04 65, 3 0xC6 105) (2 0x04 65, 3 0x04 65) ()
-        () () (3 0x0D 252) (13 0x00 133) () (3 0x13 83) (3 0x13 83, 3 0xCE 256) (3 0x13 83)
-        () () () () (4 0x02 70) () () ()
-        () () () () () () (3 0x95 57) ()
+        () () () () () (2 0x04 67, 3 0x04 67, 3 0xC6 107) (2 0x04 67, 3 0x04 67) ()
+        () () (3 0x0D 264) (13 0x00 136) () (3 0x13 85) (3 0x13 85, 3 0xCE 268) (3 0x13 85)
+        () () () () (4 0x02 72) () () ()
+        () () () () () () (3 0x95 59) ()
         () () () () () () () ()
-        () () () () () () () (9 0x55 113, 14 0x4E 116, 9 0x56 117, 8 0x54 118, 2 0xBF 120)
-        () () () () () (13 0x00 133) () (7 0x3B 251)
-        () () () () () () (3 0x80 216, 3 0xED 255) (1 0x06 91, 3 0x51 197, 5 0x07 216)
+        () () () () () () () (9 0x55 116, 14 0x4E 119, 9 0x56 120, 8 0x54 121, 2 0xBF 123, 2 0xBF 344, 2 0xBF 345, 2 0xBF 346, 2 0xBF 347, 2 0xBF 348, 2 0xBF 349, 2 0xBF 350, 2 0xBF 351, 2 0xBF 352, 2 0xBF 353, 2 0xBF 354, 2 0xBF 355, 2 0xBF 356, 2 0xBF 357, 2 0xBF 358, 2 0xBF 359, 2 0xBF 360, 2 0xBF 361, 2 0xBF 362, 2 0xBF 363, 2 0xBF 364, 2 0xBF 365, 2 0xBF 366, 2 0xBF 367, 2 0xBF 368, 2 0xBF 369, 2 0xBF 370, 2 0xBF 371, 2 0xBF 372, 2 0xBF 373, 2 0xBF 374, 2 0xBF 375, 2 0xBF 376, 2 0xBF 377, 2 0xBF 378, 2 0xBF 379)
+        () () () () () (13 0x00 136) () (7 0x3B 261)
+        () () () () () () (3 0x80 223, 3 0xED 267) (1 0x06 93, 3 0x51 204, 5 0x07 223)
     ],
     guards: guards![
-        2 0x02 (21 0x00 193);
-        2 0x2D (6 0x2D 121);
-        3 0x0A (2 0x0D 55, 103 0x32 84, 29 0x03 85);
-        4 0x47 (772 0x47 135);
-        5 0x49 (9 0x30 259);
-        7 0x07 (10 0x00 192);
-        8 0x7B (9 0x22 129);
-        13 0x05 (15 0x62 131);
-        13 0x06 (14 0x15 131);
-        13 0x15 (14 0x06 131);
-        13 0x31 (14 0x05 131);
-        20 0x47 (23 0x50 203, 23 0x54 204);
-        64 0x7F (67 0xBE 132);
-        512 0x89 (518 0x1A 130);
-        1080 0x53 (1081 0xEF 134);
+        2 0x02 (21 0x00 200);
+        2 0x2D (6 0x2D 124);
+        3 0x0A (2 0x0D 57, 103 0x32 86, 29 0x03 87);
+        4 0x47 (772 0x47 138);
+        5 0x49 (9 0x30 271);
+        7 0x07 (10 0x00 199);
+        8 0x7B (9 0x22 132);
+        13 0x05 (15 0x62 134);
+        13 0x06 (14 0x15 134);
+        13 0x15 (14 0x06 134);
+        13 0x31 (14 0x05 134);
+        20 0x47 (23 0x50 210, 23 0x54 211);
+        64 0x7F (67 0xBE 135);
+        512 0x89 (518 0x1A 133);
+        1080 0x53 (1081 0xEF 137);
     ],
     gate: gate![
         5 0x74
-        8 0x33 (10 0x65 122, 10 0x67 122, 10 0x70 122, 10 0x72 122, 10 0x73 122, 10 0x32 123);
-        8 0x4D (10 0x42 125);
-        8 0x63 (10 0x78 126);
-        8 0x66 (10 0x76 124);
-        8 0x68 (10 0x76 127);
-        8 0x6D (11 0x31 128);
-        13 0x41 (18 0x42 82);
-        13 0x4A (18 0x42 81);
+        8 0x33 (10 0x65 125, 10 0x67 125, 10 0x70 125, 10 0x72 125, 10 0x73 125, 10 0x32 126);
+        8 0x4D (10 0x42 128);
+        8 0x63 (10 0x78 129);
+        8 0x66 (10 0x76 127);
+        8 0x68 (10 0x76 130);
+        8 0x6D (11 0x31 131);
+        13 0x41 (18 0x42 84);
+        13 0x4A (18 0x42 83);
     ],
     ranges: ranges![
-        148 0x20 0x37 136;
+        148 0x20 0x37 139;
     ],
-    roots: rooted![b"svg" () 53, b"xmpmeta" () 181, b"math" (b"http://www.w3.org/1998/Math/MathML") 182, b"SAMI" () 183, b"sami" () 183],
+    roots: rooted![b"svg" () 55, b"xmpmeta" () 188, b"math" (b"http://www.w3.org/1998/Math/MathML") 189, b"SAMI" () 190, b"sami" () 190],
     texts: Texts {
-        lines: 293,
-        json: 294,
-        plain: 295,
+        lines: 380,
+        json: 381,
+        plain: 382,
     },
 };
 
@@ -205,8 +209,10 @@ pub(crate) fn found_below(buf: &[u8], row: usize) -> usize
 {
     match row {
         1 => found_row_apart::<1>(buf),
+        2 => found_row_apart::<2>(buf),
         9 => found_row_apart::<9>(buf),
         11 => found_row_apart::<11>(buf),
+        15 => found_row_apart::<15>(buf),
         16 => found_row_apart::<16>(buf),
         17 => found_row_apart::<17>(buf),
         21 => found_row_apart::<21>(buf),
@@ -221,10 +227,12 @@ pub(crate) fn found_below(buf: &[u8], row: usize) -> usize
         64 => found_row_apart::<64>(buf),
         65 => found_row_apart::<65>(buf),
         67 => found_row_apart::<67>(buf),
+        68 => found_row_apart::<68>(buf),
         71 => found_row_apart::<71>(buf),
         80 => found_row_apart::<80>(buf),
         81 => found_row_apart::<81>(buf),
         84 => found_row_apart::<84>(buf),
+        86 => found_row_apart::<86>(buf),
         89 => found_row_apart::<89>(buf),
         93 => found_row_apart::<93>(buf),
         95 => found_row_apart::<95>(buf),

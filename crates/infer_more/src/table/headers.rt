@@ -3,11 +3,11 @@ ghost use Rattle.std.specs.Prelude.{◌≡◌, map};
 ghost use Rattle.infer_more.specs.Listed.{AreEnded, row_listed};
 ghost use Rattle.infer_more.specs.Table.{headers};
 
-use crate::signature::Piece::{At, OneOf};
+use crate::signature::Piece::{At, Between, OneOf};
 use crate::signature::{Alternative, Bytes};
 use crate::table::{EndedTexts, FurtherRow};
 use infer::MatcherType;
-use infer::rows::{DER, HEIF, JPEG2000, MSI, OGG, PEM, PNG, PS, SQLITE, TIFF};
+use infer::rows::{DER, HEIF, JPEG, JPEG2000, MSI, OGG, PEM, PNG, PS, SQLITE, TIFF};
 use infer_formats::relation::Relation::{Animated, ClassId, DirectoryTag};
 
 static ROWS: &[FurtherRow] = rows![
@@ -30,6 +30,7 @@ static ROWS: &[FurtherRow] = rows![
     Image "image/x-eps" "eps": PS => [20, At(0, b"%!PS-Adobe-"), At(14, b" EPSF-")];
     Video "video/ogg" "ogv": OGG => [35, At(28, b"\x80theora")];
     Audio "audio/ogg" "oga": OGG => [33, At(28, b"\x7FFLAC")];
+    Image "image/jls" "jls": JPEG => [4, is!(3, 0xF7)];
 ];
 
 #[tactic(auto, unfolding(crate::specs::Table::headers))]

@@ -7,6 +7,7 @@ use crate::signature::Piece::{At, Between, OneOf};
 use crate::signature::{Alternative, Bytes};
 use crate::table::{EndedTexts, FurtherRow};
 use infer::MatcherType;
+use infer::rows::JPEG2000;
 
 static ROWS: &[FurtherRow] = rows![
     Image "image/x-xcursor" "xcursor": => [8, At(0, b"Xcur\x10\0\0\0")];
@@ -22,6 +23,7 @@ static ROWS: &[FurtherRow] = rows![
     Image "image/x-eps" "eps": => [4, At(0, b"\xC5\xD0\xD3\xC6")];
     Image "model/gltf-binary" "glb": => [8, At(0, b"glTF"), OneOf(4, b"\x01\x02"), At(5, b"\0\0\0")];
     Image "application/x-blender" "blend": => [12, At(0, b"BLENDER"), OneOf(7, b"-_"), OneOf(8, b"Vv"), Between(9, 0x30, 0x39)];
+    Image "image/jph" "jph": JPEG2000 => [24, At(16, b"ftypjph ")];
 ];
 
 #[tactic(auto, unfolding(crate::specs::Table::images))]

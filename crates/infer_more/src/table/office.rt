@@ -7,8 +7,8 @@ use crate::signature::Piece::At;
 use crate::signature::{Alternative, Bytes};
 use crate::table::{EndedTexts, FurtherRow};
 use infer::MatcherType;
-use infer::rows::{DOCX, PPTX, XLSX, ZIP};
-use infer_formats::relation::Relation::{FirstEntryEndsIn, FirstEntryIs, HasEntry};
+use infer::rows::{AR, DOCX, EXE, MSI, PPTX, TAR, XLSX, ZIP};
+use infer_formats::relation::Relation::{ClassId, FirstEntryEndsIn, FirstEntryIs, HasEntry};
 
 static ROWS: &[FurtherRow] = rows![
     Doc "application/vnd.oasis.opendocument.chart" "odc": ZIP => [80, At(0, b"PK\x03\x04"), At(30, b"mimetypeapplication/vnd.oasis.opendocument.chartPK")];
@@ -24,6 +24,10 @@ static ROWS: &[FurtherRow] = rows![
     Doc "application/vnd.ms-excel.sheet.macroEnabled.12" "xlsm": XLSX => [HasEntry(b"xl/vbaProject.bin")];
     Doc "application/vnd.ms-excel.sheet.binary.macroEnabled.12" "xlsb": XLSX => [HasEntry(b"xl/workbook.bin")];
     Doc "application/vnd.ms-powerpoint.presentation.macroEnabled.12" "pptm": PPTX => [HasEntry(b"ppt/vbaProject.bin")];
+    Doc "application/vnd.stardivision.writer" "sdw": MSI => [ClassId(*b"\xD1\xF9\x0C\xC2\xAE\x85\xD1\x11\xAA\xB4\0`\x97\xDAV\x1A")];
+    App "application/x-linux-kernel" "bzimage": EXE => [518, At(510, b"U\xAA"), At(514, b"HdrS")];
+    Archive "application/x-ruby-gem" "gem": TAR => [12, At(0, b"metadata.gz\0")] [12, At(0, b"data.tar.gz\0")];
+    App "application/x-go-archive" "goa": AR => [17, At(8, b"__.PKGDEF")];
 ];
 
 #[tactic(auto, unfolding(crate::specs::Table::office))]

@@ -31,6 +31,7 @@ static ROWS: &[FurtherRow] = rows![
     Doc "application/vnd.oasis.opendocument.text-template" "ott": ODT => [86, At(77, b"-template")];
     Doc "application/vnd.oasis.opendocument.spreadsheet-template" "ots": ODS => [93, At(84, b"-template")];
     Doc "application/vnd.oasis.opendocument.presentation-template" "otp": ODP => [94, At(85, b"-template")];
+    App "application/x-cubin" "cubin": ELF => [20, is!(5, 0x01), At(18, b"\xBE\0")];
 ];
 
 #[tactic(auto, unfolding(crate::specs::Table::packages))]

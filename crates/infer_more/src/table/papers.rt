@@ -7,6 +7,7 @@ use crate::signature::Piece::{At, Between, OneOf};
 use crate::signature::{Alternative, Bytes};
 use crate::table::{EndedTexts, FurtherRow};
 use infer::MatcherType;
+use infer::rows::PS;
 
 static ROWS: &[FurtherRow] = rows![
     App "application/x-sqlite2" "sqlite2": => [33, At(0, b"** This file contains an SQLite 2")];
@@ -18,6 +19,8 @@ static ROWS: &[FurtherRow] = rows![
     Doc "application/x-indesign" "indd": => [16, At(0, b"\x06\x06\xED\xF5\xD8\x1DF\xE5\xBD1\xEF\xE7\xFEt\xB7\x1D")];
     Doc "application/vnd.ms-tnef" "tnef": => [4, At(0, b"x\x9F>\"")];
     Doc "application/x-dvi" "dvi": => [10, At(0, b"\xF7\x02\x01\x83\x92\xC0\x1C;\0\0")];
+    Font "application/x-adobe-cmap" "cmap": PS => [28, At(0, b"%!PS-Adobe-3.0 Resource-CMap")];
+    Text "text/x-txt2tags" "t2t": PS => [10, At(0, b"%!postproc")] [10, At(0, b"%!encoding")];
 ];
 
 #[tactic(auto, unfolding(crate::specs::Table::papers))]

@@ -1,4 +1,6 @@
 use Rattle.infer_more.proofs.Common.{refl, further}
+use Rattle.infer_more.proofs.ListLemmas.{all_each, more, none}
+use Rattle.infer_more.specs.Listed.{AreEnded}
 use Rattle.infer_more.proofs.table.lists.Goals as goal
 
 pub returns-clause-listed : goal.returns-clause-listed
@@ -29,5 +31,42 @@ returns-clause-listed c =
       c.rows-22.ensures.listed,
       c.rows-23.ensures.listed,
       c.rows-24.ensures.listed,
+      c.rows-25.ensures.listed,
+      c.rows-26.ensures.listed,
+      c.rows-27.ensures.listed,
+      c.rows-28.ensures.listed,
     )
     refl
+
+pub returns-clause-ended : goal.returns-clause-ended
+returns-clause-ended c =
+    all_each (λ rows. AreEnded rows.now) _ (
+    more _ _ c.rows.ensures.ended (
+    more _ _ c.rows-2.ensures.ended (
+    more _ _ c.rows-3.ensures.ended (
+    more _ _ c.rows-4.ensures.ended (
+    more _ _ c.rows-5.ensures.ended (
+    more _ _ c.rows-6.ensures.ended (
+    more _ _ c.rows-7.ensures.ended (
+    more _ _ c.rows-8.ensures.ended (
+    more _ _ c.rows-9.ensures.ended (
+    more _ _ c.rows-10.ensures.ended (
+    more _ _ c.rows-11.ensures.ended (
+    more _ _ c.rows-12.ensures.ended (
+    more _ _ c.rows-13.ensures.ended (
+    more _ _ c.rows-14.ensures.ended (
+    more _ _ c.rows-15.ensures.ended (
+    more _ _ c.rows-16.ensures.ended (
+    more _ _ c.rows-17.ensures.ended (
+    more _ _ c.rows-18.ensures.ended (
+    more _ _ c.rows-19.ensures.ended (
+    more _ _ c.rows-20.ensures.ended (
+    more _ _ c.rows-21.ensures.ended (
+    more _ _ c.rows-22.ensures.ended (
+    more _ _ c.rows-23.ensures.ended (
+    more _ _ c.rows-24.ensures.ended (
+    more _ _ c.rows-25.ensures.ended (
+    more _ _ c.rows-26.ensures.ended (
+    more _ _ c.rows-27.ensures.ended (
+    more _ _ c.rows-28.ensures.ended (
+    none)))))))))))))))))))))))))))))
