@@ -1,5 +1,5 @@
 -- What is told of an input.
-use Rattle.std.specs.Prelude.{◌≡◌, ◌==◌, ℕ, Bool, false, List, Option, None, Some, MatchOption, length, option_map}
+use Rattle.std.specs.Prelude.{◌≡◌, ◌==◌, ℕ, Bool, false, true, List, Option, None, Some, MatchOption, length, option_map}
 use Rattle.std.specs.Option.{option_and_then}
 use Rattle.infer.specs.First.{IsAnswer}
 use Rattle.infer.specs.Row.{Accepts}
@@ -15,6 +15,7 @@ use Rattle.infer_named.specs.Named.{IsNamed, answer_of, key_of}
 use Rattle.infer_named.specs.declared.join.Named.{Named}
 use Rattle.infer_named.specs.declared.join.Standing.{Standing}
 use Rattle.infer_named.specs.declared.join.Standing.TheVariants.{Agree, BytesAlone, BytesRefine, Contradicts, NameAlone, NameRefines, Nothing}
+use Rattle.mime_sniff.specs.Computed.{IsComputed, Supply}
 use Rattle.infer_label.specs.Options.{Options, OwnTypes, no_types, types_at, types_of}
 use Rattle.infer_label.specs.declared.label.Label as code
 use Rattle.infer_label.specs.declared.options.Look.{Look}
@@ -78,13 +79,25 @@ by_built_in t = by_bytes t None false
 abbrev pub IsLabelOf : Named → List ℕ → Label → Type 0
 IsLabelOf n b label = (encoding : Option Encoding) × IsEncodingOf b encoding × (label ≡ by_both (answer_of n) (type_of_name (key_of n)) encoding (is_empty b))
 
--- the label of an input with this name, of which b is looked at: by what the name and b tell; by the wider answer of b; or
--- by its first built-in row
+-- what a browser knows that was told no type, and the label by what it computes of b
+abbrev pub untold : Bool → Supply
+untold no_sniff = record { kind = None; no_sniff = no_sniff; apache_bug = false }
+
+abbrev pub by_browser : Option (List ℕ) → Label
+by_browser told = record { mime_type = told; extension = None; encoding = None; is_empty = false; standing = None; named = None }
+
+abbrev pub IsLabelOfBrowser : Bool → List ℕ → Label → Type 0
+IsLabelOfBrowser no_sniff b label = (told : Option (List ℕ)) × IsComputed (untold no_sniff) b told × (label ≡ by_browser told)
+
+-- the label of an input with this name, of which b is looked at: by what the name and b tell; by the wider answer of b; by
+-- its first built-in row; or by what a browser makes of b
 abbrev pub IsLabelBy : Look → List ℕ → List ℕ → Label → Type 0
 IsLabelBy looks.NameAndBytes name b label = (n : Named) × IsNamed name b n × IsLabelOf n b label
 IsLabelBy looks.Bytes name b label =
     (t : Option Triple) × (encoding : Option Encoding) × IsWiderAnswer b t × IsEncodingOf b encoding × (label ≡ by_bytes t encoding (is_empty b))
 IsLabelBy looks.BuiltIn name b label = (t : Option Triple) × IsAnswer (Accepts b) table t × (label ≡ by_built_in t)
+IsLabelBy looks.Browser name b label = IsLabelOfBrowser false b label
+IsLabelBy looks.BrowserForbidden name b label = IsLabelOfBrowser true b label
 
 -- the label by a type of one's own, by the bytes alone
 abbrev pub IsLabelOfType : Triple → List ℕ → Label → Type 0

@@ -38,6 +38,8 @@ abbrev pub with_flag : Flag → Options → Options
 with_flag flags.Bytes options = record options { look = looks.Bytes }
 with_flag flags.BuiltIn options = record options { look = looks.BuiltIn }
 with_flag flags.Json options = record options { form = Json }
+with_flag flags.Sniff options = record options { look = looks.Browser }
+with_flag flags.NoSniff options = record options { look = looks.BrowserForbidden }
 
 -- what the value of an option changes; of --front it is a number from 1 to 65536
 abbrev pub with_front : Option ℕ → Options → Option Options

@@ -47,7 +47,9 @@ abbrev pub flag_in : List ℕ → Option Flag
 flag_in word =
     if bytes_eq word (codes "--bytes") then Some flags.Bytes
     else (if bytes_eq word (codes "--built-in") then Some flags.BuiltIn
-    else (if bytes_eq word (codes "--json") then Some flags.Json else None))
+    else (if bytes_eq word (codes "--json") then Some flags.Json
+    else (if bytes_eq word (codes "--sniff") then Some flags.Sniff
+    else (if bytes_eq word (codes "--nosniff") then Some flags.NoSniff else None))))
 
 abbrev pub valued_in : List ℕ → Option Valued
 valued_in word =

@@ -7,13 +7,15 @@ ghost use Rattle.infer_named.specs.Named.{key_of, told_listed};
 ghost use Rattle.infer_more.specs.Line.{Row};
 ghost use Rattle.infer_more.specs.Text.{found_shows, rows_of};
 ghost use Rattle.infer_label.specs.Options.{options_listed};
-ghost use Rattle.infer_label.specs.Label.{IsLabel, IsLabelBy, IsLabelOf, IsLabelOfType, IsOwnLabel, contradicted, extension_in, label_listed, mime_type_in};
+ghost use Rattle.infer_label.specs.Label.{IsLabel, IsLabelBy, IsLabelOf, IsLabelOfBrowser, IsLabelOfType, IsOwnLabel, contradicted, extension_in, label_listed, mime_type_in, untold};
+ghost use Rattle.mime_sniff.specs.Computed.{IsComputed};
 
 use crate::options::{Look, Options, OwnTypes};
 use infer::Type;
 use infer_more::text::Encoding;
 use infer_more::types::{self, Found};
 use infer_named::{Named, NamedBy, Standing, Told, named_by};
+use mime_sniff::{Computed, Supplied};
 
 /// What is told of an input.
 #[derive(Clone, Copy)]
@@ -49,7 +51,9 @@ fn by_text<'a>(text: &'a [u8], look: Look, name: &[u8], buf: &[u8]) -> Label<'a>
 {
     match look {
         Look::NameAndBytes => by_all(text, name, buf),
-        Look::Bytes | Look::BuiltIn => by_text_or_bytes(text, look, name, buf),
+        Look::Bytes | Look::BuiltIn | Look::Browser | Look::BrowserForbidden => {
+            by_text_or_bytes(text, look, name, buf)
+        }
     }
 }
 
@@ -97,6 +101,8 @@ fn by_look(look: Look, name: &[u8], buf: &[u8]) -> Label<'static>
         Look::NameAndBytes => by_both(name, buf),
         Look::Bytes => by_bytes(buf),
         Look::BuiltIn => by_built_in(buf),
+        Look::Browser => by_browser(false, buf),
+        Look::BrowserForbidden => by_browser(true, buf),
     }
 }
 
@@ -181,6 +187,34 @@ fn by_built_in(buf: &[u8]) -> Label<'static>
         is_empty: false,
         standing: None,
         named: None,
+    }
+}
+
+/// By what a browser makes of the bytes that was told no type.
+fn by_browser(no_sniff: bool, buf: &[u8]) -> Label<'static>
+    ensures { IsLabelOfBrowser no_sniff buf.now (label_listed result) }
+{
+    Label {
+        mime_type: computed(no_sniff, buf),
+        extension: None,
+        encoding: None,
+        is_empty: false,
+        standing: None,
+        named: None,
+    }
+}
+
+fn computed(no_sniff: bool, buf: &[u8]) -> Option<&'static str>
+    ensures { IsComputed (untold no_sniff) buf.now (option_map (λ m. m.now) result) }
+{
+    let supplied = Supplied {
+        mime_type: None,
+        no_sniff,
+        check_for_apache_bug: false,
+    };
+    match mime_sniff::compute(&supplied, buf) {
+        Computed::Sniffed(mime_type) => Some(mime_type),
+        Computed::Same => None,
     }
 }
 

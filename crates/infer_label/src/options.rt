@@ -14,6 +14,10 @@ pub enum Look {
     Bytes,
     /// The built-in types alone.
     BuiltIn,
+    /// What a browser makes of its bytes that was told no type.
+    Browser,
+    /// The same where sniffing is forbidden.
+    BrowserForbidden,
 }
 
 /// How a line is written.
@@ -34,6 +38,10 @@ pub enum Flag {
     BuiltIn,
     /// `--json`
     Json,
+    /// `--sniff`
+    Sniff,
+    /// `--nosniff`
+    NoSniff,
 }
 
 /// An option whose value is the next word.
@@ -102,6 +110,14 @@ impl<'a> Options<'a> {
             },
             Flag::Json => Options {
                 form: Form::Json,
+                ..self
+            },
+            Flag::Sniff => Options {
+                look: Look::Browser,
+                ..self
+            },
+            Flag::NoSniff => Options {
+                look: Look::BrowserForbidden,
                 ..self
             },
         }

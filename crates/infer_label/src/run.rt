@@ -32,6 +32,8 @@ text, and what the name did, where it did something. Without a PATH, or as -, it
   --front N    by the first N bytes, from 1 to 65536, in place of 8192
   --json       as a line of JSON
   --name NAME  the name of standard input
+  --nosniff    as --sniff, where sniffing is forbidden
+  --sniff      as a browser that was told no type, by the first 1445 bytes
   --types FILE the types of this text first, by the bytes alone
   --           what follows are paths
   --help       this text

@@ -204,6 +204,12 @@ fn flag_in(word: &[u8]) -> Option<Flag>
     if word == b"--json".as_slice() {
         return Some(Flag::Json);
     }
+    if word == b"--sniff".as_slice() {
+        return Some(Flag::Sniff);
+    }
+    if word == b"--nosniff".as_slice() {
+        return Some(Flag::NoSniff);
+    }
     None
 }
 
