@@ -746,12 +746,21 @@ def tests():
     return TEST_HEAD + "".join(TEST.format(number=number, count=len(part), cases="\n".join(part)) for number, part in enumerate(parts))
 
 
+def texts_term():
+    """The definition of sets with the rows of texts, eight a line."""
+    codes = [f'codes "{it}"' for it in TEXTS]
+    lines = [" ∷ ".join(codes[at : at + 8]) for at in range(0, len(codes), 8)]
+    head, found, _ = text_of(f"{CRATE}/specs/Texts.antt").partition("\ntexts =\n")
+    return f"{head}{found}    " + "\n    ∷ ".join(lines) + " ∷ []\n"
+
+
 def made():
     yield f"{CRATE}/src/tests/generated.rt", tests()
     for name, code in (("keys", keys_code), ("texts", texts_code), ("types", types_code), ("sets", sets_code)):
         yield f"{CRATE}/src/table/generated/{name}.rt", code()
     yield f"{CRATE}/specs/Types.antt", types_term()
     yield f"{CRATE}/specs/Sets.antt", sets_term()
+    yield f"{CRATE}/specs/Texts.antt", texts_term()
     lists = range(SLOTS // GROUP)
     for number in lists:
         yield f"{CRATE}/specs/Keys/K{number}.antt", group_term(number)
