@@ -312,7 +312,8 @@ static void widers(void) {
     /* A program header may come that asks for no interpreter; with another type than 3 none makes it a shared object. */
     static const char shared[53] = "\x7F" "ELF\2\1\1\0\0\0\0\0\0\0\0\0\3\0";
     same("wider decided of nothing", infer_more_is_decided(NULL, 0), false);
-    same("wider decided of a program", infer_more_is_decided("MZ", 2), true);
+    same("wider decided of a program", infer_more_is_decided("\0asm\1\0\0", 8), true);
+    same("wider decided of one that may become a kernel", infer_more_is_decided("MZ", 2), false);
     same("decided of a front of a shared object", infer_is_decided(shared, sizeof shared), true);
     same("wider decided of it", infer_more_is_decided(shared, sizeof shared), false);
     same("wider decided of an object", infer_more_is_decided(object, sizeof object), true);
