@@ -1,0 +1,5 @@
+mod Common
+mod ListLemmas
+mod RangeLemmas
+mod PartLemmas
+mod ListedLemmas

@@ -1,0 +1,6 @@
+use Rattle.infer_evidence.proofs.Common.{HasPart, subst}
+use Rattle.infer_evidence.proofs.PartLemmas.{no_text}
+use Rattle.infer_evidence.proofs.weighing.refused.Goals as goal
+
+pub returns-in-AnyText-clause-tells : goal.returns-in-AnyText-clause-tells
+returns-in-AnyText-clause-tells c = λ b same h. no_text _ c.in-AnyText.place b (c.texts_refused.ensures.tells b same) (subst (HasPart b) c.in-AnyText.is h)

@@ -1,0 +1,3 @@
+pub mod Evidence
+pub mod Listed
+pub mod Weighed

@@ -1,0 +1,11 @@
+//! Which bytes of a buffer decide its type: ranges of it, what is needed of its length, and what of a fixed signature
+//! goes into both.
+#![tactic(auto)]
+
+pub mod ranges;
+pub mod signature;
+mod weighing;
+
+pub use ranges::{Evidence, MOST_RANGES, Range};
+pub use signature::{Alternative, Part, Set};
+pub use weighing::{MOST_OF_A_ROW, weigh};

@@ -1,0 +1,123 @@
+//! Ranges of a buffer, and what is needed of its length.
+ghost use Rattle.std.specs.Prelude.{◌≡◌, ◌+◌, ◌≤◌, ℕ, List, [], true, false, length};
+ghost use Rattle.infer_evidence.specs.Evidence.{AgreesOn, IsInside, IsOf, IsSame, Refines, ranges_of};
+ghost use Rattle.infer_evidence.specs.declared.ranges.Evidence.{Evidence};
+
+/// For how many ranges an [`Evidence`] has room.
+pub const MOST_RANGES: usize = 128;
+
+/// Bytes of a buffer: `len` of them from `place` on, and the row of which they tell. Where the length alone tells of the row,
+/// they are none. Those that tell of no row by itself have none: the first byte, which rules out all rows that begin with
+/// another.
+#[derive(Clone, Copy)]
+pub struct Range {
+    pub place: usize,
+    pub len: usize,
+    pub row: Option<usize>,
+}
+
+/// What decides: ranges of a buffer, the least length that is needed, and whether another length is not enough.
+#[derive(Drop)]
+pub struct Evidence {
+    ranges: [Range; MOST_RANGES],
+    count: usize,
+    least: usize,
+    exact: bool,
+}
+
+impl Evidence {
+    /// Evidence that asks for nothing.
+    pub fn new() -> Evidence
+        ensures ranges { ranges_of result ≡ [] }
+        ensures least { result.least ≡ 0 }
+        ensures exact { result.exact ≡ false }
+    {
+        let nothing = Range {
+            place: 0,
+            len: 0,
+            row: None,
+        };
+        Evidence {
+            ranges: [nothing; MOST_RANGES],
+            count: 0,
+            least: 0,
+            exact: false,
+        }
+    }
+
+    /// The ranges.
+    pub fn ranges(&self) -> &[Range]
+        ensures { result.now ≡ ranges_of self.now }
+    {
+        &self.ranges[..self.count.min(MOST_RANGES)]
+    }
+
+    /// How many ranges are wanted. If there are more than [`MOST_RANGES`], those that there is room for are not enough.
+    pub fn wanted(&self) -> usize
+        ensures { result ≡ self.now.count }
+    {
+        self.count
+    }
+
+    /// The least length that is needed.
+    pub fn least(&self) -> usize
+        ensures { result ≡ self.now.least }
+    {
+        self.least
+    }
+
+    /// Whether just the length that the buffer has is needed.
+    pub fn is_exact(&self) -> bool
+        ensures { result ≡ self.now.exact }
+    {
+        self.exact
+    }
+
+    /// Asks for nothing any more.
+    pub fn clear(&mut self)
+        ensures ranges { ranges_of self.new ≡ [] }
+        ensures count { self.new.count ≡ 0 }
+        ensures least { self.new.least ≡ 0 }
+        ensures exact { self.new.exact ≡ false }
+    {
+        self.count = 0;
+        self.least = 0;
+        self.exact = false;
+    }
+
+    /// Asks for the bytes of one range more.
+    #[tactic(auto, using(crate::proofs::RangeLemmas::one_more, crate::proofs::RangeLemmas::one_more_inside, crate::proofs::RangeLemmas::no_more))]
+    pub fn push(&mut self, range: Range)
+        ensures same { (b c : List ℕ) → AgreesOn self.new b c → AgreesOn self.old b c
+            × IsSame b c range }
+        ensures inside { (b : List ℕ) → IsOf self.old b → IsInside b range → IsOf self.new b }
+        ensures few { self.new.count ≤ self.old.count + 1 }
+    {
+        if self.count >= MOST_RANGES {
+            self.count = self.count.saturating_add(1);
+            return;
+        }
+        self.ranges[self.count] = range;
+        self.count += 1;
+    }
+
+    /// Asks for that many bytes at least.
+    pub fn ask_least(&mut self, n: usize)
+        ensures long { (b c : List ℕ) → AgreesOn self.new b c → AgreesOn self.old b c
+            × (n ≤ length c) }
+        ensures inside { (b : List ℕ) → IsOf self.old b → n ≤ length b → IsOf self.new b }
+        ensures few { self.new.count ≡ self.old.count }
+    {
+        self.least = self.least.max(n);
+    }
+
+    /// Asks for just the length that the buffer has.
+    pub fn ask_exact(&mut self)
+        ensures exact { (b c : List ℕ) → AgreesOn self.new b c → AgreesOn self.old b c
+            × (length c ≡ length b) }
+        ensures inside { (b : List ℕ) → IsOf self.old b → IsOf self.new b }
+        ensures few { self.new.count ≡ self.old.count }
+    {
+        self.exact = true;
+    }
+}

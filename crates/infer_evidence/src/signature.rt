@@ -1,0 +1,44 @@
+//! Fixed signatures as data that the code reads.
+ghost use Rattle.std.specs.Prelude.{◌≡◌};
+ghost use Rattle.infer_evidence.specs.Listed.{set_listed};
+ghost use Rattle.infer_sig.specs.Signature.{allows};
+
+/// A set of bytes.
+#[derive(Drop)]
+pub enum Set {
+    /// These.
+    AnyOf(&'static [u8]),
+    /// Those from the first to the second.
+    Between(u8, u8),
+    /// All but this.
+    AllBut(u8),
+}
+
+/// What a signature asks of places.
+#[derive(Drop)]
+pub enum Part {
+    /// These bytes, from the place on.
+    Text(usize, &'static [u8]),
+    /// The bytes of one of these texts, from the place on.
+    AnyText(usize, &'static [&'static [u8]]),
+    /// At the place a byte of the set.
+    Byte(usize, Set),
+}
+
+/// A least length, and parts.
+#[derive(Drop)]
+pub struct Alternative {
+    pub least: usize,
+    pub parts: &'static [Part],
+}
+
+/// Whether the byte is in the set.
+pub(crate) fn allows(set: &Set, byte: u8) -> bool
+    ensures { result ≡ allows (set_listed set.now) byte }
+{
+    match set {
+        Set::AnyOf(bytes) => bytes.contains(&byte),
+        Set::Between(low, high) => *low <= byte && byte <= *high,
+        Set::AllBut(other) => byte != *other,
+    }
+}

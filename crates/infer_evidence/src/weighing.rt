@@ -1,0 +1,317 @@
+//! The bytes of a buffer by which a fixed signature accepts it, or does not.
+ghost use Rattle.std.specs.Prelude.{◌≡◌, ◌↔◌, ◌+◌, ◌<◌, ◌≤◌, ℕ, List, All, Any, IfSome, IsTrue, None, length, slice_index, true};
+ghost use Rattle.infer_deep.specs.Open.{AgreesAt};
+ghost use Rattle.infer_evidence.specs.Evidence.{AgreesOn, IsInside, IsOf, IsSame};
+ghost use Rattle.infer_evidence.specs.Listed.{signature_listed};
+ghost use Rattle.infer_evidence.specs.Weighed.{Differs, HasAlternative, HasPart, IsSameTo, StandsNone, is_small};
+ghost use Rattle.infer_evidence.specs.declared.weighing.TheConstants.{MOST_OF_A_ROW};
+ghost use Rattle.infer_sig.specs.Places.{StandsByPlace};
+ghost use Rattle.infer_sig.specs.Signature.{accepts};
+
+use crate::ranges::{Evidence, Range};
+use crate::signature::{Alternative, Part, allows};
+use infer_deep::places::stands_at;
+use infer_sig::laws;
+
+/// How many ranges a row asks for at most, if its signature is small.
+pub const MOST_OF_A_ROW: usize = 4;
+
+/// Why a buffer has not what a part asks: the bytes of a range, and its length if that is needed too.
+#[derive(Drop)]
+struct Refusal {
+    range: Range,
+    exact: bool,
+}
+
+/// Whether `text` stands in `buf` from `place` on.
+#[inline(always)]
+fn stands(buf: &[u8], text: &[u8], place: usize) -> bool
+    ensures { IsTrue result ↔ StandsByPlace place text.now buf.now }
+{
+    text.is_empty() || stands_at(buf, text, place)
+}
+
+/// The first of the texts that stands in `buf` from `place` on.
+fn standing<'a>(buf: &[u8], texts: &[&'a [u8]], place: usize) -> Option<&'a [u8]>
+    ensures some { IfSome result (λ t. StandsByPlace place t.now buf.now) }
+    ensures among { IfSome result (λ t. Any (λ u. u.now ≡ t.now) texts.now) }
+    ensures none { result ≡ None → StandsNone place texts.now buf.now }
+{
+    for text in texts {
+        if stands(buf, text, place) {
+            return Some(text);
+        }
+    }
+    None
+}
+
+/// The first place from `place` on at which `buf` has a byte, and not that of `text`.
+fn difference(buf: &[u8], text: &[u8], place: usize) -> Option<usize>
+    ensures some { IfSome result (λ k. Differs place text.now buf.now k) }
+    ensures none { result ≡ None → AgreesAt buf.now text.now place }
+{
+    let end = buf.len().min(place.saturating_add(text.len()));
+    for k in place..end {
+        if buf[k] != text[k - place] {
+            return Some(k);
+        }
+    }
+    None
+}
+
+/// The length of the longest of the texts.
+fn longest(texts: &[&[u8]]) -> usize
+    ensures { All (λ t. length t.now ≤ result) texts.now }
+{
+    let mut longest = 0;
+    for text in texts {
+        longest = longest.max(text.len());
+    }
+    longest
+}
+
+/// Whether the buffer has what the part asks.
+fn has_part(part: &Part, buf: &[u8]) -> bool
+    ensures { IsTrue result ↔ HasPart buf.now part.now }
+{
+    match part {
+        Part::Text(place, text) => stands(buf, text, *place),
+        Part::AnyText(place, texts) => standing(buf, texts, *place).is_some(),
+        Part::Byte(place, set) => *place < buf.len() && allows(set, buf[*place]),
+    }
+}
+
+/// The bytes of a text that stands in the buffer.
+fn text_held(text: &[u8], place: usize, buf: &[u8], row: Option<usize>) -> Range
+    requires { StandsByPlace place text.now buf.now }
+    ensures inside { IsInside buf.now result }
+    ensures tells { (c : List ℕ) → IsSame buf.now c result → StandsByPlace place text.now c }
+{
+    Range {
+        place: place.min(buf.len()),
+        len: text.len(),
+        row,
+    }
+}
+
+/// The bytes by which the buffer has what the part asks.
+fn held(part: &Part, buf: &[u8], row: Option<usize>) -> Range
+    requires { HasPart buf.now part.now }
+    ensures inside { IsInside buf.now result }
+    ensures tells { (c : List ℕ) → IsSame buf.now c result → HasPart c part.now }
+{
+    match part {
+        Part::Text(place, text) => text_held(text, *place, buf, row),
+        Part::AnyText(place, texts) => match standing(buf, texts, *place) {
+            Some(text) => text_held(text, *place, buf, row),
+            None => text_held(&[], 0, buf, row),
+        },
+        Part::Byte(place, _) => Range {
+            place: *place,
+            len: 1,
+            row,
+        },
+    }
+}
+
+/// Why the buffer has not the text at that place.
+fn text_refused(text: &[u8], place: usize, buf: &[u8], row: Option<usize>) -> Refusal
+    requires { ¬ StandsByPlace place text.now buf.now }
+    ensures inside { IsInside buf.now result.range }
+    ensures tells { (c : List ℕ) → IsSameTo buf.now c result → ¬ StandsByPlace place text.now c }
+{
+    match difference(buf, text, place) {
+        Some(place) => Refusal {
+            range: Range { place, len: 1, row },
+            exact: false,
+        },
+        None => short(row),
+    }
+}
+
+/// Why the buffer has none of the texts at that place: what it has where the longest would stand.
+fn texts_refused(texts: &[&[u8]], place: usize, buf: &[u8], row: Option<usize>) -> Refusal
+    requires { StandsNone place texts.now buf.now }
+    ensures inside { IsInside buf.now result.range }
+    ensures tells { (c : List ℕ) → IsSameTo buf.now c result → StandsNone place texts.now c }
+{
+    let longest = longest(texts);
+    let place = place.min(buf.len());
+    let len = longest.min(buf.len() - place);
+    Refusal {
+        range: Range { place, len, row },
+        exact: len < longest,
+    }
+}
+
+/// No bytes, and the length.
+fn short(row: Option<usize>) -> Refusal
+    ensures { result ≡ record { range = record { place = 0; len = 0; row = row }; exact = true } }
+{
+    Refusal {
+        range: Range {
+            place: 0,
+            len: 0,
+            row,
+        },
+        exact: true,
+    }
+}
+
+/// Why the buffer has not what the part asks.
+fn refused(part: &Part, buf: &[u8], row: Option<usize>) -> Refusal
+    requires { ¬ HasPart buf.now part.now }
+    ensures inside { IsInside buf.now result.range }
+    ensures tells { (c : List ℕ) → IsSameTo buf.now c result → ¬ HasPart c part.now }
+{
+    match part {
+        Part::Text(place, text) => text_refused(text, *place, buf, row),
+        Part::AnyText(place, texts) => texts_refused(texts, *place, buf, row),
+        Part::Byte(place, _) => byte_refused(*place, buf, row),
+    }
+}
+
+/// The byte at the place, or that there is none.
+fn byte_refused(place: usize, buf: &[u8], row: Option<usize>) -> Refusal
+    ensures inside { IsInside buf.now result.range }
+    ensures tells { (c : List ℕ) → IsSameTo buf.now c result → place < length c
+        → (place < length buf.now) × (slice_index c place ≡ slice_index buf.now place) }
+{
+    if place >= buf.len() {
+        return short(row);
+    }
+    Refusal {
+        range: Range { place, len: 1, row },
+        exact: false,
+    }
+}
+
+/// The first part that the buffer lacks.
+fn lacking<'a>(parts: &'a [Part], buf: &[u8]) -> Option<&'a Part>
+    ensures some { IfSome result (λ part. ¬ HasPart buf.now part.now) }
+    ensures among { IfSome result (λ part. Any (λ other. other ≡ part.now) parts.now) }
+    ensures none { result ≡ None → All (HasPart buf.now) parts.now }
+{
+    for part in parts {
+        if !has_part(part, buf) {
+            return Some(part);
+        }
+    }
+    None
+}
+
+/// The bytes by which the buffer lacks a part, whatever its length is, if it lacks some part so.
+fn refused_by_bytes(parts: &[Part], buf: &[u8], row: Option<usize>) -> Option<Range>
+    ensures inside { IfSome result (IsInside buf.now) }
+    ensures tells { IfSome result (λ range. (c : List ℕ) → IsSame buf.now c range
+        → ¬ All (HasPart c) parts.now) }
+{
+    for part in parts {
+        if !has_part(part, buf) {
+            let refusal = refused(part, buf, row);
+            if !refusal.exact {
+                return Some(refusal.range);
+            }
+        }
+    }
+    None
+}
+
+/// Whether the buffer has what the alternative asks.
+fn fits(alternative: &Alternative, buf: &[u8]) -> bool
+    ensures { IsTrue result ↔ HasAlternative buf.now alternative.now }
+{
+    alternative.least <= buf.len() && lacking(alternative.parts, buf).is_none()
+}
+
+/// The first alternative that the buffer has.
+fn fitting<'a>(signature: &'a [Alternative], buf: &[u8]) -> Option<&'a Alternative>
+    ensures some { IfSome result (λ a. HasAlternative buf.now a.now) }
+    ensures among { IfSome result (λ a. Any (λ other. other ≡ a.now) signature.now) }
+    ensures none { result ≡ None → All (λ a. ¬ HasAlternative buf.now a) signature.now }
+{
+    for alternative in signature {
+        if fits(alternative, buf) {
+            return Some(alternative);
+        }
+    }
+    None
+}
+
+/// Asks for that by which the buffer has the alternative.
+fn accept(alternative: &Alternative, buf: &[u8], row: Option<usize>, evidence: &mut Evidence)
+    requires { HasAlternative buf.now alternative.now }
+    ensures tells { (c : List ℕ) → AgreesOn evidence.new buf.now c → AgreesOn evidence.old buf.now c
+        × HasAlternative c alternative.now }
+    ensures inside { IsOf evidence.old buf.now → IsOf evidence.new buf.now }
+    ensures few { evidence.new.count ≤ evidence.old.count + length alternative.now.parts.now }
+{
+    evidence.ask_least(alternative.least);
+    for part in alternative.parts {
+        evidence.push(held(part, buf, row));
+    }
+}
+
+/// Asks for that by which the buffer lacks the alternative: for bytes rather than for its length.
+fn refuse(alternative: &Alternative, buf: &[u8], row: Option<usize>, evidence: &mut Evidence)
+    requires { ¬ HasAlternative buf.now alternative.now }
+    ensures tells { (c : List ℕ) → AgreesOn evidence.new buf.now c → AgreesOn evidence.old buf.now c
+        × ¬ HasAlternative c alternative.now }
+    ensures inside { IsOf evidence.old buf.now → IsOf evidence.new buf.now }
+    ensures few { evidence.new.count ≤ evidence.old.count + 1 }
+{
+    if let Some(range) = refused_by_bytes(alternative.parts, buf, row) {
+        evidence.push(range);
+        return;
+    }
+    evidence.ask_exact();
+    if alternative.least <= buf.len()
+        && let Some(part) = lacking(alternative.parts, buf)
+    {
+        evidence.push(refused(part, buf, row).range);
+    } else {
+        evidence.push(short(row).range);
+    }
+}
+
+/// Asks for that by which the buffer lacks each of the alternatives.
+fn refuse_all(signature: &[Alternative], buf: &[u8], row: Option<usize>, evidence: &mut Evidence)
+    requires { All (λ a. ¬ HasAlternative buf.now a) signature.now }
+    ensures tells { (c : List ℕ) → AgreesOn evidence.new buf.now c → AgreesOn evidence.old buf.now c
+        × All (λ a. ¬ HasAlternative c a) signature.now }
+    ensures inside { IsOf evidence.old buf.now → IsOf evidence.new buf.now }
+    ensures few { evidence.new.count ≤ evidence.old.count + length signature.now }
+{
+    for alternative in signature {
+        refuse(alternative, buf, row, evidence);
+    }
+}
+
+/// Whether a signature accepts the buffer, and asks for what tells that it does so, or that it does not. What is asked for
+/// is said to be of that row.
+pub fn weigh(
+    signature: &[Alternative],
+    buf: &[u8],
+    row: Option<usize>,
+    evidence: &mut Evidence,
+) -> bool
+    ensures answer { IsTrue result ↔ IsTrue (accepts (signature_listed signature.now) buf.now) }
+    ensures tells { (c : List ℕ) → AgreesOn evidence.new buf.now c → AgreesOn evidence.old buf.now c
+        × (IsTrue (accepts (signature_listed signature.now) c)
+        ↔ IsTrue (accepts (signature_listed signature.now) buf.now)) }
+    ensures inside { IsOf evidence.old buf.now → IsOf evidence.new buf.now }
+    ensures few { IsTrue (is_small signature.now)
+        → evidence.new.count ≤ evidence.old.count + MOST_OF_A_ROW }
+{
+    laws::by_place();
+    match fitting(signature, buf) {
+        Some(alternative) => {
+            accept(alternative, buf, row, evidence);
+            true
+        }
+        None => {
+            refuse_all(signature, buf, row, evidence);
+            false
+        }
+    }
+}
