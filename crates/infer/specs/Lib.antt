@@ -41,6 +41,7 @@ pub mod Leads
 pub mod Walks
 pub mod Arms
 pub mod Decided
+pub mod Evidence
 pub mod Laws
 pub mod Samples
 pub mod Listed

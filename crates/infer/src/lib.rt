@@ -13,7 +13,7 @@
 //! Each module uses only those before it: `table`, the rows and their types; `ask`, a question and one row;
 //! `candidates`, the rows that a first byte allows, asked in order, and those that a text can name; `answers`, what the
 //! built-in rows answer; `texts`, questions with a text; `decided`, what more bytes can change; `beginnings`, after which
-//! they can change it from 1024 bytes on; `read`, the front of a reader; `caller`, an [`Infer`] and its rows; `laws`, facts
+//! they can change it from 1024 bytes on; `why`, which bytes decide it; `read`, the front of a reader; `caller`, an [`Infer`] and its rows; `laws`, facts
 //! about all of these; `samples`.
 #![tactic(auto)]
 
@@ -37,6 +37,7 @@ mod read;
 mod samples;
 mod table;
 pub mod texts;
+mod why;
 
 pub use answers::{get, position, row};
 pub use ask::question::accepts;
@@ -59,6 +60,7 @@ use std::rt::Files;
 pub use table::file_type::{FileType as Type, Matcher, MatcherType};
 pub use table::rows as rows;
 use table::rows::ROW_COUNT;
+pub use why::evidence;
 
 /// The type of the first built-in row that accepts the first 8192 bytes of a file, or all if it has fewer, and
 /// `None` exactly if no row accepts them.

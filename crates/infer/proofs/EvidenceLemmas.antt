@@ -1,0 +1,115 @@
+-- What is listed of a row.
+use Rattle.infer.proofs.Common.{◌≡◌, ◌+◌, ◌-◌, ◌<◌, ◌≤◌, ◌∙◌, ℕ, List, Option, None, Some, IfSome, IsTrue, true, ap, arith, refl, length, sym, subst, slice_get, get_or, Bor, signature_of, BuiltIn, fixed, length-range_with_len, length-map, option_map_or, [], Row, IsBuffer, MatchOption, Accepts, MayBecomeRow, IsAccepted, RowHas, table, ◌⊎◌, ◌↔◌, ◌++◌, inl, inr, take, drop, Lasts, length-take-le, get_or-take, take-append-drop, Bool, false, false≢true, AllWithin, AllWithin-more, AllWithin-upto, IsFirstAmong, get_or_default, candidates, candidates_of, ◌∷◌}
+use Rattle.std.proofs.Math.ListN.{get_or-map}
+use Rattle.std.proofs.lemmas.List.FromFn.{get_or-map-range_with_len}
+use Rattle.std.proofs.lemmas.Grind.{same_number_lists}
+use Rattle.std.proofs.lemmas.List.Elements.{All-drop, All-from_get_or}
+use Rattle.std.proofs.lemmas.List.Prefix.{front_from_reads}
+use Rattle.std.proofs.lemmas.List.Sums.{AllPass-from_list_all}
+use Rattle.std.proofs.lemmas.Option.{get_or_from_slice_get, slice_get_within}
+use Rattle.infer.proofs.AskLemmas.{none_among}
+use Rattle.infer.proofs.TableLemmas.{row_accepts}
+use Rattle.infer.specs.Evidence.{AreListed, IsTold, fixed_listed, fixed_of}
+use Rattle.infer_sig.specs.Signature as signature
+use Rattle.infer_sig.specs.Signature.{accepts}
+use Rattle.infer_evidence.specs.Listed.{signature_listed}
+use Rattle.infer_evidence.specs.Weighed.{is_small}
+use Rattle.infer_evidence.specs.declared.signature.Alternative.{Alternative}
+
+module _ (first n : ℕ) (rows : List (Option (Bor (List Alternative)))) (h : AreListed first n rows) (i : ℕ) (s : Option (Bor (List Alternative))) (found : slice_get rows i ≡ Some s) where
+  inside : i < n
+  inside = grind (arith, slice_get_within rows i s found, h.same, length-map, length-range_with_len)
+
+  here : get_or rows i s ≡ s
+  here = get_or_from_slice_get rows i s s found
+
+  pub listed_at : fixed_of (signature_of (first + i)) ≡ fixed_listed s
+  listed_at =
+      sym (get_or-map-range_with_len (λ j. fixed_of (signature_of j)) first n i (first + i) (fixed_listed s) inside refl)
+      ∙ ap (λ xs. get_or xs i (fixed_listed s)) (sym h.same)
+      ∙ get_or-map fixed_listed rows i s
+      ∙ ap fixed_listed here
+
+  -- and it is small
+  pub small_at : IsTrue (option_map_or (λ alternatives. is_small alternatives.now) s true)
+  small_at = subst (λ t. IsTrue (option_map_or (λ alternatives. is_small alternatives.now) t true)) here
+      (AllPass-from_list_all (λ t. option_map_or (λ alternatives. is_small alternatives.now) t true) rows h.small i s (slice_get_within rows i s found))
+
+-- a signature of which the bytes at fixed places are these is that of these
+pub fixed_by : (s : BuiltIn) (alternatives : List signature.Alternative) → fixed_of s ≡ Some alternatives → s ≡ fixed alternatives
+fixed_by (fixed own) alternatives e = grind (arith)
+fixed_by s alternatives e = absurd (cc)
+
+-- what is listed at a row's place is its signature
+pub row_listed_at : (row first n : ℕ) (rows : List (Option (Bor (List Alternative)))) → first ≤ row → AreListed first n rows
+    → (s : Option (Bor (List Alternative))) → slice_get rows (row - first) ≡ Some s
+    → IfSome s (λ a. (signature_of row ≡ fixed (signature_listed a.now)) × IsTrue (is_small a.now))
+row_listed_at row first n rows le h None found = tt
+row_listed_at row first n rows le h (Some a) found =
+    let place : first + (row - first) ≡ row = omega arith in (
+      fixed_by (signature_of row) (signature_listed a.now)
+          (subst (λ i. fixed_of (signature_of i) ≡ Some (signature_listed a.now)) place (listed_at first n rows h (row - first) (Some a) found)),
+      small_at first n rows h (row - first) (Some a) found,
+    )
+
+-- a front tells of a row if it is accepted or nothing that begins so is
+module _ (lasts : (s : BuiltIn) → Lasts (IsAccepted s)) where
+  row_told : (o : Option (Row BuiltIn)) (f v w : List ℕ) → IsBuffer v → IsBuffer w
+      → MatchOption o ⊥ (Accepts f) ⊎ ¬ MatchOption o ⊥ (MayBecomeRow f)
+      → MatchOption o ⊥ (Accepts (f ++ w)) ↔ MatchOption o ⊥ (Accepts (f ++ v))
+  row_told None f v w bytes more told = (λ h. absurd h, λ h. absurd h)
+  row_told (Some r) f v w bytes more told =
+      elim told as (λ t. Accepts (f ++ w) r ↔ Accepts (f ++ v) r) [
+        | inl here ↦ (λ h. lasts r.signature f v here, λ h. lasts r.signature f w here)
+        | inr never ↦ (λ h. absurd (never (w, more, h)), λ h. absurd (never (v, bytes, h)))
+      ]
+
+  pub front_tells : (b c : List ℕ) (n i : ℕ) → IsBuffer b → IsBuffer c → n ≤ length b → IsTold (take n b) i
+      → ((k : ℕ) → k < n → (k < length c) × (get_or c k 0 ≡ get_or b k 0)) → RowHas (Accepts c) i ↔ RowHas (Accepts b) i
+  front_tells b c n i bytes others le told same =
+      let f = take n b in
+      let long : length f ≡ n = length-take-le n b le in
+      let begins : c ≡ f ++ drop (length f) c =
+      front_from_reads 0 c f (grind (arith, same (n - 1))) (λ k lt. grind (arith, same k, get_or-take)) in
+      subst (λ x. RowHas (Accepts x) i ↔ RowHas (Accepts b) i) (sym begins)
+      (subst (λ y. RowHas (Accepts (f ++ drop (length f) c)) i ↔ RowHas (Accepts y) i) (take-append-drop n b)
+      (row_told (slice_get table i) f (drop n b) (drop (length f) c) (All-drop (λ x. x < 256) n b bytes) (All-drop (λ x. x < 256) (length f) c others) told))
+
+-- what has all bytes of a buffer, and its length, is the buffer
+pub whole_tells : (b c : List ℕ) (i : ℕ) → length c ≡ length b → ((k : ℕ) → k < length b → (k < length c) × (get_or c k 0 ≡ get_or b k 0))
+    → RowHas (Accepts c) i ↔ RowHas (Accepts b) i
+whole_tells b c i long same =
+    let is : c ≡ b = same_number_lists c b long (λ k lt. (same k (omega (arith, long))).1) in
+    subst (λ x. RowHas (Accepts x) i ↔ RowHas (Accepts b) i) (sym is) (λ h. h, λ h. h)
+
+-- the bytes of a buffer are bytes
+pub buffer_by_reads : (b : List ℕ) → ((i : ℕ) → get_or b i 0 < 256) → IsBuffer b
+buffer_by_reads b h = All-from_get_or (λ x. x < 256) b 0 (λ i lt. h i)
+
+-- the row with this fixed signature accepts what the signature does
+pub row_fixed : (i : ℕ) (alternatives : List signature.Alternative) → signature_of i ≡ fixed alternatives → (b : List ℕ)
+    → IsTrue (accepts alternatives b) ↔ RowHas (Accepts b) i
+row_fixed i alternatives e b = subst (λ s. IsAccepted s b ↔ RowHas (Accepts b) i) e (row_accepts b i)
+
+-- of one number more it is known that it has not the property
+pub none_more : (P : ℕ → Type 0) (xs : List ℕ) (i : ℕ) → i < length xs → AllWithin (λ x. ¬ P x) xs 0 i → ¬ P (get_or xs i 0)
+    → AllWithin (λ x. ¬ P x) xs 0 (i + 1)
+none_more P xs i lt before here = AllWithin-more (λ x. ¬ P x) xs 0 i before (λ d h. here (subst P (get_or_default xs i d 0 lt) h))
+
+-- and so of all of them
+pub none_of_all : (P : ℕ → Type 0) (xs : List ℕ) (i : ℕ) → length xs ≤ i → AllWithin (λ x. ¬ P x) xs 0 i → IsFirstAmong P xs None
+none_of_all P xs i le before = none_among P xs (AllWithin-upto (λ x. ¬ P x) xs 0 i (length xs) le before)
+
+-- a test that fails refutes what it decides
+pub refuted_by : {P : Type 0} {r : Bool} → r ≡ false → IsTrue r ↔ P → ¬ P
+refuted_by e tells h = false≢true (sym e ∙ tells.1 h)
+
+-- what holds just where another thing does fails where that fails
+pub refuted_too : {P Q : Type 0} → P ↔ Q → ¬ Q → ¬ P
+refuted_too same none h = none (same.0 h)
+
+-- buffers with the same first byte have the same candidates
+pub same_candidates : (b c : List ℕ) → 0 < length b → 0 < length c → get_or c 0 0 ≡ get_or b 0 0 → candidates_of c ≡ candidates_of b
+same_candidates [] c some more e = absurd (omega (arith, some))
+same_candidates (x ∷ xs) [] some more e = absurd (omega (arith, more))
+same_candidates (x ∷ xs) (y ∷ ys) some more e = ap candidates e

@@ -1,0 +1,15 @@
+use Rattle.infer.proofs.EvidenceLemmas.{row_fixed}
+use Rattle.infer.proofs.why.weigh_row.Goals as goal
+
+pub returns-in-Some-clause-answer : goal.returns-in-Some-clause-answer
+returns-in-Some-clause-answer c =
+    let same = row_fixed c.args.row _ c.in-Some.ensures.0 c.args.buf.now in
+    let answer = c.weigh.ensures.answer in
+    (λ yes. same.0 (answer.0 yes), λ h. answer.1 (same.1 h))
+
+pub returns-in-Some-clause-tells : goal.returns-in-Some-clause-tells
+returns-in-Some-clause-tells c = λ b bytes agrees.
+    let here = row_fixed c.args.row _ c.in-Some.ensures.0 c.args.buf.now in
+    let there = row_fixed c.args.row _ c.in-Some.ensures.0 b in
+    let told = c.weigh.ensures.tells b agrees in
+    (told.0, (λ h. here.0 (told.1.0 (there.1 h)), λ h. there.0 (told.1.1 (here.1 h))))

@@ -1,0 +1,37 @@
+use Rattle.infer.proofs.Common.{Accepts, RowHas, arith}
+use Rattle.infer.proofs.AskLemmas.{found_among}
+use Rattle.infer.proofs.EvidenceLemmas.{none_more, none_of_all, refuted_by, refuted_too}
+use Rattle.infer.proofs.why.weigh_rows.Goals as goal
+
+pub returns-then-weigh_row-clause-first : goal.returns-then-weigh_row-clause-first
+returns-then-weigh_row-clause-first c =
+    found_among (RowHas (Accepts c.args.buf.now)) c.args.rows.now c.loop-row.row-index 0 c.loop-row-test.true (c.weigh_row.ensures.answer.0 c.if-weigh_row.true)
+    c.loop-row.invariant.refused
+
+pub returns-then-weigh_row-clause-tells : goal.returns-then-weigh_row-clause-tells
+returns-then-weigh_row-clause-tells c = λ b bytes agrees.
+    let told = c.weigh_row.ensures.tells b bytes agrees in
+    let before = c.loop-row.invariant.tells b bytes told.0 in (
+      before.0,
+      found_among (RowHas (Accepts b)) c.args.rows.now c.loop-row.row-index 0 c.loop-row-test.true (told.1.1 (c.weigh_row.ensures.answer.0 c.if-weigh_row.true)) before.1,
+    )
+
+pub loop-row-preserved : goal.loop-row-preserved
+loop-row-preserved c =
+    let here = refuted_by c.if-weigh_row.false c.weigh_row.ensures.answer in record {
+      refused = none_more (RowHas (Accepts c.args.buf.now)) _ _ c.loop-row-test.true c.loop-row.invariant.refused here;
+      tells = λ b bytes agrees.
+          let told = c.weigh_row.ensures.tells b bytes agrees in
+          let before = c.loop-row.invariant.tells b bytes told.0 in
+          (before.0, none_more (RowHas (Accepts b)) _ _ c.loop-row-test.true before.1 (refuted_too told.1 here));
+      inside = λ of. c.weigh_row.ensures.inside (c.loop-row.invariant.inside of);
+      few = let before = c.loop-row.invariant.few in let now = c.weigh_row.ensures.few in omega arith;
+    }
+
+pub returns-clause-first : goal.returns-clause-first
+returns-clause-first c = none_of_all (RowHas (Accepts c.args.buf.now)) _ c.loop-row.row-index (grind arith) c.loop-row.invariant.refused
+
+pub returns-clause-tells : goal.returns-clause-tells
+returns-clause-tells c = λ b bytes agrees.
+    let before = c.loop-row.invariant.tells b bytes agrees in
+    (before.0, none_of_all (RowHas (Accepts b)) c.args.rows.now c.loop-row.row-index (grind arith) before.1)

@@ -1,0 +1,151 @@
+//! The bytes of a buffer that decide its answer.
+ghost use Rattle.std.specs.Prelude.{◌≡◌, ◌↔◌, ◌+◌, ◌*◌, ◌<◌, ◌≤◌, IfSome, IsTrue, length, take};
+ghost use Rattle.infer.specs.Evidence.{Decides, IsTold, TellsFirst, TellsRow};
+ghost use Rattle.infer.specs.First.{IsFirstOf};
+ghost use Rattle.infer.specs.Row.{Accepts};
+ghost use Rattle.infer.specs.Table.{table};
+ghost use Rattle.infer.specs.Walks.{IsFirstAmong, RowHas};
+ghost use Rattle.infer_evidence.specs.Evidence.{IsOf};
+
+use crate::ask::question::accepts;
+use crate::candidates::dispatch::{arm_of, blank, candidates_at, leads};
+use crate::decided::may_become;
+use crate::table::rows::{MOST_CANDIDATES, ROW_COUNT};
+use infer_evidence::{Evidence, MOST_OF_A_ROW, Range, weigh};
+
+mod signatures;
+
+use signatures::signature;
+
+/// How long the first front is that is tried.
+const FIRST_FRONT: usize = 8;
+
+/// Whether these bytes tell if the row accepts a buffer that begins with them.
+fn is_told(row: usize, front: &[u8]) -> bool
+    ensures { IsTrue result ↔ IsTold front.now row }
+{
+    accepts(front, row) || !may_become(front, row)
+}
+
+/// The length of a front of the buffer that tells of the row, at most twice that of the shortest, and `None` if only
+/// longer buffers tell.
+fn told_front(row: usize, buf: &[u8]) -> Option<usize>
+    ensures { IfSome result (λ n. (n ≤ length buf.now) × IsTold (take n buf.now) row) }
+{
+    let mut n = FIRST_FRONT;
+    while n < buf.len() {
+        if is_told(row, &buf[..n]) {
+            return Some(n);
+        }
+        n = n.saturating_mul(2);
+    }
+    is_told(row, buf).then_some(buf.len())
+}
+
+/// The length of the shortest front that tells of the row, if one of `high` bytes does.
+fn shortest_front(row: usize, buf: &[u8], mut high: usize) -> usize
+    requires within { high ≤ length buf.now }
+    requires told { IsTold (take high buf.now) row }
+    ensures within { result ≤ length buf.now }
+    ensures told { IsTold (take result buf.now) row }
+{
+    let mut low = 0;
+    while low < high {
+        let middle = low + (high - low) / 2;
+        if is_told(row, &buf[..middle]) {
+            high = middle;
+        } else {
+            low = middle + 1;
+        }
+    }
+    high
+}
+
+/// The bytes of a front, which tell of the row.
+fn front(len: usize, row: usize) -> Range
+    ensures place { result.place ≡ 0 }
+    ensures len { result.len ≡ len }
+{
+    Range {
+        place: 0,
+        len,
+        row: Some(row),
+    }
+}
+
+/// Asks for the shortest front that tells of the row, and for the whole buffer if none does.
+fn weigh_front(row: usize, buf: &[u8], evidence: &mut Evidence)
+    ensures tells { TellsRow evidence.old evidence.new buf.now row }
+    ensures inside { IsOf evidence.old buf.now → IsOf evidence.new buf.now }
+    ensures few { evidence.new.count ≤ evidence.old.count + 1 }
+{
+    infer_sig::laws::growth();
+    infer_deep::laws::growth();
+    match told_front(row, buf) {
+        Some(high) => evidence.push(front(shortest_front(row, buf, high), row)),
+        None => {
+            evidence.push(front(buf.len(), row));
+            evidence.ask_exact();
+        }
+    }
+}
+
+/// Whether the row accepts the buffer, and asks for what tells it.
+fn weigh_row(row: usize, buf: &[u8], evidence: &mut Evidence) -> bool
+    ensures answer { IsTrue result ↔ RowHas (Accepts buf.now) row }
+    ensures tells { TellsRow evidence.old evidence.new buf.now row }
+    ensures inside { IsOf evidence.old buf.now → IsOf evidence.new buf.now }
+    ensures few { evidence.new.count ≤ evidence.old.count + MOST_OF_A_ROW }
+{
+    match signature(row) {
+        Some(signature) => weigh(signature, buf, Some(row), evidence),
+        None => {
+            weigh_front(row, buf, evidence);
+            accepts(buf, row)
+        }
+    }
+}
+
+/// The first of the rows that accepts the buffer, and asks for what tells that it is.
+fn weigh_rows(rows: &[usize], buf: &[u8], evidence: &mut Evidence) -> Option<usize>
+    ensures first { IsFirstAmong (RowHas (Accepts buf.now)) rows.now result }
+    ensures tells { TellsFirst evidence.old evidence.new buf.now rows.now result }
+    ensures inside { IsOf evidence.old buf.now → IsOf evidence.new buf.now }
+    ensures few { evidence.new.count ≤ evidence.old.count + MOST_OF_A_ROW * length rows.now }
+{
+    for row in rows {
+        if weigh_row(*row, buf, evidence) {
+            return Some(*row);
+        }
+    }
+    None
+}
+
+/// The number of the first built-in row that accepts `buf`, as [`position`](crate::position) answers, and what decides it: the
+/// bytes of at most [`MOST_RANGES`](infer_evidence::MOST_RANGES) ranges, and what is needed of the length. Every buffer with the same bytes in these ranges and such a
+/// length has the same answer.
+///
+/// A range says of which row it tells: of the answer, which accepts by these bytes, or of a row before it, which they rule
+/// out. A row that asks for bytes at fixed places has the bytes that it asks for, or one that is another. Of a row that reads
+/// deeper they are the shortest front that tells.
+pub fn evidence(buf: &[u8], evidence: &mut Evidence) -> Option<usize>
+    ensures first { IsFirstOf (Accepts buf.now) table result }
+    ensures bound { IfSome result (λ i. i < ROW_COUNT) }
+    ensures decides { Decides evidence.new buf.now result }
+    ensures inside { IsOf evidence.new buf.now }
+    ensures few { evidence.new.count ≤ 1 + MOST_OF_A_ROW * MOST_CANDIDATES }
+{
+    leads();
+    blank();
+    evidence.clear();
+    let Some(first) = buf.first() else {
+        evidence.ask_exact();
+        return None;
+    };
+    evidence.push(Range {
+        place: 0,
+        len: 1,
+        row: None,
+    });
+    weigh_rows(candidates_at(arm_of(*first)), buf, evidence)
+}
