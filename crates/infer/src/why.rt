@@ -82,9 +82,9 @@ fn weigh_front(row: usize, buf: &[u8], evidence: &mut Evidence)
     infer_sig::laws::growth();
     infer_deep::laws::growth();
     match told_front(row, buf) {
-        Some(high) => evidence.push(front(shortest_front(row, buf, high), row)),
+        Some(high) => evidence.ask(front(shortest_front(row, buf, high), row)),
         None => {
-            evidence.push(front(buf.len(), row));
+            evidence.ask(front(buf.len(), row));
             evidence.ask_exact();
         }
     }
@@ -142,7 +142,7 @@ pub fn evidence(buf: &[u8], evidence: &mut Evidence) -> Option<usize>
         evidence.ask_exact();
         return None;
     };
-    evidence.push(Range {
+    evidence.ask(Range {
         place: 0,
         len: 1,
         row: None,

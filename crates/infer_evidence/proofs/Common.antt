@@ -4,7 +4,7 @@ pub use Rattle.std.specs.Prelude.{All, not}
 pub use Rattle.std.proofs.lemmas.Grind.{take-set_at}
 pub use Rattle.std.proofs.lemmas.List.{get_or_append_left, length-take-le, take-set-le, take_all, length-append}
 pub use Rattle.std.proofs.Math.Seq.{get_or-append_right}
-pub use Rattle.infer_evidence.specs.Evidence.{AgreesOn, IsInside, IsOf, IsSame, Refines, ranges_of}
+pub use Rattle.infer_evidence.specs.Evidence.{AgreesOn, IsInside, IsOf, IsAround, IsSame, ranges_of}
 pub use Rattle.infer_evidence.specs.declared.ranges.Evidence.{Evidence}
 pub use Rattle.infer_evidence.specs.declared.ranges.Range.{Range}
 pub use Rattle.std.proofs.lemmas.List.Elements.{All-push, All-take, All-nil}

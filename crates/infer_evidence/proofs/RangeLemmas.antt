@@ -1,5 +1,5 @@
 -- One range more.
-use Rattle.infer_evidence.proofs.Common.{◌+◌, ◌<◌, ◌≤◌, ◌∷◌, ◌++◌, ◌∙◌, ℕ, List, [], All, length, take, take_all, set, subst, sym, arith, length-append, get_or_append_left, get_or-append_right, take-set_at, Evidence, Range, All-push, AgreesOn, IsInside, IsOf, IsSame}
+use Rattle.infer_evidence.proofs.Common.{◌+◌, ◌<◌, ◌≤◌, ◌∷◌, ◌++◌, ◌∙◌, ℕ, List, [], All, length, take, take_all, set, subst, sym, arith, length-append, get_or_append_left, get_or-append_right, take-set_at, Any, Evidence, Range, All-push, AgreesOn, IsAround, IsInside, IsOf, IsSame, ranges_of}
 
 -- what holds of each element of a list and of one behind it, it holds of each
 module _ (P : Range → Type 0) where
@@ -33,3 +33,14 @@ one_more_inside e r lt b h inside = record { inside = put (IsInside b) e.ranges 
 pub no_more : (e : Evidence) (n : ℕ) → length e.ranges ≤ e.count → e.count ≤ n → (b : List ℕ) → IsOf e b → IsOf (record e { count = n }) b
 no_more e n full le b h =
     record { inside = subst (All (IsInside b)) (take_all e.count e.ranges full ∙ sym (take_all n e.ranges (omega arith))) h.inside; long = h.long }
+
+-- what is the same in a range is so in each that is inside it
+pub same_around : (e : Evidence) (r : Range) → Any (IsAround r) (ranges_of e) → (b c : List ℕ) → AgreesOn e b c → AgreesOn e b c × IsSame b c r
+same_around e r around b c h =
+    let outer = around.1 in
+    let same : IsSame b c outer = subst (IsSame b c) around.3 (h.same around.0 outer around.2) in
+    (h, λ k low high. same k (let within = around.4.0 in omega arith) (let within = around.4.1 in omega arith))
+
+-- and in a range of no bytes
+pub same_nothing : (e : Evidence) (r : Range) → r.len ≤ 0 → (b c : List ℕ) → AgreesOn e b c → AgreesOn e b c × IsSame b c r
+same_nothing e r none b c h = (h, λ k low high. absurd (omega arith))

@@ -29,6 +29,6 @@ pub record IsOf (e : Evidence) (b : List ℕ) : Type 0 where
   pub inside : All (IsInside b) (ranges_of e)
   pub long : e.least ≤ length b
 
--- the second evidence asks for all that the first asks for
-abbrev pub Refines : Evidence → Evidence → Type 0
-Refines e f = (b c : List ℕ) → AgreesOn f b c → AgreesOn e b c
+-- the second range has all bytes of the first
+abbrev pub IsAround : Range → Range → Type 0
+IsAround inner outer = (outer.place ≤ inner.place) × (inner.place + inner.len ≤ outer.place + outer.len)

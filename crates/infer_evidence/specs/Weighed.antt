@@ -18,9 +18,13 @@ HasPart b (Text place t) = StandsByPlace place t.now b
 HasPart b (AnyText place ts) = Any (λ t. StandsByPlace place t.now b) ts.now
 HasPart b (Byte place set) = (place < length b) × IsTrue (allows (set_listed set) (slice_index b place))
 
--- and the least length, and what each part asks
+-- and the least length, and what each of these asks as a part
+abbrev pub HasParts : {P : Type 0} → (P → Part) → List ℕ → ℕ → List P → Type 0
+HasParts part b least parts = (least ≤ length b) × All (λ p. HasPart b (part p)) parts
+
+-- and what an alternative asks
 abbrev pub HasAlternative : List ℕ → Alternative → Type 0
-HasAlternative b a = (a.least ≤ length b) × All (HasPart b) a.parts.now
+HasAlternative b a = HasParts (λ part. part) b a.least a.parts.now
 
 -- and this of some alternative
 abbrev pub HasSignature : List ℕ → List Alternative → Type 0

@@ -7,5 +7,5 @@ pub mod signature;
 mod weighing;
 
 pub use ranges::{Evidence, MOST_RANGES, Range};
-pub use signature::{Alternative, Part, Set};
-pub use weighing::{MOST_OF_A_ROW, weigh};
+pub use signature::{Alternative, AsPart, Part, Set};
+pub use weighing::{MOST_OF_A_ROW, accept, fits, refuse, weigh};

@@ -1,14 +1,12 @@
 //! Ranges of a buffer, and what is needed of its length.
-ghost use Rattle.std.specs.Prelude.{◌≡◌, ◌+◌, ◌≤◌, ℕ, List, [], true, false, length};
-ghost use Rattle.infer_evidence.specs.Evidence.{AgreesOn, IsInside, IsOf, IsSame, Refines, ranges_of};
-ghost use Rattle.infer_evidence.specs.declared.ranges.Evidence.{Evidence};
+ghost use Rattle.std.specs.Prelude.{◌≡◌, ◌+◌, ◌≤◌, ℕ, List, [], Any, IsTrue, false, length};
+ghost use Rattle.infer_evidence.specs.Evidence.{AgreesOn, IsAround, IsInside, IsOf, IsSame, ranges_of};
 
 /// For how many ranges an [`Evidence`] has room.
 pub const MOST_RANGES: usize = 128;
 
-/// Bytes of a buffer: `len` of them from `place` on, and the row of which they tell. Where the length alone tells of the row,
-/// they are none. Those that tell of no row by itself have none: the first byte, which rules out all rows that begin with
-/// another.
+/// Bytes of a buffer: `len` of them from `place` on, and the first row of which they tell. That which tells of no single row
+/// is the first byte, which rules out all rows that begin with another.
 #[derive(Clone, Copy)]
 pub struct Range {
     pub place: usize,
@@ -85,9 +83,21 @@ impl Evidence {
         self.exact = false;
     }
 
-    /// Asks for the bytes of one range more.
+    /// Whether a range that is asked for has all bytes of this one.
+    fn has(&self, range: &Range) -> bool
+        ensures { IsTrue result → Any (IsAround range.now) (ranges_of self.now) }
+    {
+        for other in self.ranges() {
+            if is_around(other, range) {
+                return true;
+            }
+        }
+        false
+    }
+
+    /// One range more.
     #[tactic(auto, using(crate::proofs::RangeLemmas::one_more, crate::proofs::RangeLemmas::one_more_inside, crate::proofs::RangeLemmas::no_more))]
-    pub fn push(&mut self, range: Range)
+    fn push(&mut self, range: Range)
         ensures same { (b c : List ℕ) → AgreesOn self.new b c → AgreesOn self.old b c
             × IsSame b c range }
         ensures inside { (b : List ℕ) → IsOf self.old b → IsInside b range → IsOf self.new b }
@@ -99,6 +109,22 @@ impl Evidence {
         }
         self.ranges[self.count] = range;
         self.count += 1;
+    }
+
+    /// Asks for the bytes of a range, unless they are asked for already.
+    pub fn ask(&mut self, range: Range)
+        ensures same { (b c : List ℕ) → AgreesOn self.new b c → AgreesOn self.old b c
+            × IsSame b c range }
+        ensures inside { (b : List ℕ) → IsOf self.old b → IsInside b range → IsOf self.new b }
+        ensures few { self.new.count ≤ self.old.count + 1 }
+    {
+        if range.len == 0 {
+            return;
+        }
+        if self.has(&range) {
+            return;
+        }
+        self.push(range);
     }
 
     /// Asks for that many bytes at least.
@@ -120,4 +146,13 @@ impl Evidence {
     {
         self.exact = true;
     }
+}
+
+/// Whether the first range has all bytes of the second.
+fn is_around(outer: &Range, inner: &Range) -> bool
+    ensures { IsTrue result → IsAround inner.now outer.now }
+{
+    outer.place <= inner.place
+        && inner.len <= outer.len
+        && inner.place - outer.place <= outer.len - inner.len
 }

@@ -1,10 +1,11 @@
 //! Fixed signatures as data that the code reads.
 ghost use Rattle.std.specs.Prelude.{◌≡◌};
 ghost use Rattle.infer_evidence.specs.Listed.{set_listed};
+ghost use Rattle.infer_evidence.specs.declared.signature.Part.{Part};
 ghost use Rattle.infer_sig.specs.Signature.{allows};
 
 /// A set of bytes.
-#[derive(Drop)]
+#[derive(Clone, Copy)]
 pub enum Set {
     /// These.
     AnyOf(&'static [u8]),
@@ -15,7 +16,7 @@ pub enum Set {
 }
 
 /// What a signature asks of places.
-#[derive(Drop)]
+#[derive(Clone, Copy)]
 pub enum Part {
     /// These bytes, from the place on.
     Text(usize, &'static [u8]),
@@ -30,6 +31,23 @@ pub enum Part {
 pub struct Alternative {
     pub least: usize,
     pub parts: &'static [Part],
+}
+
+/// What is written in another way, and asks what a part asks.
+pub trait AsPart {
+    ghost part: { Self → Part };
+
+    /// The part.
+    fn part(&self) -> Part
+        ensures { result ≡ part self.now };
+}
+
+impl AsPart for Part {
+    ghost part = { λ p. p };
+
+    fn part(&self) -> Part {
+        *self
+    }
 }
 
 /// Whether the byte is in the set.

@@ -3,13 +3,13 @@ ghost use Rattle.std.specs.Prelude.{◌≡◌, ◌↔◌, ◌+◌, ◌<◌, ◌�
 ghost use Rattle.infer_deep.specs.Open.{AgreesAt};
 ghost use Rattle.infer_evidence.specs.Evidence.{AgreesOn, IsInside, IsOf, IsSame};
 ghost use Rattle.infer_evidence.specs.Listed.{signature_listed};
-ghost use Rattle.infer_evidence.specs.Weighed.{Differs, HasAlternative, HasPart, IsSameTo, StandsNone, is_small};
+ghost use Rattle.infer_evidence.specs.Weighed.{Differs, HasAlternative, HasPart, HasParts, IsSameTo, StandsNone, is_small};
 ghost use Rattle.infer_evidence.specs.declared.weighing.TheConstants.{MOST_OF_A_ROW};
 ghost use Rattle.infer_sig.specs.Places.{StandsByPlace};
 ghost use Rattle.infer_sig.specs.Signature.{accepts};
 
 use crate::ranges::{Evidence, Range};
-use crate::signature::{Alternative, Part, allows};
+use crate::signature::{Alternative, AsPart, Part, allows};
 use infer_deep::places::stands_at;
 use infer_sig::laws;
 
@@ -187,13 +187,14 @@ fn byte_refused(place: usize, buf: &[u8], row: Option<usize>) -> Refusal
 }
 
 /// The first part that the buffer lacks.
-fn lacking<'a>(parts: &'a [Part], buf: &[u8]) -> Option<&'a Part>
-    ensures some { IfSome result (λ part. ¬ HasPart buf.now part.now) }
-    ensures among { IfSome result (λ part. Any (λ other. other ≡ part.now) parts.now) }
-    ensures none { result ≡ None → All (HasPart buf.now) parts.now }
+fn lacking<P: AsPart>(parts: &[P], buf: &[u8]) -> Option<Part>
+    ensures some { IfSome result (λ part. ¬ HasPart buf.now part) }
+    ensures among { IfSome result (λ part. Any (λ p. P.part p ≡ part) parts.now) }
+    ensures none { result ≡ None → All (λ p. HasPart buf.now (P.part p)) parts.now }
 {
-    for part in parts {
-        if !has_part(part, buf) {
+    for asked in parts {
+        let part = asked.part();
+        if !has_part(&part, buf) {
             return Some(part);
         }
     }
@@ -201,14 +202,15 @@ fn lacking<'a>(parts: &'a [Part], buf: &[u8]) -> Option<&'a Part>
 }
 
 /// The bytes by which the buffer lacks a part, whatever its length is, if it lacks some part so.
-fn refused_by_bytes(parts: &[Part], buf: &[u8], row: Option<usize>) -> Option<Range>
+fn refused_by_bytes<P: AsPart>(parts: &[P], buf: &[u8], row: Option<usize>) -> Option<Range>
     ensures inside { IfSome result (IsInside buf.now) }
     ensures tells { IfSome result (λ range. (c : List ℕ) → IsSame buf.now c range
-        → ¬ All (HasPart c) parts.now) }
+        → ¬ All (λ p. HasPart c (P.part p)) parts.now) }
 {
-    for part in parts {
-        if !has_part(part, buf) {
-            let refusal = refused(part, buf, row);
+    for asked in parts {
+        let part = asked.part();
+        if !has_part(&part, buf) {
+            let refusal = refused(&part, buf, row);
             if !refusal.exact {
                 return Some(refusal.range);
             }
@@ -217,11 +219,57 @@ fn refused_by_bytes(parts: &[Part], buf: &[u8], row: Option<usize>) -> Option<Ra
     None
 }
 
-/// Whether the buffer has what the alternative asks.
-fn fits(alternative: &Alternative, buf: &[u8]) -> bool
-    ensures { IsTrue result ↔ HasAlternative buf.now alternative.now }
+/// Whether the buffer has that length at least, and what the parts ask.
+pub fn fits<P: AsPart>(least: usize, parts: &[P], buf: &[u8]) -> bool
+    ensures { IsTrue result ↔ HasParts P.part buf.now least parts.now }
 {
-    alternative.least <= buf.len() && lacking(alternative.parts, buf).is_none()
+    least <= buf.len() && lacking(parts, buf).is_none()
+}
+
+/// Asks for that by which the buffer has the length and the parts.
+pub fn accept<P: AsPart>(
+    least: usize,
+    parts: &[P],
+    buf: &[u8],
+    row: Option<usize>,
+    evidence: &mut Evidence,
+)
+    requires { HasParts P.part buf.now least parts.now }
+    ensures tells { (c : List ℕ) → AgreesOn evidence.new buf.now c → AgreesOn evidence.old buf.now c
+        × HasParts P.part c least parts.now }
+    ensures inside { IsOf evidence.old buf.now → IsOf evidence.new buf.now }
+    ensures few { evidence.new.count ≤ evidence.old.count + length parts.now }
+{
+    evidence.ask_least(least);
+    for asked in parts {
+        evidence.ask(held(&asked.part(), buf, row));
+    }
+}
+
+/// Asks for that by which the buffer lacks the length or a part: for bytes rather than for its length.
+pub fn refuse<P: AsPart>(
+    least: usize,
+    parts: &[P],
+    buf: &[u8],
+    row: Option<usize>,
+    evidence: &mut Evidence,
+)
+    requires { ¬ HasParts P.part buf.now least parts.now }
+    ensures tells { (c : List ℕ) → AgreesOn evidence.new buf.now c → AgreesOn evidence.old buf.now c
+        × ¬ HasParts P.part c least parts.now }
+    ensures inside { IsOf evidence.old buf.now → IsOf evidence.new buf.now }
+    ensures few { evidence.new.count ≤ evidence.old.count + 1 }
+{
+    if let Some(range) = refused_by_bytes(parts, buf, row) {
+        evidence.ask(range);
+        return;
+    }
+    evidence.ask_exact();
+    if least <= buf.len()
+        && let Some(part) = lacking(parts, buf)
+    {
+        evidence.ask(refused(&part, buf, row).range);
+    }
 }
 
 /// The first alternative that the buffer has.
@@ -231,47 +279,11 @@ fn fitting<'a>(signature: &'a [Alternative], buf: &[u8]) -> Option<&'a Alternati
     ensures none { result ≡ None → All (λ a. ¬ HasAlternative buf.now a) signature.now }
 {
     for alternative in signature {
-        if fits(alternative, buf) {
+        if fits(alternative.least, alternative.parts, buf) {
             return Some(alternative);
         }
     }
     None
-}
-
-/// Asks for that by which the buffer has the alternative.
-fn accept(alternative: &Alternative, buf: &[u8], row: Option<usize>, evidence: &mut Evidence)
-    requires { HasAlternative buf.now alternative.now }
-    ensures tells { (c : List ℕ) → AgreesOn evidence.new buf.now c → AgreesOn evidence.old buf.now c
-        × HasAlternative c alternative.now }
-    ensures inside { IsOf evidence.old buf.now → IsOf evidence.new buf.now }
-    ensures few { evidence.new.count ≤ evidence.old.count + length alternative.now.parts.now }
-{
-    evidence.ask_least(alternative.least);
-    for part in alternative.parts {
-        evidence.push(held(part, buf, row));
-    }
-}
-
-/// Asks for that by which the buffer lacks the alternative: for bytes rather than for its length.
-fn refuse(alternative: &Alternative, buf: &[u8], row: Option<usize>, evidence: &mut Evidence)
-    requires { ¬ HasAlternative buf.now alternative.now }
-    ensures tells { (c : List ℕ) → AgreesOn evidence.new buf.now c → AgreesOn evidence.old buf.now c
-        × ¬ HasAlternative c alternative.now }
-    ensures inside { IsOf evidence.old buf.now → IsOf evidence.new buf.now }
-    ensures few { evidence.new.count ≤ evidence.old.count + 1 }
-{
-    if let Some(range) = refused_by_bytes(alternative.parts, buf, row) {
-        evidence.push(range);
-        return;
-    }
-    evidence.ask_exact();
-    if alternative.least <= buf.len()
-        && let Some(part) = lacking(alternative.parts, buf)
-    {
-        evidence.push(refused(part, buf, row).range);
-    } else {
-        evidence.push(short(row).range);
-    }
 }
 
 /// Asks for that by which the buffer lacks each of the alternatives.
@@ -283,7 +295,7 @@ fn refuse_all(signature: &[Alternative], buf: &[u8], row: Option<usize>, evidenc
     ensures few { evidence.new.count ≤ evidence.old.count + length signature.now }
 {
     for alternative in signature {
-        refuse(alternative, buf, row, evidence);
+        refuse(alternative.least, alternative.parts, buf, row, evidence);
     }
 }
 
@@ -306,7 +318,7 @@ pub fn weigh(
     laws::by_place();
     match fitting(signature, buf) {
         Some(alternative) => {
-            accept(alternative, buf, row, evidence);
+            accept(alternative.least, alternative.parts, buf, row, evidence);
             true
         }
         None => {

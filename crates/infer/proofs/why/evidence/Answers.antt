@@ -13,7 +13,7 @@ returns-clause-bound c = let first = returns-clause-first c in grind (arith, len
 pub returns-clause-decides : goal.returns-clause-decides
 returns-clause-decides c = λ b bytes agrees.
     let told = c.weigh_rows.ensures.tells b bytes agrees in
-    let asked = c.push.ensures.same c.args.buf.now b told.0 in
+    let asked = c.ask.ensures.same c.args.buf.now b told.0 in
     let first = asked.1 0 (omega arith) (omega arith) in
     let here : c.candidates_at.result.now ≡ candidates_of c.args.buf.now = search rules in
     let some : 0 < length c.args.buf.now = grind arith in

@@ -1,13 +1,13 @@
-use Rattle.infer_evidence.proofs.Common.{HasPart, arith}
+use Rattle.infer_evidence.proofs.Common.{◌+◌, ◌≤◌, HasPart, arith, subst}
 use Rattle.infer_evidence.proofs.ListLemmas.{all_more}
 use Rattle.infer_evidence.proofs.weighing.accept.Goals as goal
 
-pub loop-part-preserved : goal.loop-part-preserved
-loop-part-preserved c = record {
+pub loop-asked-preserved : goal.loop-asked-preserved
+loop-asked-preserved g c = record {
   tells = λ b agrees.
-      let pushed = c.push.ensures.same c.args.buf.now b agrees in
-      let before = c.loop-part.invariant.tells b pushed.0 in
-      (before.0, before.1, all_more (HasPart b) _ _ _ c.loop-part-test.true before.2 (c.held.ensures.tells b pushed.1));
-  inside = λ of. c.push.ensures.inside c.args.buf.now (c.loop-part.invariant.inside of) c.held.ensures.inside;
-  few = let before = c.loop-part.invariant.few in let now = c.push.ensures.few in omega arith;
+      let asked = c.ask.ensures.same c.args.buf.now b agrees in
+      let before = c.loop-asked.invariant.tells b asked.0 in
+      (before.0, before.1, all_more (λ p. HasPart b (g.P.AsPart.part p)) _ _ _ c.loop-asked-test.true before.2 (subst (λ p. HasPart b (g.P.AsPart.part p)) c.asked-item.is (subst (HasPart b) c.part.ensures (c.held.ensures.tells b asked.1))));
+  inside = λ of. c.ask.ensures.inside c.args.buf.now (c.loop-asked.invariant.inside of) c.held.ensures.inside;
+  few = let before = c.loop-asked.invariant.few in let now = c.ask.ensures.few in omega arith;
 }

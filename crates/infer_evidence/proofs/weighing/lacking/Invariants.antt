@@ -2,5 +2,5 @@
 use Rattle.infer_evidence.proofs.Common.{AllWithin, HasPart}
 use Rattle.infer_evidence.proofs.weighing.lacking.Given as goal
 
-abbrev pub invariant-loop-part : goal.invariant-loop-part
-invariant-loop-part l = AllWithin (HasPart l.buf) l.parts 0 l.part-index
+abbrev pub invariant-loop-asked : goal.invariant-loop-asked
+invariant-loop-asked g l = AllWithin (λ p. HasPart l.buf (g.P.AsPart.part p)) l.parts 0 l.asked-index
