@@ -1,5 +1,5 @@
 //! The bytes of a buffer that decide its answer.
-ghost use Rattle.std.specs.Prelude.{◌≡◌, ◌↔◌, ◌+◌, ◌*◌, ◌<◌, ◌≤◌, IfSome, IsTrue, length, take};
+ghost use Rattle.std.specs.Prelude.{◌≡◌, ◌↔◌, ◌+◌, ◌*◌, ◌<◌, ◌≤◌, IfSome, IsTrue, length};
 ghost use Rattle.infer.specs.Evidence.{Decides, IsTold, TellsFirst, TellsRow};
 ghost use Rattle.infer.specs.First.{IsFirstOf};
 ghost use Rattle.infer.specs.Row.{Accepts};
@@ -11,54 +11,22 @@ use crate::ask::question::accepts;
 use crate::candidates::dispatch::{arm_of, blank, candidates_at, leads};
 use crate::decided::may_become;
 use crate::table::rows::{MOST_CANDIDATES, ROW_COUNT};
-use infer_evidence::{Evidence, MOST_OF_A_ROW, Range, weigh};
+use infer_evidence::{Evidence, MOST_OF_A_ROW, Range, Told, shortest_front, weigh};
 
 mod signatures;
 
 use signatures::signature;
 
-/// How long the first front is that is tried.
-const FIRST_FRONT: usize = 8;
+/// Whether the row with this number accepts.
+#[derive(Drop)]
+struct Acceptance(usize);
 
-/// Whether these bytes tell if the row accepts a buffer that begins with them.
-fn is_told(row: usize, front: &[u8]) -> bool
-    ensures { IsTrue result ↔ IsTold front.now row }
-{
-    accepts(front, row) || !may_become(front, row)
-}
+impl Told for Acceptance {
+    ghost tells = { λ s front. IsTold front s.0 };
 
-/// The length of a front of the buffer that tells of the row, at most twice that of the shortest, and `None` if only
-/// longer buffers tell.
-fn told_front(row: usize, buf: &[u8]) -> Option<usize>
-    ensures { IfSome result (λ n. (n ≤ length buf.now) × IsTold (take n buf.now) row) }
-{
-    let mut n = FIRST_FRONT;
-    while n < buf.len() {
-        if is_told(row, &buf[..n]) {
-            return Some(n);
-        }
-        n = n.saturating_mul(2);
+    fn is_told(&self, front: &[u8]) -> bool {
+        accepts(front, self.0) || !may_become(front, self.0)
     }
-    is_told(row, buf).then_some(buf.len())
-}
-
-/// The length of the shortest front that tells of the row, if one of `high` bytes does.
-fn shortest_front(row: usize, buf: &[u8], mut high: usize) -> usize
-    requires within { high ≤ length buf.now }
-    requires told { IsTold (take high buf.now) row }
-    ensures within { result ≤ length buf.now }
-    ensures told { IsTold (take result buf.now) row }
-{
-    let mut low = 0;
-    while low < high {
-        let middle = low + (high - low) / 2;
-        if is_told(row, &buf[..middle]) {
-            high = middle;
-        } else {
-            low = middle + 1;
-        }
-    }
-    high
 }
 
 /// The bytes of a front, which tell of the row.
@@ -81,8 +49,8 @@ fn weigh_front(row: usize, buf: &[u8], evidence: &mut Evidence)
 {
     infer_sig::laws::growth();
     infer_deep::laws::growth();
-    match told_front(row, buf) {
-        Some(high) => evidence.ask(front(shortest_front(row, buf, high), row)),
+    match shortest_front(&Acceptance(row), buf) {
+        Some(len) => evidence.ask(front(len, row)),
         None => {
             evidence.ask(front(buf.len(), row));
             evidence.ask_exact();

@@ -2,10 +2,12 @@
 //! goes into both.
 #![tactic(auto)]
 
+mod front;
 pub mod ranges;
 pub mod signature;
 mod weighing;
 
+pub use front::{Told, shortest_front};
 pub use ranges::{Evidence, MOST_RANGES, Range};
 pub use signature::{Alternative, AsPart, Part, Set};
 pub use weighing::{MOST_OF_A_ROW, accept, fits, refuse, weigh};

@@ -6,9 +6,9 @@ use Rattle.infer.proofs.why.weigh_front.Goals as goal
 pub returns-in-Some-clause-tells : goal.returns-in-Some-clause-tells
 returns-in-Some-clause-tells c = λ b bytes agrees.
     let asked = c.ask.ensures.same c.args.buf.now b agrees in
-    let told = c.shortest_front.ensures in (
+    let told = c.in-Some.ensures in (
       asked.0,
-      front_tells (every_lasts c.growth.ensures c.growth-2.ensures) c.args.buf.now b _ c.args.row (buffer_by_reads c.args.buf.now (λ i. omega (arith, c.type_inv.buf i))) bytes told.within told.told
+      front_tells (every_lasts c.growth.ensures c.growth-2.ensures) c.args.buf.now b _ c.args.row (buffer_by_reads c.args.buf.now (λ i. omega (arith, c.type_inv.buf i))) bytes told.0 told.1
           (λ k lt. asked.1 k (grind (arith, c.front.ensures.place)) (grind (arith, c.front.ensures.place, c.front.ensures.len))),
     )
 
