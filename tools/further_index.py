@@ -15,17 +15,50 @@ MOST_GUARDS = 15
 # Behind the gate, what a row costs that passes the guard of another.
 BEHIND = 12
 HEAD = """//! Made by `tools/tables` from the further rows, the lists of the index: a place, a byte there, and a row, or a name and a
-//! row. Those below each built-in row stand in its order, and those by the first byte eight a line.
-ghost use Rattle.std.specs.Prelude.{{Some}};
+//! row. Those below each built-in row stand in its order, but for those that are told by names, which have lists of their
+//! own; and those by the first byte eight a line.
+ghost use Rattle.std.specs.Prelude.{{Some, List, [], ◌∷◌}};
+ghost use Rattle.infer_more.specs.Index.{{AreWaysBelow, IsWayBelow}};
 ghost use Rattle.infer_more.specs.Wider.{{IsWidened}};
 
 use crate::index::Below::{{ClassIds, Entries, Nothing, Packages, Programs, Roots}};
-use crate::index::asked::found_row_apart;
-use crate::index::{{Below, Entry, Except, Gate, Guard, Named, Parentless, Range, Rooted, Texts}};
+use crate::index::asked::{{below_at, found_row_apart}};
+use crate::index::{{
+    Begun, Below, Entry, Except, Gate, Guard, Named, Parentless, Range, Rooted, Span, Texts,
+}};
 
 /// How many further rows there are.
 pub const FURTHER_COUNT: usize = {};
 
+"""
+BELOW_APART = """
+/// How the rows below built-in row {0} are told.
+#[inline(always)]
+fn below_{0}() -> &'static Below
+    ensures {{ IsWayBelow {0} result.now }}
+{{
+    &BELOW_{0}
+}}
+"""
+BELOW_OTHERS = """
+/// How the rows below each built-in row are told, but for these.
+#[inline(always)]
+fn below_others() -> &'static [Below]
+    ensures {{ AreWaysBelow ({}) result.now }}
+{{
+    BELOW
+}}
+
+/// How the rows below this built-in row are told.
+#[inline(always)]
+pub(super) fn told_below(parent: usize) -> &'static Below
+    ensures {{ IsWayBelow parent result.now }}
+{{
+    match parent {{
+{}
+        _ => below_at(below_others(), parent),
+    }}
+}}
 """
 BY_PARENT = """
 /// The number of the wider answer of a buffer whose built-in answer is this row, which no further row widens that is not
@@ -85,6 +118,29 @@ unfolding {unfolded}
 returns-in_default c =
     (None, none_below_others ({parents} ∷ []) refl c.args.row {differ} c.args.buf.now, refl)
 """
+# The answers of the functions of lists, which compute that each row is found.
+COMPUTED = """-- Made by `tools/tables` from the further rows: computed of each.
+use Rattle.infer_more.proofs.Common.{{{words}refl}}
+use Rattle.infer_more.proofs.Common.{{{names}}}
+use Rattle.infer_more.proofs.FoundLemmas.{{{lemma}}}
+use Rattle.infer_more.proofs.index.generated.{function}.Goals as goal
+
+pub returns : goal.returns
+unfolding {unfolded}
+returns c = {lemma} {parent}_ refl refl
+"""
+TOLD_BELOW = """-- Made by `tools/tables` from the further rows: the other ways stand in one list.
+use Rattle.infer_more.proofs.Common.{{◌∷◌, [], arith, subst, sym}}
+use Rattle.infer_more.specs.Index.{{IsWayBelow}}
+use Rattle.infer_more.proofs.BelowLemmas.{{not_among}}
+use Rattle.infer_more.proofs.FoundLemmas.{{way_of_list}}
+use Rattle.infer_more.proofs.index.generated.told_below.Goals as goal
+
+pub returns-in_default : goal.returns-in_default
+returns-in_default c =
+    subst (IsWayBelow c.args.parent) (sym c.below_at.ensures)
+    (way_of_list ({parents}) _ c.below_others.ensures c.args.parent (not_among ({parents}) c.args.parent {differ}))
+"""
 # A text or a character in the code.
 TEXT = r"""(?:"(?:[^"\\]|\\.)*"|'(?:[^'\\]|\\.)*')"""
 TEXT_OF_BYTES = rf"b{TEXT}"
@@ -92,6 +148,8 @@ TEXT_OF_BYTES = rf"b{TEXT}"
 WIDTH = 100
 # How many buckets of programs there are.
 BUCKETS = 32
+# The kinds of ways below a parent that stand in one list: they have no list inside a list.
+LISTED = {"Nothing", "Entries"}
 # What is told last, without being tried.
 TEXTS = {"JsonLines", "JsonText", "PlainText"}
 # What is told without a parent and not tried.
@@ -442,9 +500,17 @@ def listed(some):
     return "(" + ", ".join(" ".join(in_words(it)) for it in some) + ")"
 
 
-def in_lines(lists):
-    words = [listed(it) for it in lists]
-    yield from ("        " + " ".join(words[at : at + 8]) for at in range(0, len(words), 8))
+def spans(lists):
+    """Where each list begins and ends among all their entries."""
+    end = 0
+    for it in lists:
+        yield f"{end} {end + len(it)}"
+        end += len(it)
+
+
+def in_lines(words):
+    """Words with commas between them, eight a line."""
+    yield from (f"            {', '.join(words[at : at + 8])}{',' * (at + 8 < len(words))}" for at in range(0, len(words), 8))
 
 
 def in_guards(guards):
@@ -491,12 +557,22 @@ def below(rows):
     return "Packages", [f"entries!{in_list(tried)}", f"excepts!{in_list(excepts)}", f"named!{folders}"]
 
 
-def in_lines_of_code(name, takes):
+def in_lines_of_code(name, takes, before, after=";"):
     """A value as `rt fmt` lays it out."""
-    line = f"    {name}({', '.join(takes)})," if takes else f"    {name},"
-    if len(line) <= WIDTH:
+    line = f"{before}{name}({', '.join(takes)}){after}" if takes else f"{before}{name}{after}"
+    if len(line) + 4 <= WIDTH:
         return [line]
-    return [f"    {name}(", *(f"        {it}," for it in takes), "    ),"]
+    return [f"{before}{name}(", *(f"    {it}," for it in takes), f"){after}"]
+
+
+def apart(ways):
+    """The parents whose rows are told by names."""
+    return [k for k, (name, _) in enumerate(ways) if name not in LISTED]
+
+
+def in_list_of(numbers):
+    """A list of them, as a clause or a proof has it."""
+    return " ∷ ".join([*map(str, numbers), "[]"])
 
 
 def in_words(entry):
@@ -522,16 +598,27 @@ def last(rows):
 def lists(rows, parents):
     """The lists of the index, of rows whose parents stand among the constants of the built-in rows."""
     numbered = list(enumerate(rows))
-    yield "pub(super) static BELOW: &[Below] = &["
-    for parent in parents:
-        yield from in_lines_of_code(*below([(k, row) for k, row in numbered if row.parent == parent]))
-    yield "];\n"
+    ways = [below([(k, row) for k, row in numbered if row.parent == parent]) for parent in parents]
+    for k in apart(ways):
+        yield from in_lines_of_code(*ways[k], f"static BELOW_{k}: Below = ")
+        yield BELOW_APART.format(k)
+    yield "static BELOW: &[Below] = &["
+    for name, takes in ways:
+        yield from (f"    {it}" for it in in_lines_of_code(*((name, takes) if name in LISTED else ("Nothing", [])), "", ","))
+    yield "];"
+    yield BELOW_OTHERS.format(in_list_of(apart(ways)), arms(apart(ways), "below_{}()"))
     yield "pub(super) static PARENTLESS: Parentless = Parentless {"
-    yield "    first: lists!["
     zeros, ((place, first), outside, inside) = with_zeros(rows)
     led = [[(k, [it for it in row.outlines(TOLD) if is_listed(k, it, zeros) and byte in it[0]]) for k, row in numbered if not row.parent] for byte in range(256)]
-    yield from in_lines(entries([it for it in some if it[1]], (0, byte)) for byte, some in enumerate(led))
-    yield "    ],"
+    by_byte = [list(entries([it for it in some if it[1]], (0, byte))) for byte, some in enumerate(led)]
+    yield "    first: Begun {"
+    yield "        spans: spans!["
+    yield from in_lines(list(spans(by_byte)))
+    yield "        ],"
+    yield "        entries: entries!["
+    yield from in_lines([" ".join(in_words(it)) for some in by_byte for it in some])
+    yield "        ],"
+    yield "    },"
     yield "    guards: guards!["
     yield from in_guards(outside)
     yield "    ],"
@@ -567,11 +654,30 @@ def by_parent(rows, parents):
 def no_other_parent(rows, parents):
     """The proof that these are all."""
     listed = with_rows_below(rows, parents)
-    differ = "tt"
-    for _ in listed:
-        differ = f"(λ e. omega arith, {differ})"
-    names = sorted(re.findall(r"^unfoldable pub (\w+) : List Further$", text_of("crates/infer_more/specs/Table.antt"), re.M))
-    return NO_OTHER_PARENT.format(parents=" ∷ ".join(map(str, listed)), differ=differ, names=", ".join(names), unfolded=" ".join(names))
+    names = lists_of_rows()
+    return NO_OTHER_PARENT.format(parents=" ∷ ".join(map(str, listed)), differ=differing(listed), names=", ".join(names), unfolded=" ".join(names))
+
+
+def lists_of_rows():
+    """The names of the lists of rows, as the definitions have them."""
+    return sorted(re.findall(r"^unfoldable pub (\w+) : List Further$", text_of("crates/infer_more/specs/Table.antt"), re.M))
+
+
+def differing(numbers):
+    """The proof that a number which is none of these differs from each."""
+    return "(λ e. omega arith, " * len(numbers) + "tt" + ")" * len(numbers)
+
+
+def computed(rows, parents):
+    """The proof files of the functions of lists, each with its name."""
+    ways = [below([(k, row) for k, row in enumerate(rows) if row.parent == parent]) for parent in parents]
+    names = lists_of_rows()
+    said = {"names": ", ".join(names), "unfolded": " ".join(names)}
+    for k in apart(ways):
+        yield f"below_{k}", COMPUTED.format(function=f"below_{k}", lemma="way_below", words="", parent=f"{k} ", **said)
+    others = in_list_of(apart(ways))
+    yield "below_others", COMPUTED.format(function="below_others", lemma="ways_below", words="◌∷◌, [], ", parent=f"({others}) ", **said)
+    yield "told_below", TOLD_BELOW.format(parents=others, differ=differing(apart(ways)))
 
 
 def by_number(rows):

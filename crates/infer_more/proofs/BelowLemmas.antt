@@ -63,7 +63,7 @@ abbrev pub DiffersFromEach : List ℕ → ℕ → Type 0
 DiffersFromEach [] n = Unit {0}
 DiffersFromEach (k ∷ ks) n = (k ≡ n → ⊥) × DiffersFromEach ks n
 
-not_among : (ks : List ℕ) (n : ℕ) → DiffersFromEach ks n → IsTrue (is_listed ks n) → ⊥
+pub not_among : (ks : List ℕ) (n : ℕ) → DiffersFromEach ks n → IsTrue (is_listed ks n) → ⊥
 not_among [] n d h = absurd (cc)
 not_among (k ∷ ks) n d h = elim (or_cases (k == n) (is_listed ks n) h) [
   | inl e ↦ d.0 (eqb-true k n e)

@@ -1,6 +1,6 @@
 -- By the index just those rows are found that widen an answer.
 use Rattle.std.proofs.lemmas.Bool.{or_cases}
-use Rattle.infer_more.proofs.Common.{◌≡◌, ◌↔◌, ℕ, zero, suc, ◌+◌, ◌<◌, ◌≤◌, ◌==◌, inl, inr, Bool, true, false, IsTrue, List, [], ◌∷◌, Option, None, Some, length, get_or, ap, sym, ◌∙◌, subst, arith, refl, ◌%◌, ◌&&◌, ◌||◌, ◌++◌, slice_index, nat_le, list_all, list_any, option_map_or, cases_lt, eqb-true, leb-true, get_or_default, slice_get_cases, Bor, IsJson, IsJsonLines, BeginsElement, IsRootElement, there, IsProgram, IsOneOf, IsPackageWith, applications, accepts, fits, stands, StandsByPlace, IsBuffer, is_listed, HasTagText, IsFoundBelow, IsLeast, IsNamed, IsOfProgram, IsRootedBy, IsRooted, IsRowOf, IsTried, ascends, candidates, excepted, is_covered, is_excepted, is_plain, is_tried_parentless, is_true_below, named_row, rooted_row, tried_parentless, lines, Further, Accepted, Fits, related, json_lines, json_text, package_with, plain_text, program, root, root_with, further, Widens, WidensAt, Nothing, Except, Named, Parentless, Rooted, FURTHER_COUNT, and_from, bucket_of, class_id}
+use Rattle.infer_more.proofs.Common.{◌≡◌, ◌↔◌, ℕ, zero, suc, ◌+◌, ◌<◌, ◌≤◌, ◌==◌, inl, inr, Bool, true, false, IsTrue, List, [], ◌∷◌, Option, None, Some, length, get_or, ap, sym, ◌∙◌, subst, arith, refl, ◌%◌, ◌&&◌, ◌||◌, ◌++◌, slice_index, nat_le, list_all, list_any, option_map_or, cases_lt, eqb-true, leb-true, get_or_default, slice_get_cases, Bor, IsJson, IsJsonLines, BeginsElement, IsRootElement, there, IsProgram, IsOneOf, IsPackageWith, applications, accepts, fits, stands, StandsByPlace, IsBuffer, is_listed, HasTagText, IsFoundBelow, IsLeast, IsNamed, IsOfProgram, IsRootedBy, IsRooted, IsRowOf, IsTried, ascends, candidates, excepted, is_covered, is_excepted, is_plain, is_tried_parentless, is_true_below, named_row, rooted_row, tried_parentless, lines, Further, Accepted, Fits, related, json_lines, json_text, package_with, plain_text, program, root, root_with, further, Widens, WidensAt, Nothing, Except, Named, Parentless, Rooted, FURTHER_COUNT, and_from, bucket_of, class_id, if◌then◌else◌, not, eq-eqb}
 use Rattle.std.specs.Prelude.{slice_get}
 use Rattle.std.proofs.lemmas.List.Sums.{AllPass-from_list_all}
 use Rattle.infer_deep.specs.ClassId.{HasClassId}
@@ -8,17 +8,16 @@ use Rattle.infer_formats.proofs.MarkupLemmas.{not_space}
 use Rattle.infer_formats.specs.Laws.{Leads}
 use Rattle.infer_formats.specs.Markup.{HasInTag, MayBeRooted}
 use Rattle.infer_sig.specs.Signature as fixed
-use Rattle.infer_more.specs.Index.{AllApplications, AreClassIds, EachBelowIsFound, EachParentlessIsFound, EachIsFound, FindsAll, IsFoundParentless, IsTextRow, MayBeginMarkup, are_rooted, are_texts, are_true, asks_class_id, asks_folder, asks_program, asks_root, below_at, has_named, has_rooted, is_application, is_child, is_found_below, is_found_parentless, is_in_class_ids, is_in_folders, is_in_programs, is_in_roots, is_json, is_lines, is_row_below, is_row_below_found, is_row_parentless, is_row_parentless_found, is_row_with, is_text_row, is_tried_below, is_tried_in, bucket_at, same, same_text}
+use Rattle.infer_more.specs.Index.{AllApplications, AreClassIds, AreWaysBelow, EachParentlessIsFound, FindsBelow, FindsParentless, IsFoundParentless, IsWayBelow, IsTextRow, MayBeginMarkup, are_rooted, are_spans, are_texts, are_true, asks_class_id, asks_folder, asks_program, asks_root, below_at, has_named, has_rooted, is_application, is_child, is_found_below, is_found_parentless, is_in_class_ids, is_in_folders, is_in_programs, is_in_roots, is_json, is_lines, is_row_below, is_row_parentless, is_row_with, is_text_row, is_tried_below, is_tried_in, bucket_at, same, same_text}
 use Rattle.infer_notation.specs.Alternative.{Alternative}
 use Rattle.infer_more.specs.declared.index.Below as below
 use Rattle.infer_more.specs.declared.index.Below.TheVariants.{ClassIds, Entries, Packages, Programs, Roots}
 use Rattle.infer_more.specs.declared.index.Entry.{Entry}
-use Rattle.infer_more.specs.declared.index.RowIndex.{RowIndex}
 use Rattle.infer_more.specs.declared.index.Texts.{Texts}
 use Rattle.infer_more.proofs.IndexLemmas.{both_left, both_right, covered_here, excepted_here, listed_left, listed_right, parentless_here}
 use Rattle.infer_more.proofs.LeastLemmas.{least_both, least_late, least_same}
 use Rattle.infer_more.proofs.OutlineLemmas.{has_lines, small_bytes}
-use Rattle.infer_more.proofs.TableLemmas.{NoRowFails, each_row}
+use Rattle.infer_more.proofs.NamedLemmas.{each_passes, refused}
 
 -- what is computed to be the same is the same
 same_true : (xs ys : List ℕ) → IsTrue (same xs ys) → xs ≡ ys
@@ -275,8 +274,38 @@ true_at [] n i h = refl
 true_at (way ∷ ways) n zero h = let e : n + 0 ≡ n = omega arith in rw e (both_left (is_true_below n way) _ h)
 true_at (way ∷ ways) n (suc i) h = let e : n + suc i ≡ suc n + i = omega arith in rw e (true_at ways (suc n) i (both_right (is_true_below n way) _ h))
 
-pub true_below : (ways : List below.Below) (parent : ℕ) → EachBelowIsFound ways → IsTrue (is_true_below parent (below_at ways parent))
-true_below ways parent each = let e : 0 + parent ≡ parent = omega arith in subst (λ n. IsTrue (is_true_below n (below_at ways parent))) e (true_at ways 0 parent each.told)
+true_below : (ways : List below.Below) (parent : ℕ) → IsTrue (are_true 0 ways) → IsTrue (is_true_below parent (below_at ways parent))
+true_below ways parent each = let e : 0 + parent ≡ parent = omega arith in subst (λ n. IsTrue (is_true_below n (below_at ways parent))) e (true_at ways 0 parent each)
+
+-- of a list of ways, each that stands not apart
+unless_apart : (t x : Bool) → ¬ IsTrue t → IsTrue (if not t then x else true) → IsTrue x
+unless_apart false x other h = h
+unless_apart true x other h = absurd (other refl)
+
+module _ (apart : List ℕ) (ways : List below.Below) (parent : ℕ) (other : ¬ IsTrue (is_listed apart parent)) (i : ℕ) where
+  asked_alone : (p : Option ℕ) (r : Further) → IsTrue (is_row_below (λ q. not (is_listed apart q)) (below_at ways) i p r)
+      → IsTrue (is_row_below (λ q. q == parent) (λ q. below_at ways parent) i p r)
+  asked_alone None r h = refl
+  asked_alone (Some p) r h = by_test (p == parent) refl
+    where
+      by_test : (t : Bool) → (p == parent) ≡ t → IsTrue (if t then list_all (is_found_below (below_at ways parent) i) r.signature else true)
+      by_test false e = refl
+      by_test true e =
+          let same_parent : p ≡ parent = eqb-true p parent e in
+          subst (λ q. IsTrue (list_all (is_found_below (below_at ways q) i) r.signature)) same_parent
+          (unless_apart (is_listed apart p) _ (λ l. other (subst (λ q. IsTrue (is_listed apart q)) same_parent l)) h)
+
+  found_alone : (o : Option Further) → IsTrue (option_map_or (λ r. is_row_below (λ q. not (is_listed apart q)) (below_at ways) i r.parent r) o true)
+      → IsTrue (option_map_or (λ r. is_row_below (λ q. q == parent) (λ q. below_at ways parent) i r.parent r) o true)
+  found_alone None h = refl
+  found_alone (Some r) h = asked_alone r.parent r h
+
+pub way_of_list : (apart : List ℕ) (ways : List below.Below) → AreWaysBelow apart ways → (parent : ℕ) → ¬ IsTrue (is_listed apart parent)
+    → IsWayBelow parent (below_at ways parent)
+way_of_list apart ways each parent other = record {
+  found = λ i lt. found_alone apart ways parent other i (slice_get further i) (each.found i lt);
+  told = true_below ways parent each.told;
+}
 
 -- each folder of a package is that of an application
 pub one_of : (t : List ℕ) (others : List (List ℕ)) → IsTrue (list_any (same t) others) → IsOneOf t others
@@ -306,48 +335,52 @@ module _ (parent : ℕ) where
       eqb-true long 16 (both_left (long == 16) _ (AllPass-from_list_all is_class_id ids.now (both_right (ascends named_row ids.now) _ h) k d lt))
 
 -- a row is found by its parent, or without one
-module _ (index : RowIndex) (each : EachIsFound index) (i : ℕ) (r : Further) (found : slice_get further i ≡ Some r) (lt : i < length further) where
-  asks_below : IsTrue (is_row_below index.below.now i r.parent r)
-  asks_below = subst (λ o. IsTrue (option_map_or (λ (x : Further). is_row_below index.below.now i x.parent x) o true)) found (each.below.found i lt)
+module _ (i : ℕ) (r : Further) (found : slice_get further i ≡ Some r) (lt : i < length further) where
+  asks_below : (parent : ℕ) (way : below.Below) → IsWayBelow parent way → IsTrue (is_row_below (λ p. p == parent) (λ p. way) i r.parent r)
+  asks_below parent way each =
+      subst (λ o. IsTrue (option_map_or (λ (x : Further). is_row_below (λ p. p == parent) (λ p. way) i x.parent x) o true)) found (each.found i lt)
 
-  asks_parentless : IsTrue (is_row_parentless index.parentless.now i r.parent r)
-  asks_parentless = subst (λ o. IsTrue (option_map_or (λ (x : Further). is_row_parentless index.parentless.now i x.parent x) o true)) found (each.parentless.found i lt)
+  below_by : (parent : ℕ) (way : below.Below) → IsWayBelow parent way → r.parent ≡ Some parent → IsTrue (list_all (is_found_below way i) r.signature)
+  below_by parent way each e =
+      subst (λ t. IsTrue (if t then list_all (is_found_below way i) r.signature else true)) (eq-eqb parent parent refl)
+      (subst (λ p. IsTrue (is_row_below (λ q. q == parent) (λ q. way) i p r)) e (asks_below parent way each))
 
-  below_by : (parent : ℕ) → r.parent ≡ Some parent → IsTrue (list_all (is_found_below (below_at index.below.now parent) i) r.signature)
-  below_by parent e = subst (λ p. IsTrue (is_row_below index.below.now i p r)) e asks_below
+  module _ (index : Parentless) (each : EachParentlessIsFound index) where
+    asks_parentless : IsTrue (is_row_parentless index i r.parent r)
+    asks_parentless = subst (λ o. IsTrue (option_map_or (λ (x : Further). is_row_parentless index i x.parent x) o true)) found (each.found i lt)
 
-  parentless_by : r.parent ≡ None → IsTrue (list_all (is_found_parentless index.parentless.now i) r.signature)
-  parentless_by e = subst (λ p. IsTrue (is_row_parentless index.parentless.now i p r)) e asks_parentless
+    parentless_by : r.parent ≡ None → IsTrue (list_all (is_found_parentless index i) r.signature)
+    parentless_by e = subst (λ p. IsTrue (is_row_parentless index i p r)) e asks_parentless
 
-module _ (by_place : (place : ℕ) (t buf : List ℕ) → IsTrue (stands place t buf) ↔ StandsByPlace place t buf) (leads : Leads) (index : RowIndex) (each : EachIsFound index) (b : List ℕ) (all : IsBuffer b) where
-  finds_below : (parent i : ℕ) → WidensAt (Some parent) b i → IsFoundBelow (below_at index.below.now parent) parent b i
-  finds_below parent i w = elim (slice_get_cases further i).1 [
+module _ (by_place : (place : ℕ) (t buf : List ℕ) → IsTrue (stands place t buf) ↔ StandsByPlace place t buf) (leads : Leads) where
+  finds_below : (parent : ℕ) (way : below.Below) → IsWayBelow parent way → (b : List ℕ) → IsBuffer b → (i : ℕ) → WidensAt (Some parent) b i → IsFoundBelow way parent b i
+  finds_below parent way each b all i w = elim (slice_get_cases further i).1 [
     | inl (r, within, found, same_row) ↦
         let holds : Widens (Some parent) b r = subst (Widens (Some parent) b) same_row (w.1 r) in
-        found_below by_place leads b (small_bytes b all) i parent w (below_at index.below.now parent) r.signature (below_by index each i r found within parent holds.0) holds.1
+        found_below by_place leads b (small_bytes b all) i parent w way r.signature (below_by i r found within parent way each holds.0) holds.1
     | inr (past, none) ↦ absurd (let lt = w.0 in omega arith)
   ]
 
-  finds_parentless : (i : ℕ) → WidensAt None b i → IsFoundParentless index.parentless.now b i
-  finds_parentless i w = elim (slice_get_cases further i).1 [
+  finds_parentless : (index : Parentless) → EachParentlessIsFound index → (b : List ℕ) → IsBuffer b → (i : ℕ) → WidensAt None b i → IsFoundParentless index b i
+  finds_parentless index each b all i w = elim (slice_get_cases further i).1 [
     | inl (r, within, found, same_row) ↦
         let holds : Widens None b r = subst (Widens None b) same_row (w.1 r) in
-        found_parentless by_place leads b (small_bytes b all) i index.parentless.now w r.signature (parentless_by index each i r found within holds.0) holds.1
+        found_parentless by_place leads b (small_bytes b all) i index w r.signature (parentless_by i r found within index each holds.0) holds.1
     | inr (past, none) ↦ absurd (let lt = w.0 in omega arith)
   ]
 
-pub all_found : ((place : ℕ) (t buf : List ℕ) → IsTrue (stands place t buf) ↔ StandsByPlace place t buf) → Leads → (index : RowIndex) → EachIsFound index → FindsAll index
-all_found by_place leads index each = record {
-  below = λ b all parent i. (widens_below b parent (below_at index.below.now parent) i (true_below index.below.now parent each.below), finds_below by_place leads index each b all parent i);
-  parentless = λ b all i. (
+  pub all_below : (parent : ℕ) (way : below.Below) → IsWayBelow parent way → FindsBelow parent way
+  all_below parent way each b all i = (widens_below b parent way i each.told, finds_below parent way each b all i)
+
+  pub all_parentless : (index : Parentless) → EachParentlessIsFound index → FindsParentless index
+  all_parentless index each b all i = (
     λ is. elim is [
       | inl tried_row ↦ tried_row.1
-      | inr (inl r) ↦ widens_root b None index.parentless.now.roots.now i (both_right (ascends rooted_row index.parentless.now.roots.now) _ each.parentless.roots) r
-      | inr (inr t) ↦ widens_text b index.parentless.now.texts i each.parentless.texts t
+      | inr (inl r) ↦ widens_root b None index.roots.now i (both_right (ascends rooted_row index.roots.now) _ each.roots) r
+      | inr (inr t) ↦ widens_text b index.texts i each.texts t
     ],
-    finds_parentless by_place leads index each b all i,
-  );
-}
+    finds_parentless index each b all i,
+  )
 
 pub texts_ascend : (t : Texts) → IsTrue (are_texts t) → (t.lines ≤ t.json) × (t.json ≤ t.plain)
 texts_ascend t h =
@@ -355,25 +388,23 @@ texts_ascend t h =
     (leb-true t.lines t.json (both_left (nat_le t.lines t.json) _ up), leb-true t.json t.plain (both_right (nat_le t.lines t.json) _ up))
 
 -- the least that is found is the least that widens the answer
-module _ (index : RowIndex) (all : FindsAll index) (b : List ℕ) (bytes : IsBuffer b) where
-  pub least_below : (parent least : ℕ) (way : below.Below) → way ≡ below_at index.below.now parent → IsLeast (IsFoundBelow way parent b) FURTHER_COUNT least
-      → IsLeast (WidensAt (Some parent) b) FURTHER_COUNT least
-  least_below parent least way e h =
-      least_same _ _ FURTHER_COUNT least (λ i. (all.below b bytes parent i).0) (λ i. (all.below b bytes parent i).1)
-      (subst (λ (w : below.Below). IsLeast (IsFoundBelow w parent b) FURTHER_COUNT least) e h)
+pub least_below : (parent : ℕ) (way : below.Below) → FindsBelow parent way → (b : List ℕ) → IsBuffer b → (least : ℕ)
+    → IsLeast (IsFoundBelow way parent b) FURTHER_COUNT least → IsLeast (WidensAt (Some parent) b) FURTHER_COUNT least
+least_below parent way all b bytes least h = least_same _ _ FURTHER_COUNT least (λ i. (all b bytes i).0) (λ i. (all b bytes i).1) h
 
-  pub least_with_texts : (tried_least rooted least : ℕ) → IsLeast (IsTried None b (tried_parentless index.parentless.now b)) FURTHER_COUNT tried_least
-      → IsLeast (IsRooted b index.parentless.now.roots.now) tried_least rooted → IsLeast (IsTextRow index.parentless.now.texts b) rooted least
+module _ (index : Parentless) (all : FindsParentless index) (b : List ℕ) (bytes : IsBuffer b) where
+  pub least_with_texts : (tried_least rooted least : ℕ) → IsLeast (IsTried None b (tried_parentless index b)) FURTHER_COUNT tried_least
+      → IsLeast (IsRooted b index.roots.now) tried_least rooted → IsLeast (IsTextRow index.texts b) rooted least
       → IsLeast (WidensAt None b) FURTHER_COUNT least
   least_with_texts tried_least rooted least h r k =
-      least_same _ _ FURTHER_COUNT least (λ i. (all.parentless b bytes i).0) (λ i. (all.parentless b bytes i).1)
+      least_same _ _ FURTHER_COUNT least (λ i. (all b bytes i).0) (λ i. (all b bytes i).1)
       (least_both _ _ FURTHER_COUNT tried_least least h (least_both _ _ tried_least rooted least r k))
 
-  pub least_before_texts : (tried_least least : ℕ) → IsTrue (are_texts index.parentless.now.texts) → least ≤ index.parentless.now.texts.lines
-      → IsLeast (IsTried None b (tried_parentless index.parentless.now b)) FURTHER_COUNT tried_least
-      → IsLeast (IsRooted b index.parentless.now.roots.now) tried_least least → IsLeast (WidensAt None b) FURTHER_COUNT least
+  pub least_before_texts : (tried_least least : ℕ) → IsTrue (are_texts index.texts) → least ≤ index.texts.lines
+      → IsLeast (IsTried None b (tried_parentless index b)) FURTHER_COUNT tried_least
+      → IsLeast (IsRooted b index.roots.now) tried_least least → IsLeast (WidensAt None b) FURTHER_COUNT least
   least_before_texts tried_least least texts later h r =
-      let (json_later, plain_later) = texts_ascend index.parentless.now.texts texts in
+      let (json_later, plain_later) = texts_ascend index.texts texts in
       least_with_texts tried_least least least h r (least_late _ least (λ i is. elim is [
         | inl (e, p) ↦ omega arith
         | inr (inl (e, p)) ↦ omega arith
@@ -381,19 +412,20 @@ module _ (index : RowIndex) (all : FindsAll index) (b : List ℕ) (bytes : IsBuf
       ]))
 
 -- as computed of each row: a refusal shows the numbers of the rows that are not found
-pub each_below : (ways : List below.Below) → NoRowFails (is_row_below_found ways) → IsTrue (are_true 0 ways) → EachBelowIsFound ways
-each_below ways none told = record {
-  found = each_row (is_row_below_found ways) none;
-  told = told;
-}
+each_found : (test : ℕ → Further → Bool) → refused test 0 further ≡ [] → (i : ℕ) → IsTrue (option_map_or (test i) (slice_get further i) true)
+each_found test none i = let e : 0 + i ≡ i = omega arith in subst (λ k. IsTrue (option_map_or (test k) (slice_get further i) true)) e (each_passes test 0 further none i)
 
-pub each_parentless : (index : Parentless) → NoRowFails (is_row_parentless_found index) → IsTrue (are_texts index.texts)
-    → IsTrue (are_rooted index.roots.now) → EachParentlessIsFound index
-each_parentless index none texts roots = record {
-  found = each_row (is_row_parentless_found index) none;
-  texts = texts;
-  roots = roots;
-}
+pub way_below : (parent : ℕ) (way : below.Below) → refused (λ i r. is_row_below (λ p. p == parent) (λ p. way) i r.parent r) 0 further ≡ []
+    → IsTrue (is_true_below parent way) → IsWayBelow parent way
+way_below parent way none told = record { found = λ i lt. each_found _ none i; told = told }
+
+pub ways_below : (apart : List ℕ) (ways : List below.Below)
+    → refused (λ i r. is_row_below (λ p. not (is_listed apart p)) (below_at ways) i r.parent r) 0 further ≡ [] → IsTrue (are_true 0 ways) → AreWaysBelow apart ways
+ways_below apart ways none told = record { found = λ i lt. each_found _ none i; told = told }
+
+pub each_parentless : (index : Parentless) → refused (λ i r. is_row_parentless index i r.parent r) 0 further ≡ [] → IsTrue (are_texts index.texts)
+    → IsTrue (are_rooted index.roots.now) → IsTrue (are_spans index.first) → EachParentlessIsFound index
+each_parentless index none texts roots spans = record { found = λ i lt. each_found _ none i; texts = texts; roots = roots; spans = spans }
 
 -- a root is that of markup, which begins with white space, "<" or a byte order mark
 pub root_starts : (b : List ℕ) → Leads → (name rest : List ℕ) → IsRootElement name rest b → MayBeginMarkup b

@@ -217,21 +217,21 @@ excepted_here b i a (e ∷ excepts) h k = elim (or_cases (is_but i a e) _ h) [
   | inr later ↦ listed_right (unless b e) (excepted b excepts) i (excepted_here b i a excepts later k)
 ]
 
-begun_by : (index : Parentless) (b : List ℕ) → 0 < length b → begun index b ≡ entries_at index.first.now (slice_index b 0)
+begun_by : (index : Parentless) (b : List ℕ) → 0 < length b → begun index b ≡ entries_at index.first (slice_index b 0)
 begun_by index [] lt = absurd (omega arith)
 begun_by index (x ∷ rest) lt = refl
 
 module _ (by_place : (place : ℕ) (t buf : List ℕ) → IsTrue (stands place t buf) ↔ StandsByPlace place t buf) (index : Parentless) (b : List ℕ) (i : ℕ) where
-  begun_here : (a : Alternative) → IsTrue (is_tested (λ x. is_met i a (entries_at index.first.now x) 0 x) 0 a) → IsTrue (fits b a)
+  begun_here : (a : Alternative) → IsTrue (is_tested (λ x. is_met i a (entries_at index.first x) 0 x) 0 a) → IsTrue (fits b a)
       → IsTrue (is_listed (candidates b (begun index b)) i)
   begun_here a h k =
-      let here = passes by_place (λ x. is_met i a (entries_at index.first.now x) 0 x) 0 b a h k in
-      let entries = entries_at index.first.now (slice_index b 0) in
+      let here = passes by_place (λ x. is_met i a (entries_at index.first x) 0 x) 0 b a h k in
+      let entries = entries_at index.first (slice_index b 0) in
       subst (λ (l : List Entry). IsTrue (is_listed (candidates b l) i)) (sym (begun_by index b here.0))
       (met_here by_place b i a entries 0 (slice_index b 0) k here.0 refl here.1)
 
   pub parentless_here : (a : Alternative) → IsTrue (is_tried_parentless index i a) → IsTrue (fits b a) → IsTrue (is_listed (tried_parentless index b) i)
-  parentless_here a h k = elim (or_cases (is_tested (λ x. is_met i a (entries_at index.first.now x) 0 x) 0 a) _ h) [
+  parentless_here a h k = elim (or_cases (is_tested (λ x. is_met i a (entries_at index.first x) 0 x) 0 a) _ h) [
     | inl e ↦ listed_left (candidates b (begun index b)) _ i (begun_here a e k)
     | inr e ↦ listed_right (candidates b (begun index b)) _ i (elim (or_cases (is_guarded i a index.guards.now) _ e) [
       | inl beside ↦ listed_left (guarded b index.guards.now) _ i (guarded_here by_place b i a index.guards.now beside k)

@@ -1,6 +1,6 @@
 -- Which further rows are tried or told, and that these are all that can widen an answer.
-use Rattle.std.specs.Prelude.{◌≡◌, ◌⊎◌, ◌↔◌, ◌-◌, ◌%◌, ◌<◌, ◌≤◌, ◌==◌, ◌&&◌, ◌||◌, ℕ, suc, Bool, true, false, All, IsTrue, List, [], ◌∷◌, ◌++◌, Option, None, Some, if◌then◌else◌, length, nat_le, nat_lt, slice_get, slice_index}
-use Rattle.std.specs.List.{list_all, list_any, range_with_len}
+use Rattle.std.specs.Prelude.{◌≡◌, ◌⊎◌, ◌↔◌, ◌-◌, ◌%◌, ◌<◌, ◌≤◌, ◌==◌, ◌&&◌, ◌||◌, ℕ, suc, Bool, not, true, false, All, IsTrue, List, [], ◌∷◌, ◌++◌, Option, None, Some, if◌then◌else◌, length, nat_le, nat_lt, slice_get, slice_index}
+use Rattle.std.specs.List.{list_all, list_any, range_with_len, slice_range}
 use Rattle.std.specs.Option.{option_map_or}
 use denote.Ref.{Bor}
 use Rattle.infer_deep.specs.ClassId.{HasClassId}
@@ -21,6 +21,7 @@ use Rattle.infer_notation.specs.Alternative.{Alternative, related}
 use Rattle.infer_more.specs.Table.{further}
 use Rattle.infer_more.specs.Wider.{WidensAt}
 use Rattle.infer_more.specs.declared.index.Below as below
+use Rattle.infer_more.specs.declared.index.Begun.{Begun}
 use Rattle.infer_more.specs.declared.index.Below.TheVariants.{ClassIds, Entries, Nothing, Packages, Programs, Roots}
 use Rattle.infer_more.specs.declared.index.Entry.{Entry}
 use Rattle.infer_more.specs.declared.index.Except.{Except}
@@ -30,7 +31,7 @@ use Rattle.infer_more.specs.declared.index.Named.{Named}
 use Rattle.infer_more.specs.declared.index.Parentless.{Parentless}
 use Rattle.infer_more.specs.declared.index.Range.{Range}
 use Rattle.infer_more.specs.declared.index.Rooted.{Rooted}
-use Rattle.infer_more.specs.declared.index.RowIndex.{RowIndex}
+use Rattle.infer_more.specs.declared.index.Span.{Span}
 use Rattle.infer_more.specs.declared.index.Texts.{Texts}
 
 -- the buffer has the byte at the place
@@ -82,9 +83,16 @@ unless b e = if has_other b e.place e.byte then e.row ∷ [] else []
 abbrev pub excepted : List ℕ → List Except → List ℕ
 excepted b excepts = all_of (unless b) excepts
 
--- the entries that the code lists at i
-abbrev pub entries_at : List (Bor (List Entry)) → ℕ → List Entry
-entries_at lists i = option_map_or (λ entries. entries.now) (slice_get lists i) []
+-- the entries that stand in span i
+abbrev pub entries_at : Begun → ℕ → List Entry
+entries_at lists i = option_map_or (λ s. slice_range lists.entries.now s.start s.end) (slice_get lists.spans.now i) []
+
+-- a span of so many entries, and all spans of the lists
+abbrev pub is_span : ℕ → Span → Bool
+is_span many s = nat_le s.start s.end && nat_le s.end many
+
+abbrev pub are_spans : Begun → Bool
+are_spans lists = list_all (is_span (length lists.entries.now)) lists.spans.now
 
 -- how the rows below built-in row i are told
 abbrev pub below_at : List below.Below → ℕ → below.Below
@@ -94,7 +102,7 @@ module _ (index : Parentless) where
   -- the entries that are listed by the first byte
   abbrev pub begun : List ℕ → List Entry
   begun [] = []
-  begun (x ∷ rest) = entries_at index.first.now x
+  begun (x ∷ rest) = entries_at index.first x
 
   -- the rows that are tried of a buffer without a built-in answer
   abbrev pub tried_parentless : List ℕ → List ℕ
@@ -239,7 +247,7 @@ is_excepted i a excepts = list_any (is_but i a) excepts
 -- each buffer without a built-in answer that has such bytes has row i among the rows that are tried of it
 abbrev pub is_tried_parentless : Parentless → ℕ → fixed.Alternative → Bool
 is_tried_parentless index i a =
-    is_tested (λ x. is_met i a (entries_at index.first.now x) 0 x) 0 a
+    is_tested (λ x. is_met i a (entries_at index.first x) 0 x) 0 a
     || (is_guarded i a index.guards.now || (is_gated i a index.gate || is_ranged i a index.ranges.now))
 
 -- two texts have the same bytes
@@ -307,19 +315,19 @@ is_text_row t i other = false
 abbrev pub is_found_parentless : Parentless → ℕ → Alternative → Bool
 is_found_parentless index i a = is_text_row index.texts i a || (is_in_roots i index.roots.now a || list_all (is_tried_parentless index i) (lines a))
 
--- a row with a parent, if it has one, is found of each buffer that its signature accepts
-abbrev pub is_row_below : List below.Below → ℕ → Option ℕ → Further → Bool
-is_row_below ways i None r = true
-is_row_below ways i (Some parent) r = list_all (is_found_below (below_at ways parent) i) r.signature
+-- a row whose parent is one that is asked is found, in the way below that, of each buffer that its signature accepts
+abbrev pub is_row_below : (ℕ → Bool) → (ℕ → below.Below) → ℕ → Option ℕ → Further → Bool
+is_row_below asked way i None r = true
+is_row_below asked way i (Some parent) r = if asked parent then list_all (is_found_below (way parent) i) r.signature else true
 
--- and so is one without
+-- and so is one without a parent
 abbrev pub is_row_parentless : Parentless → ℕ → Option ℕ → Further → Bool
 is_row_parentless index i None r = list_all (is_found_parentless index i) r.signature
 is_row_parentless index i (Some parent) r = true
 
 -- row i is so, if there is such a row
-abbrev pub is_row_below_found : List below.Below → ℕ → Bool
-is_row_below_found ways i = option_map_or (λ r. is_row_below ways i r.parent r) (slice_get further i) true
+abbrev pub is_row_below_found : (ℕ → Bool) → (ℕ → below.Below) → ℕ → Bool
+is_row_below_found asked way i = option_map_or (λ r. is_row_below asked way i r.parent r) (slice_get further i) true
 
 abbrev pub is_row_parentless_found : Parentless → ℕ → Bool
 is_row_parentless_found index i = option_map_or (λ r. is_row_parentless index i r.parent r) (slice_get further i) true
@@ -407,21 +415,26 @@ are_texts t =
 abbrev pub are_rooted : List Rooted → Bool
 are_rooted roots = ascends rooted_row roots && list_all (λ e. is_row_with None (asks_root e.name.now e.text) e.row) roots
 
--- each further row with a parent is found, and none other
-pub record EachBelowIsFound (ways : List below.Below) : Type 0 where
-  pub found : (i : ℕ) → i < length further → IsTrue (is_row_below_found ways i)
+-- in this way each further row below that built-in row is found, and none other
+pub record IsWayBelow (parent : ℕ) (way : below.Below) : Type 0 where
+  pub found : (i : ℕ) → i < length further → IsTrue (is_row_below_found (λ p. p == parent) (λ p. way) i)
+  pub told : IsTrue (is_true_below parent way)
+
+-- in these ways each below its parent, but for the parents that stand apart
+pub record AreWaysBelow (apart : List ℕ) (ways : List below.Below) : Type 0 where
+  pub found : (i : ℕ) → i < length further → IsTrue (is_row_below_found (λ p. not (is_listed apart p)) (below_at ways) i)
   pub told : IsTrue (are_true 0 ways)
 
 pub record EachParentlessIsFound (index : Parentless) : Type 0 where
   pub found : (i : ℕ) → i < length further → IsTrue (is_row_parentless_found index i)
   pub texts : IsTrue (are_texts index.texts)
   pub roots : IsTrue (are_rooted index.roots.now)
+  pub spans : IsTrue (are_spans index.first)
 
-pub record EachIsFound (index : RowIndex) : Type 0 where
-  pub below : EachBelowIsFound index.below.now
-  pub parentless : EachParentlessIsFound index.parentless.now
+-- just the rows that widen that answer are found
+abbrev pub FindsBelow : ℕ → below.Below → Type 0
+FindsBelow parent way = (b : List ℕ) → IsBuffer b → (i : ℕ) → IsFoundBelow way parent b i ↔ WidensAt (Some parent) b i
 
--- just the rows that widen an answer are found
-pub record FindsAll (index : RowIndex) : Type 0 where
-  pub below : (b : List ℕ) → IsBuffer b → (parent i : ℕ) → IsFoundBelow (below_at index.below.now parent) parent b i ↔ WidensAt (Some parent) b i
-  pub parentless : (b : List ℕ) → IsBuffer b → (i : ℕ) → IsFoundParentless index.parentless.now b i ↔ WidensAt None b i
+-- and those that widen none
+abbrev pub FindsParentless : Parentless → Type 0
+FindsParentless index = (b : List ℕ) → IsBuffer b → (i : ℕ) → IsFoundParentless index b i ↔ WidensAt None b i

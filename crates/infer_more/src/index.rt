@@ -1,7 +1,7 @@
 //! Which further rows are tried of a buffer, so that few are. An entry names a row and a byte that it asks, so that a row
 //! is tried whole only where the buffer has that byte too. Rows that ask for a name are told by it, which is read once for
 //! all of them.
-ghost use Rattle.infer_more.specs.Index.{EachBelowIsFound, EachParentlessIsFound, EachIsFound, FindsAll};
+ghost use Rattle.infer_more.specs.Index.{EachParentlessIsFound, FindsBelow, FindsParentless, IsWayBelow};
 
 /// A row, by its number among the further rows, that is tried only if a buffer has the byte at the place.
 pub(crate) struct Entry {
@@ -76,24 +76,30 @@ pub(crate) struct Texts {
     pub plain: u16,
 }
 
+/// Where the entries of a list begin and end.
+pub(crate) struct Span {
+    pub start: u16,
+    pub end: u16,
+}
+
+/// The entries by their first byte: a span for each. They stand in one list, as the check of a static takes time quadratic
+/// in the lists inside it.
+pub(crate) struct Begun {
+    pub spans: &'static [Span],
+    pub entries: &'static [Entry],
+}
+
 /// The rows without a parent that are tried: by their first byte, and behind guards those that allow any first byte,
 /// or share it with the zeros of many files. Of these the rows that share another byte stand behind the gate, so that a
 /// buffer without it is told by one look. Ranges have the rows that allow many bytes. The root of markup is looked for once
 /// for all rows that ask for one. The texts come last.
 pub(crate) struct Parentless {
-    pub first: &'static [&'static [Entry]],
+    pub first: Begun,
     pub guards: &'static [Guard],
     pub gate: Gate,
     pub ranges: &'static [Range],
     pub roots: &'static [Rooted],
     pub texts: Texts,
-}
-
-/// How the rows below each built-in row are told, and those without a parent.
-#[derive(Drop)]
-pub(crate) struct RowIndex {
-    pub below: &'static [Below],
-    pub parentless: &'static Parentless,
 }
 
 macro_rules! entries {
@@ -150,13 +156,12 @@ macro_rules! text {
     };
 }
 
-macro_rules! lists {
-    ($(($($place:literal $byte:literal $row:literal),*))*) => {
-        &[$(&[$(Entry {
-            place: $place,
-            row: $row,
-            byte: $byte,
-        }),*]),*]
+macro_rules! spans {
+    ($($start:literal $end:literal),*) => {
+        &[$(Span {
+            start: $start,
+            end: $end,
+        }),*]
     };
 }
 
@@ -200,43 +205,55 @@ mod generated;
 
 pub use generated::FURTHER_COUNT;
 pub(crate) use generated::found_below;
-use generated::{BELOW, PARENTLESS};
+use generated::{PARENTLESS, told_below};
 
-/// How the rows below each built-in row are told.
+/// How the rows below this built-in row are told: in a way by which just those are found that widen its answer.
 #[inline(always)]
-fn below_rows() -> &'static [Below]
-    ensures { EachBelowIsFound result.now }
+pub(crate) fn way_below(parent: usize) -> &'static Below
+    ensures each { IsWayBelow parent result.now }
+    ensures finds { FindsBelow parent result.now }
 {
-    BELOW
+    let way = told_below(parent);
+    law_finds_below(parent, way);
+    way
+}
+
+/// A law: in a way that has each row below a built-in one, just those are found that widen its answer.
+#[tactic(auto, using(crate::proofs::FoundLemmas::all_below))]
+fn law_finds_below(parent: usize, way: &Below)
+    requires { IsWayBelow parent way.now }
+    ensures { FindsBelow parent way.now }
+{
+    let _ = parent;
+    let _ = way;
+    infer_formats::laws::leads();
+    infer_sig::laws::by_place();
 }
 
 /// The rows without a parent.
 #[inline(always)]
-fn without_parent() -> &'static Parentless
+fn listed_without_parent() -> &'static Parentless
     ensures { EachParentlessIsFound result.now }
 {
     &PARENTLESS
 }
 
-/// The index, by which just those further rows are found that widen an answer.
+/// The rows without a parent, by which just those are found that widen an answer below which there is none.
 #[inline(always)]
-pub(crate) fn index() -> RowIndex
-    ensures each { EachIsFound result }
-    ensures finds { FindsAll result }
+pub(crate) fn without_parent() -> &'static Parentless
+    ensures each { EachParentlessIsFound result.now }
+    ensures finds { FindsParentless result.now }
 {
-    let index = RowIndex {
-        below: below_rows(),
-        parentless: without_parent(),
-    };
-    law_finds(&index);
+    let index = listed_without_parent();
+    law_finds_parentless(index);
     index
 }
 
-/// A law: by an index that has each row just those are found that widen an answer.
-#[tactic(auto, using(crate::proofs::FoundLemmas::all_found))]
-fn law_finds(index: &RowIndex)
-    requires { EachIsFound index.now }
-    ensures { FindsAll index.now }
+/// A law: by an index that has each row without a parent, just those are found that widen an answer below which there is
+/// none.
+fn law_finds_parentless(index: &Parentless)
+    requires { EachParentlessIsFound index.now }
+    ensures { FindsParentless index.now }
 {
     let _ = index;
     infer_formats::laws::leads();

@@ -5,13 +5,13 @@ ghost use Rattle.infer_deep.specs.ClassId.{HasClassId};
 ghost use Rattle.infer_deep.specs.Find.{OccursAt};
 ghost use Rattle.infer_formats.specs.Json.{IsJson, IsJsonLines};
 ghost use Rattle.infer_formats.specs.Zip.{IsPackageWith};
-ghost use Rattle.infer_more.specs.Index.{AllApplications, AreClassIds, HasTagText, IsFoundBelow, IsLeast, IsNamed, IsOfProgram, IsRooted, IsRootedBy, IsTextRow, IsTried, MayBeginMarkup, are_texts, ascends, begun, behind, below_at, bucket_at, bucket_of, candidate, candidates, entries_at, excepted, gated, guarded, has_between, has_byte, has_other, is_true_below, named_row, ranged, rooted_row, tried_parentless, unless, within};
+ghost use Rattle.infer_more.specs.Index.{AllApplications, AreClassIds, HasTagText, IsFoundBelow, IsLeast, IsNamed, IsOfProgram, IsRooted, IsRootedBy, IsTextRow, IsTried, MayBeginMarkup, are_spans, are_texts, ascends, begun, behind, below_at, bucket_at, bucket_of, candidate, candidates, entries_at, excepted, gated, guarded, has_between, has_byte, has_other, is_true_below, named_row, ranged, rooted_row, tried_parentless, unless, within};
 ghost use Rattle.infer_more.specs.Wider.{IsWidened, WidensAt};
 ghost use Rattle.infer_more.specs.declared.index.generated.TheConstants.{FURTHER_COUNT};
 
 use crate::index::{
-    Below, Entry, Except, FURTHER_COUNT, Gate, Guard, Named, Parentless, Range, Rooted, Texts,
-    index,
+    Begun, Below, Entry, Except, FURTHER_COUNT, Gate, Guard, Named, Parentless, Range, Rooted,
+    Texts, way_below, without_parent,
 };
 use crate::table::widens;
 use infer::rows::ROW_COUNT;
@@ -223,21 +223,23 @@ fn least_excepted(excepts: &[Except], parent: Option<usize>, buf: &[u8], before:
 /// The entries that are listed by the buffer's first byte.
 #[inline(always)]
 fn entries_begun(index: &Parentless, buf: &[u8]) -> &'static [Entry]
+    requires { IsTrue (are_spans index.now.first) }
     ensures { result.now ≡ begun index.now buf.now }
 {
     match buf.first() {
-        Some(byte) => entries_at(index.first, usize::from(*byte)),
+        Some(byte) => entries_at(&index.first, usize::from(*byte)),
         None => &[],
     }
 }
 
-/// The entries at that place of the lists, and none past the last.
+/// The entries of that span, and none past the last.
 #[inline(always)]
-fn entries_at(lists: &'static [&'static [Entry]], i: usize) -> &'static [Entry]
+fn entries_at(lists: &Begun, i: usize) -> &'static [Entry]
+    requires { IsTrue (are_spans lists.now) }
     ensures { result.now ≡ entries_at lists.now i }
 {
-    match lists.get(i) {
-        Some(entries) => entries,
+    match lists.spans.get(i) {
+        Some(span) => &lists.entries[usize::from(span.start)..usize::from(span.end)],
         None => &[],
     }
 }
@@ -246,6 +248,7 @@ fn entries_at(lists: &'static [&'static [Entry]], i: usize) -> &'static [Entry]
 /// none, and cost no call.
 #[inline(always)]
 fn least_begun(index: &Parentless, buf: &[u8]) -> usize
+    requires { IsTrue (are_spans index.now.first) }
     ensures { IsLeast (IsTried None buf.now
         (candidates buf.now (begun index.now buf.now))) FURTHER_COUNT result }
 {
@@ -259,6 +262,7 @@ fn least_begun(index: &Parentless, buf: &[u8]) -> usize
 /// The least of the rows that such an index tries and that widen the answer, or their count.
 #[inline(always)]
 fn least_tried(index: &Parentless, buf: &[u8]) -> usize
+    requires { IsTrue (are_spans index.now.first) }
     ensures { IsLeast (IsTried None buf.now
         (tried_parentless index.now buf.now)) FURTHER_COUNT result }
 {
@@ -347,10 +351,10 @@ fn least_root_apart(roots: &[Rooted], buf: &[u8], before: usize) -> usize
 fn least_parentless(buf: &[u8]) -> usize
     ensures { IsLeast (WidensAt None buf.now) FURTHER_COUNT result }
 {
-    let index = index();
-    let tried = least_tried(index.parentless, buf);
-    let rooted = least_markup(index.parentless.roots, buf, tried);
-    let texts = &index.parentless.texts;
+    let index = without_parent();
+    let tried = least_tried(index, buf);
+    let rooted = least_markup(index.roots, buf, tried);
+    let texts = &index.texts;
     if rooted <= usize::from(texts.lines) {
         return rooted;
     }
@@ -512,7 +516,7 @@ fn least_found(below: &Below, row: usize, buf: &[u8]) -> usize
 
 /// How the rows below this built-in row are told.
 #[inline(always)]
-fn below_at(ways: &'static [Below], i: usize) -> &'static Below
+pub(super) fn below_at(ways: &'static [Below], i: usize) -> &'static Below
     ensures { result.now ≡ below_at ways.now i }
 {
     match ways.get(i) {
@@ -526,8 +530,7 @@ fn below_at(ways: &'static [Below], i: usize) -> &'static Below
 fn found(row: usize, buf: &[u8]) -> usize
     ensures { IsWidened (Some row) buf.now (Some result) }
 {
-    let index = index();
-    let least = least_found(below_at(index.below, row), row, buf);
+    let least = least_found(way_below(row), row, buf);
     if least < FURTHER_COUNT {
         ROW_COUNT + least
     } else {

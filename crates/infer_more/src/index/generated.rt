@@ -1,16 +1,80 @@
 //! Made by `tools/tables` from the further rows, the lists of the index: a place, a byte there, and a row, or a name and a
-//! row. Those below each built-in row stand in its order, and those by the first byte eight a line.
-ghost use Rattle.std.specs.Prelude.{Some};
+//! row. Those below each built-in row stand in its order, but for those that are told by names, which have lists of their
+//! own; and those by the first byte eight a line.
+ghost use Rattle.std.specs.Prelude.{Some, List, [], ◌∷◌};
+ghost use Rattle.infer_more.specs.Index.{AreWaysBelow, IsWayBelow};
 ghost use Rattle.infer_more.specs.Wider.{IsWidened};
 
 use crate::index::Below::{ClassIds, Entries, Nothing, Packages, Programs, Roots};
-use crate::index::asked::found_row_apart;
-use crate::index::{Below, Entry, Except, Gate, Guard, Named, Parentless, Range, Rooted, Texts};
+use crate::index::asked::{below_at, found_row_apart};
+use crate::index::{
+    Begun, Below, Entry, Except, Gate, Guard, Named, Parentless, Range, Rooted, Span, Texts,
+};
 
 /// How many further rows there are.
 pub const FURTHER_COUNT: usize = 383;
 
-pub(super) static BELOW: &[Below] = &[
+static BELOW_67: Below = Packages(
+    entries![37 0x4D 4, 39 0x63 4, 38 0x2F 6, 81 0x50 12, 76 0x6D 13, 56 0x61 14, 73 0x63 140, 76 0x70 141, 62 0x77 142, 55 0x62 143, 53 0x63 144, 54 0x76 145, 38 0x78 146, 35 0x6A 147, 78 0x4B 310, 55 0x61 311, 65 0x63 312, 65 0x77 313, 64 0x70 314, 53 0x2E 315, 56 0x6D 316, 56 0x6F 317, 53 0x70 318, 54 0x70 319, 40 0x70 320, 38 0x63 321, 41 0x2E 322, 40 0x6D 323],
+    excepts![26 0x00 5, 27 0x00 5, 28 0x00 6, 29 0x00 6, 26 0x00 148, 27 0x00 148, 26 0x00 324, 27 0x00 324, 26 0x00 325, 27 0x00 325],
+    named![b"word/" 7, b"xl/" 8, b"ppt/" 9, b"visio/" 10, b"3D/" 11],
+);
+
+/// How the rows below built-in row 67 are told.
+#[inline(always)]
+fn below_67() -> &'static Below
+    ensures { IsWayBelow 67 result.now }
+{
+    &BELOW_67
+}
+
+static BELOW_93: Below = ClassIds(
+    named![b"\x84\x10\x0C\0\0\0\0\0\xC0\0\0\0\0\0\0\x46" 19, b"\x0B\x0D\x02\0\0\0\0\0\xC0\0\0\0\0\0\0\x46" 20, b"\x01\x12\x02\0\0\0\0\0\0\xC0\0\0\0\0\0\x46" 21, b"\x11\x1A\x02\0\0\0\0\0\xC0\0\0\0\0\0\0\x46" 22, b"\x14\x1A\x02\0\0\0\0\0\xC0\0\0\0\0\0\0\x46" 22, b"\xD1\xF9\x0C\xC2\xAE\x85\xD1\x11\xAA\xB4\0`\x97\xDAV\x1A" 153, b":\x8F\xB7t\xC8\xC8\xD1\x11\xBE\x11\0\xC0O\xB6\xFA\xF1" 326, b"\0gaVT\xC1\xCE\x11\x85S\0\xAA\0\xA1\xF9[" 327, b"b\xFE.@\x99\x19\x1B\x10\x99\xAE\x04\x02\x1C\0p\x02" 328],
+);
+
+/// How the rows below built-in row 93 are told.
+#[inline(always)]
+fn below_93() -> &'static Below
+    ensures { IsWayBelow 93 result.now }
+{
+    &BELOW_93
+}
+
+static BELOW_95: Below = Roots(rooted![b"svg" () 54]);
+
+/// How the rows below built-in row 95 are told.
+#[inline(always)]
+fn below_95() -> &'static Below
+    ensures { IsWayBelow 95 result.now }
+{
+    &BELOW_95
+}
+
+static BELOW_96: Below = Roots(
+    rooted![b"svg" () 47, b"rss" () 48, b"RDF" (b"http://purl.org/rss/1.0/") 48, b"feed" (b"http://www.w3.org/2005/Atom") 49, b"kml" () 50, b"gpx" () 51, b"html" (b"http://www.w3.org/1999/xhtml") 52, b"plist" () 53, b"opml" () 176, b"FictionBook" () 177, b"interface" () 178, b"TS" () 179, b"Ontology" (b"http://www.w3.org/2002/07/owl#") 180, b"sparql" (b"http://www.w3.org/2005/sparql-results#") 181, b"metalink" (b"urn:ietf:params:xml:ns:metalink") 182, b"nzb" () 183, b"jnlp" () 184, b"shape" (b"http://www.daa.com.au/~james/dia-shape-ns") 185, b"document" (b"application/vnd.oasis.opendocument.text") 186, b"ttFont" () 187],
+);
+
+/// How the rows below built-in row 96 are told.
+#[inline(always)]
+fn below_96() -> &'static Below
+    ensures { IsWayBelow 96 result.now }
+{
+    &BELOW_96
+}
+
+static BELOW_97: Below = Programs(
+    buckets![() (b"awk" 45) (b"bun" 42) (b"cjs" 165, b"clisp" 173, b"csh" 289, b"csi" 292, b"clj" 293, b"clojure" 293) (b"deno" 42, b"dart" 174) (b"expect" 46, b"escript" 170, b"ecl" 173, b"execlineb" 305, b"elixir" 308) (b"fish" 290) (b"gawk" 45, b"gjs" 165, b"guile" 292, b"gosh" 292, b"groovy" 294, b"gnuplot" 301, b"gmake" 302, b"gsed" 303) () () (b"jruby" 41, b"julia" 299) () (b"lua" 44, b"luajit" 44, b"littler" 291, b"luatex" 306) (b"mawk" 45, b"make" 302) (b"node" 42, b"nodejs" 42, b"nawk" 45, b"nft" 175) (b"ocaml" 296, b"ocamlscript" 296, b"ocamlrun" 297, b"octave" 300, b"octave-cli" 300) (b"python" 39, b"pypy" 39, b"perl" 40, b"php" 43, b"pwsh" 307, b"powershell" 307) (b"qjs" 165, b"qml" 166, b"qmlscene" 166) (b"ruby" 41, b"rhino" 165, b"raku" 171, b"rakudo" 171, b"racket" 172, b"Rscript" 291, b"r" 291, b"runhaskell" 298, b"runghc" 298) (b"sbcl" 173, b"scheme" 292, b"scala" 295, b"stack" 298, b"sed" 303, b"stap" 304) (b"tclsh" 46, b"tcsh" 289, b"texlua" 306) (b"utop" 296) () (b"wish" 46) () () () () () () () ()],
+);
+
+/// How the rows below built-in row 97 are told.
+#[inline(always)]
+fn below_97() -> &'static Below
+    ensures { IsWayBelow 97 result.now }
+{
+    &BELOW_97
+}
+
+static BELOW: &[Below] = &[
     Nothing,
     Entries(
         entries![16 0x01 0, 17 0x01 0, 16 0x04 1, 17 0x04 1, 9 0x49 2, 16 0x03 3, 17 0x03 3, 18 0xBE 18],
@@ -84,11 +148,7 @@ pub(super) static BELOW: &[Below] = &[
     Entries(entries![88 0x70 16]),
     Entries(entries![89 0x70 17]),
     Nothing,
-    Packages(
-        entries![37 0x4D 4, 39 0x63 4, 38 0x2F 6, 81 0x50 12, 76 0x6D 13, 56 0x61 14, 73 0x63 140, 76 0x70 141, 62 0x77 142, 55 0x62 143, 53 0x63 144, 54 0x76 145, 38 0x78 146, 35 0x6A 147, 78 0x4B 310, 55 0x61 311, 65 0x63 312, 65 0x77 313, 64 0x70 314, 53 0x2E 315, 56 0x6D 316, 56 0x6F 317, 53 0x70 318, 54 0x70 319, 40 0x70 320, 38 0x63 321, 41 0x2E 322, 40 0x6D 323],
-        excepts![26 0x00 5, 27 0x00 5, 28 0x00 6, 29 0x00 6, 26 0x00 148, 27 0x00 148, 26 0x00 324, 27 0x00 324, 26 0x00 325, 27 0x00 325],
-        named![b"word/" 7, b"xl/" 8, b"ppt/" 9, b"visio/" 10, b"3D/" 11],
-    ),
+    Nothing,
     Entries(entries![10 0x7A 155]),
     Nothing,
     Nothing,
@@ -114,54 +174,110 @@ pub(super) static BELOW: &[Below] = &[
     Nothing,
     Nothing,
     Nothing,
-    ClassIds(
-        named![b"\x84\x10\x0C\0\0\0\0\0\xC0\0\0\0\0\0\0\x46" 19, b"\x0B\x0D\x02\0\0\0\0\0\xC0\0\0\0\0\0\0\x46" 20, b"\x01\x12\x02\0\0\0\0\0\0\xC0\0\0\0\0\0\x46" 21, b"\x11\x1A\x02\0\0\0\0\0\xC0\0\0\0\0\0\0\x46" 22, b"\x14\x1A\x02\0\0\0\0\0\xC0\0\0\0\0\0\0\x46" 22, b"\xD1\xF9\x0C\xC2\xAE\x85\xD1\x11\xAA\xB4\0`\x97\xDAV\x1A" 153, b":\x8F\xB7t\xC8\xC8\xD1\x11\xBE\x11\0\xC0O\xB6\xFA\xF1" 326, b"\0gaVT\xC1\xCE\x11\x85S\0\xAA\0\xA1\xF9[" 327, b"b\xFE.@\x99\x19\x1B\x10\x99\xAE\x04\x02\x1C\0p\x02" 328],
-    ),
     Nothing,
-    Roots(rooted![b"svg" () 54]),
-    Roots(
-        rooted![b"svg" () 47, b"rss" () 48, b"RDF" (b"http://purl.org/rss/1.0/") 48, b"feed" (b"http://www.w3.org/2005/Atom") 49, b"kml" () 50, b"gpx" () 51, b"html" (b"http://www.w3.org/1999/xhtml") 52, b"plist" () 53, b"opml" () 176, b"FictionBook" () 177, b"interface" () 178, b"TS" () 179, b"Ontology" (b"http://www.w3.org/2002/07/owl#") 180, b"sparql" (b"http://www.w3.org/2005/sparql-results#") 181, b"metalink" (b"urn:ietf:params:xml:ns:metalink") 182, b"nzb" () 183, b"jnlp" () 184, b"shape" (b"http://www.daa.com.au/~james/dia-shape-ns") 185, b"document" (b"application/vnd.oasis.opendocument.text") 186, b"ttFont" () 187],
-    ),
-    Programs(
-        buckets![() (b"awk" 45) (b"bun" 42) (b"cjs" 165, b"clisp" 173, b"csh" 289, b"csi" 292, b"clj" 293, b"clojure" 293) (b"deno" 42, b"dart" 174) (b"expect" 46, b"escript" 170, b"ecl" 173, b"execlineb" 305, b"elixir" 308) (b"fish" 290) (b"gawk" 45, b"gjs" 165, b"guile" 292, b"gosh" 292, b"groovy" 294, b"gnuplot" 301, b"gmake" 302, b"gsed" 303) () () (b"jruby" 41, b"julia" 299) () (b"lua" 44, b"luajit" 44, b"littler" 291, b"luatex" 306) (b"mawk" 45, b"make" 302) (b"node" 42, b"nodejs" 42, b"nawk" 45, b"nft" 175) (b"ocaml" 296, b"ocamlscript" 296, b"ocamlrun" 297, b"octave" 300, b"octave-cli" 300) (b"python" 39, b"pypy" 39, b"perl" 40, b"php" 43, b"pwsh" 307, b"powershell" 307) (b"qjs" 165, b"qml" 166, b"qmlscene" 166) (b"ruby" 41, b"rhino" 165, b"raku" 171, b"rakudo" 171, b"racket" 172, b"Rscript" 291, b"r" 291, b"runhaskell" 298, b"runghc" 298) (b"sbcl" 173, b"scheme" 292, b"scala" 295, b"stack" 298, b"sed" 303, b"stap" 304) (b"tclsh" 46, b"tcsh" 289, b"texlua" 306) (b"utop" 296) () (b"wish" 46) () () () () () () () ()],
-    ),
+    Nothing,
+    Nothing,
+    Nothing,
+    Nothing,
 ];
 
+/// How the rows below each built-in row are told, but for these.
+#[inline(always)]
+fn below_others() -> &'static [Below]
+    ensures { AreWaysBelow (67 ∷ 93 ∷ 95 ∷ 96 ∷ 97 ∷ []) result.now }
+{
+    BELOW
+}
+
+/// How the rows below this built-in row are told.
+#[inline(always)]
+pub(super) fn told_below(parent: usize) -> &'static Below
+    ensures { IsWayBelow parent result.now }
+{
+    match parent {
+        67 => below_67(),
+        93 => below_93(),
+        95 => below_95(),
+        96 => below_96(),
+        97 => below_97(),
+        _ => below_at(below_others(), parent),
+    }
+}
+
 pub(super) static PARENTLESS: Parentless = Parentless {
-    first: lists![
-        (7 0x00 272, 6 0x63 286, 6 0x44 287, 39 0x70 288) (1 0xDA 197, 14 0x2A 250) (3 0x18 92, 13 0x00 136) (13 0x00 136) (24 0x3A 242) () (13 0x02 234, 15 0x1D 259) ()
-        () () (2 0x0D 56, 64 0x00 196) () () () (2 0x13 255) ()
-        () () () (2 0x9A 85, 3 0x5C 193) () () () ()
-        () () (7 0x00 58) (1 0x4C 62) () () (1 0x02 58) (2 0xE8 223, 1 0x07 235)
-        () (9 0x4D 75) () (3 0x54 116, 1 0x3F 195, 4 0x4D 345, 4 0x4C 353, 3 0x47 357, 3 0x6B 358, 3 0x58 361, 23 0x6B 372) (7 0x29 256) (4 0x4C 344) () ()
-        (4 0x5B 351) () (32 0x32 253) () () () (3 0x64 111, 3 0xFD 224, 3 0x46 225) (8 0x2F 106, 8 0x3B 377)
-        (4 0x30 95, 0 0x30 123, 13 0x00 136) (0 0x31 123, 13 0x00 136) (0 0x32 123, 13 0x00 136) (0 0x33 123) (0 0x34 123) (0 0x35 123) (0 0x36 123) (0 0x37 123, 3 0x12 269)
-        (0 0x38 123) (0 0x39 123) () (4 0x58 355) (4 0x70 122, 5 0x54 362, 3 0x70 376) () () (2 0x03 258)
-        (3 0x80 269, 7 0x6D 367) (5 0x31 81, 2 0x5A 239) (3 0x4E 109, 11 0x4E 119, 7 0x43 120, 3 0xFB 202, 7 0x4D 228, 2 0x44 241, 3 0x31 279, 10 0x45 375) (12 0x63 115, 13 0x00 136, 3 0x58 282) (2 0x53 248) (3 0x46 73, 2 0x2A 212, 15 0x3A 217) (3 0x31 63, 3 0x49 100, 11 0x43 112, 3 0x46 201, 3 0x62 208, 3 0x4D 215, 3 0x38 226, 3 0x1A 250, 11 0x70 370) (3 0x46 82, 752 0x47 138)
-        (2 0x43 249) (2 0x55 101, 3 0x46 117, 2 0x1A 209, 3 0x4D 216, 3 0x44 278, 3 0x2E 281, 3 0x2D 354, 3 0x50 363) (7 0x04 61) (3 0x56 68) (1 0x55 65, 3 0x53 71, 3 0x00 74, 3 0x49 238, 3 0x58 270) (1 0x3C 72, 1 0x53 89, 1 0x50 114, 6 0x02 214, 3 0x10 218, 4 0x00 219, 2 0x33 220, 3 0x44 227, 6 0x48 273, 4 0x66 368, 6 0x2D 369, 16 0x3A 371) (4 0x1A 222) (2 0x6A 79, 2 0x43 80)
-        (2 0x55 64, 2 0x52 78, 2 0x09 105, 2 0x0A 105, 2 0x0D 105, 2 0x20 105, 3 0x23 105, 3 0x6E 205, 2 0x46 213, 2 0x49 221, 3 0x44 278, 4 0x48 280, 5 0x58 352) (2 0x44 247, 3 0x50 284) (3 0x46 104, 3 0x44 221, 6 0x78 378) (4 0x4C 99, 3 0x58 207, 3 0x72 266, 4 0x44 356, 1 0x63 366, 2 0x67 368, 6 0x78 378) (3 0x66 60, 7 0x20 360) () () (6 0x2E 96, 5 0x54 121, 4 0x50 257)
-        (1 0x63 97, 3 0x53 207) (3 0x95 198) (5 0x57 252, 3 0x04 254) (4 0x79 346, 7 0x53 346, 8 0x63 347, 8 0x5D 348, 5 0x63 349, 10 0x63 350, 10 0x66 364, 12 0x5D 365, 27 0x5D 374) (12 0x66 359) (2 0x00 94) () ()
-        (10 0x02 91) (20 0x31 66) (7 0x30 102) (7 0x78 69, 13 0x00 136) (2 0x3A 76, 3 0x3A 76) () (11 0xE5 243) (7 0x66 98, 3 0x46 108)
-        (2 0x71 88) (1 0x63 103, 13 0x6B 206) () () () () () ()
-        (18 0x78 379) (7 0x30 240) (6 0x78 378) (1 0x71 88, 4 0x64 356) (3 0x66 118) () (3 0x78 70, 2 0x31 194) (9 0x04 113)
-        (3 0x21 90, 3 0x2D 243, 3 0x22 260, 9 0x30 373) () () (3 0x77 285) () () () (2 0x80 223)
-        (1 0x01 265, 1 0x37 269, 9 0x33 270) () () (13 0x00 136) () () () ()
-        () (3 0x46 133, 7 0x1A 237, 3 0x50 251, 6 0x1A 283) (6 0x1A 203) (13 0x00 136) () () () ()
-        () () () (5 0x59 77) (2 0x04 67) (3 0xDE 59, 3 0x04 67) () ()
-        (2 0x04 67) (3 0x04 67) () () () () () ()
-        () (5 0x02 72) () () () () () ()
-        () () () (6 0x31 191, 10 0x1A 192) () () () ()
-        () () () () () () () (15 0x8D 236)
-        () () () () () () () ()
-        () () () () () (2 0x04 67, 3 0x04 67, 3 0xC6 107) (2 0x04 67, 3 0x04 67) ()
-        () () (3 0x0D 264) (13 0x00 136) () (3 0x13 85) (3 0x13 85, 3 0xCE 268) (3 0x13 85)
-        () () () () (4 0x02 72) () () ()
-        () () () () () () (3 0x95 59) ()
-        () () () () () () () ()
-        () () () () () () () (9 0x55 116, 14 0x4E 119, 9 0x56 120, 8 0x54 121, 2 0xBF 123, 2 0xBF 344, 2 0xBF 345, 2 0xBF 346, 2 0xBF 347, 2 0xBF 348, 2 0xBF 349, 2 0xBF 350, 2 0xBF 351, 2 0xBF 352, 2 0xBF 353, 2 0xBF 354, 2 0xBF 355, 2 0xBF 356, 2 0xBF 357, 2 0xBF 358, 2 0xBF 359, 2 0xBF 360, 2 0xBF 361, 2 0xBF 362, 2 0xBF 363, 2 0xBF 364, 2 0xBF 365, 2 0xBF 366, 2 0xBF 367, 2 0xBF 368, 2 0xBF 369, 2 0xBF 370, 2 0xBF 371, 2 0xBF 372, 2 0xBF 373, 2 0xBF 374, 2 0xBF 375, 2 0xBF 376, 2 0xBF 377, 2 0xBF 378, 2 0xBF 379)
-        () () () () () (13 0x00 136) () (7 0x3B 261)
-        () () () () () () (3 0x80 223, 3 0xED 267) (1 0x06 93, 3 0x51 204, 5 0x07 223)
-    ],
+    first: Begun {
+        spans: spans![
+            0 4, 4 6, 6 8, 8 9, 9 10, 10 10, 10 12, 12 12,
+            12 12, 12 12, 12 14, 14 14, 14 14, 14 14, 14 15, 15 15,
+            15 15, 15 15, 15 15, 15 17, 17 17, 17 17, 17 17, 17 17,
+            17 17, 17 17, 17 18, 18 19, 19 19, 19 19, 19 20, 20 22,
+            22 22, 22 23, 23 23, 23 31, 31 32, 32 33, 33 33, 33 33,
+            33 34, 34 34, 34 35, 35 35, 35 35, 35 35, 35 38, 38 40,
+            40 43, 43 45, 45 47, 47 48, 48 49, 49 50, 50 51, 51 53,
+            53 54, 54 55, 55 55, 55 56, 56 59, 59 59, 59 59, 59 60,
+            60 62, 62 64, 64 72, 72 75, 75 76, 76 79, 79 88, 88 90,
+            90 91, 91 99, 99 100, 100 101, 101 106, 106 118, 118 119, 119 121,
+            121 134, 134 136, 136 139, 139 146, 146 148, 148 148, 148 148, 148 151,
+            151 153, 153 154, 154 156, 156 165, 165 166, 166 167, 167 167, 167 167,
+            167 168, 168 169, 169 170, 170 172, 172 174, 174 174, 174 175, 175 177,
+            177 178, 178 180, 180 180, 180 180, 180 180, 180 180, 180 180, 180 180,
+            180 181, 181 182, 182 183, 183 185, 185 186, 186 186, 186 188, 188 189,
+            189 193, 193 193, 193 193, 193 194, 194 194, 194 194, 194 194, 194 195,
+            195 198, 198 198, 198 198, 198 199, 199 199, 199 199, 199 199, 199 199,
+            199 199, 199 203, 203 204, 204 205, 205 205, 205 205, 205 205, 205 205,
+            205 205, 205 205, 205 205, 205 206, 206 207, 207 209, 209 209, 209 209,
+            209 210, 210 211, 211 211, 211 211, 211 211, 211 211, 211 211, 211 211,
+            211 211, 211 212, 212 212, 212 212, 212 212, 212 212, 212 212, 212 212,
+            212 212, 212 212, 212 212, 212 214, 214 214, 214 214, 214 214, 214 214,
+            214 214, 214 214, 214 214, 214 214, 214 214, 214 214, 214 214, 214 215,
+            215 215, 215 215, 215 215, 215 215, 215 215, 215 215, 215 215, 215 215,
+            215 215, 215 215, 215 215, 215 215, 215 215, 215 218, 218 220, 220 220,
+            220 220, 220 220, 220 221, 221 222, 222 222, 222 223, 223 225, 225 226,
+            226 226, 226 226, 226 226, 226 226, 226 227, 227 227, 227 227, 227 227,
+            227 227, 227 227, 227 227, 227 227, 227 227, 227 227, 227 228, 228 228,
+            228 228, 228 228, 228 228, 228 228, 228 228, 228 228, 228 228, 228 228,
+            228 228, 228 228, 228 228, 228 228, 228 228, 228 228, 228 228, 228 269,
+            269 269, 269 269, 269 269, 269 269, 269 269, 269 270, 270 270, 270 271,
+            271 271, 271 271, 271 271, 271 271, 271 271, 271 271, 271 273, 273 276
+        ],
+        entries: entries![
+            7 0x00 272, 6 0x63 286, 6 0x44 287, 39 0x70 288, 1 0xDA 197, 14 0x2A 250, 3 0x18 92, 13 0x00 136,
+            13 0x00 136, 24 0x3A 242, 13 0x02 234, 15 0x1D 259, 2 0x0D 56, 64 0x00 196, 2 0x13 255, 2 0x9A 85,
+            3 0x5C 193, 7 0x00 58, 1 0x4C 62, 1 0x02 58, 2 0xE8 223, 1 0x07 235, 9 0x4D 75, 3 0x54 116,
+            1 0x3F 195, 4 0x4D 345, 4 0x4C 353, 3 0x47 357, 3 0x6B 358, 3 0x58 361, 23 0x6B 372, 7 0x29 256,
+            4 0x4C 344, 4 0x5B 351, 32 0x32 253, 3 0x64 111, 3 0xFD 224, 3 0x46 225, 8 0x2F 106, 8 0x3B 377,
+            4 0x30 95, 0 0x30 123, 13 0x00 136, 0 0x31 123, 13 0x00 136, 0 0x32 123, 13 0x00 136, 0 0x33 123,
+            0 0x34 123, 0 0x35 123, 0 0x36 123, 0 0x37 123, 3 0x12 269, 0 0x38 123, 0 0x39 123, 4 0x58 355,
+            4 0x70 122, 5 0x54 362, 3 0x70 376, 2 0x03 258, 3 0x80 269, 7 0x6D 367, 5 0x31 81, 2 0x5A 239,
+            3 0x4E 109, 11 0x4E 119, 7 0x43 120, 3 0xFB 202, 7 0x4D 228, 2 0x44 241, 3 0x31 279, 10 0x45 375,
+            12 0x63 115, 13 0x00 136, 3 0x58 282, 2 0x53 248, 3 0x46 73, 2 0x2A 212, 15 0x3A 217, 3 0x31 63,
+            3 0x49 100, 11 0x43 112, 3 0x46 201, 3 0x62 208, 3 0x4D 215, 3 0x38 226, 3 0x1A 250, 11 0x70 370,
+            3 0x46 82, 752 0x47 138, 2 0x43 249, 2 0x55 101, 3 0x46 117, 2 0x1A 209, 3 0x4D 216, 3 0x44 278,
+            3 0x2E 281, 3 0x2D 354, 3 0x50 363, 7 0x04 61, 3 0x56 68, 1 0x55 65, 3 0x53 71, 3 0x00 74,
+            3 0x49 238, 3 0x58 270, 1 0x3C 72, 1 0x53 89, 1 0x50 114, 6 0x02 214, 3 0x10 218, 4 0x00 219,
+            2 0x33 220, 3 0x44 227, 6 0x48 273, 4 0x66 368, 6 0x2D 369, 16 0x3A 371, 4 0x1A 222, 2 0x6A 79,
+            2 0x43 80, 2 0x55 64, 2 0x52 78, 2 0x09 105, 2 0x0A 105, 2 0x0D 105, 2 0x20 105, 3 0x23 105,
+            3 0x6E 205, 2 0x46 213, 2 0x49 221, 3 0x44 278, 4 0x48 280, 5 0x58 352, 2 0x44 247, 3 0x50 284,
+            3 0x46 104, 3 0x44 221, 6 0x78 378, 4 0x4C 99, 3 0x58 207, 3 0x72 266, 4 0x44 356, 1 0x63 366,
+            2 0x67 368, 6 0x78 378, 3 0x66 60, 7 0x20 360, 6 0x2E 96, 5 0x54 121, 4 0x50 257, 1 0x63 97,
+            3 0x53 207, 3 0x95 198, 5 0x57 252, 3 0x04 254, 4 0x79 346, 7 0x53 346, 8 0x63 347, 8 0x5D 348,
+            5 0x63 349, 10 0x63 350, 10 0x66 364, 12 0x5D 365, 27 0x5D 374, 12 0x66 359, 2 0x00 94, 10 0x02 91,
+            20 0x31 66, 7 0x30 102, 7 0x78 69, 13 0x00 136, 2 0x3A 76, 3 0x3A 76, 11 0xE5 243, 7 0x66 98,
+            3 0x46 108, 2 0x71 88, 1 0x63 103, 13 0x6B 206, 18 0x78 379, 7 0x30 240, 6 0x78 378, 1 0x71 88,
+            4 0x64 356, 3 0x66 118, 3 0x78 70, 2 0x31 194, 9 0x04 113, 3 0x21 90, 3 0x2D 243, 3 0x22 260,
+            9 0x30 373, 3 0x77 285, 2 0x80 223, 1 0x01 265, 1 0x37 269, 9 0x33 270, 13 0x00 136, 3 0x46 133,
+            7 0x1A 237, 3 0x50 251, 6 0x1A 283, 6 0x1A 203, 13 0x00 136, 5 0x59 77, 2 0x04 67, 3 0xDE 59,
+            3 0x04 67, 2 0x04 67, 3 0x04 67, 5 0x02 72, 6 0x31 191, 10 0x1A 192, 15 0x8D 236, 2 0x04 67,
+            3 0x04 67, 3 0xC6 107, 2 0x04 67, 3 0x04 67, 3 0x0D 264, 13 0x00 136, 3 0x13 85, 3 0x13 85,
+            3 0xCE 268, 3 0x13 85, 4 0x02 72, 3 0x95 59, 9 0x55 116, 14 0x4E 119, 9 0x56 120, 8 0x54 121,
+            2 0xBF 123, 2 0xBF 344, 2 0xBF 345, 2 0xBF 346, 2 0xBF 347, 2 0xBF 348, 2 0xBF 349, 2 0xBF 350,
+            2 0xBF 351, 2 0xBF 352, 2 0xBF 353, 2 0xBF 354, 2 0xBF 355, 2 0xBF 356, 2 0xBF 357, 2 0xBF 358,
+            2 0xBF 359, 2 0xBF 360, 2 0xBF 361, 2 0xBF 362, 2 0xBF 363, 2 0xBF 364, 2 0xBF 365, 2 0xBF 366,
+            2 0xBF 367, 2 0xBF 368, 2 0xBF 369, 2 0xBF 370, 2 0xBF 371, 2 0xBF 372, 2 0xBF 373, 2 0xBF 374,
+            2 0xBF 375, 2 0xBF 376, 2 0xBF 377, 2 0xBF 378, 2 0xBF 379, 13 0x00 136, 7 0x3B 261, 3 0x80 223,
+            3 0xED 267, 1 0x06 93, 3 0x51 204, 5 0x07 223
+        ],
+    },
     guards: guards![
         2 0x02 (21 0x00 200);
         2 0x2D (6 0x2D 124);

@@ -5,17 +5,20 @@ use Rattle.infer_more.proofs.OutlineLemmas.{buffer_of}
 use Rattle.infer_more.proofs.index.asked.least_parentless.Goals as goal
 
 pub least_text-requires : goal.least_text-requires
-least_text-requires c = c.index-index.ensures.each.parentless.texts
+least_text-requires c = c.without_parent-index.ensures.each.texts
+
+pub least_tried-tried-requires : goal.least_tried-tried-requires
+least_tried-tried-requires c = c.without_parent-index.ensures.each.spans
 
 pub least_markup-rooted-requires : goal.least_markup-rooted-requires
-least_markup-rooted-requires c = both_left _ _ c.index-index.ensures.each.parentless.roots
+least_markup-rooted-requires c = both_left _ _ c.without_parent-index.ensures.each.roots
 
 pub returns-then-rooted-from : goal.returns-then-rooted-from
 returns-then-rooted-from c =
     let b = c.args.buf.now in
-    least_before_texts c.index-index.result c.index-index.ensures.finds b (buffer_of b (λ i. omega (arith, c.type_inv.buf i))) _ _ c.index-index.ensures.each.parentless.texts (omega (arith, c.from.ensures)) c.least_tried-tried.ensures c.least_markup-rooted.ensures
+    least_before_texts c.without_parent-index.result.now c.without_parent-index.ensures.finds b (buffer_of b (λ i. omega (arith, c.type_inv.buf i))) _ _ c.without_parent-index.ensures.each.texts (omega (arith, c.from.ensures)) c.least_tried-tried.ensures c.least_markup-rooted.ensures
 
 pub returns : goal.returns
 returns c =
     let b = c.args.buf.now in
-    least_with_texts c.index-index.result c.index-index.ensures.finds b (buffer_of b (λ i. omega (arith, c.type_inv.buf i))) _ _ _ c.least_tried-tried.ensures c.least_markup-rooted.ensures c.least_text.ensures
+    least_with_texts c.without_parent-index.result.now c.without_parent-index.ensures.finds b (buffer_of b (λ i. omega (arith, c.type_inv.buf i))) _ _ _ c.least_tried-tried.ensures c.least_markup-rooted.ensures c.least_text.ensures
