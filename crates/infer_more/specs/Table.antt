@@ -482,6 +482,106 @@ secrets =
     ∷ row Audio (codes "application/x-audacity-project+sqlite3") (codes "aup3") (Some SQLITE) (at_least 72 (text 68 (codes "AUDY") ∷ []) ∷ [])
     ∷ []
 
+-- images of programs, cameras and games
+unfoldable pub bitmaps : List Further
+bitmaps =
+    row Image (codes "image/vnd.ms-dds") (codes "dds") None (at_least 8 (text 0 (codes "DDS |" ++ 0x00 ∷ 0x00 ∷ 0x00 ∷ []) ∷ []) ∷ [])
+    ∷ row Image (codes "image/x-dcx") (codes "dcx") None (at_least 4 (text 0 (0xB1 ∷ [] ++ codes "h" ++ 0xDE ∷ [] ++ codes ":") ∷ []) ∷ [])
+    ∷ row Image (codes "image/emf") (codes "emf") None (at_least 44 (text 0 (0x01 ∷ 0x00 ∷ 0x00 ∷ 0x00 ∷ []) ∷ text 40 (codes " EMF") ∷ []) ∷ [])
+    ∷ row Image (codes "image/wmf") (codes "wmf") None (at_least 6 (text 0 (0xD7 ∷ 0xCD ∷ 0xC6 ∷ 0x9A ∷ 0x00 ∷ 0x00 ∷ []) ∷ []) ∷ at_least 6 (byte 0 (any_of (0x01 ∷ 0x02 ∷ [])) ∷ text 1 (0x00 ∷ 0x09 ∷ 0x00 ∷ 0x00 ∷ []) ∷ byte 5 (any_of (0x01 ∷ 0x03 ∷ [])) ∷ []) ∷ [])
+    ∷ row Image (codes "image/x-qoi") (codes "qoi") None (at_least 14 (text 0 (codes "qoif") ∷ byte 12 (any_of (0x03 ∷ 0x04 ∷ [])) ∷ byte 13 (any_of (0x00 ∷ 0x01 ∷ [])) ∷ []) ∷ [])
+    ∷ row Image (codes "image/x-jng") (codes "jng") None (at_least 8 (text 0 (0x8B ∷ [] ++ codes "JNG" ++ 0x0D ∷ 0x0A ∷ 0x1A ∷ 0x0A ∷ []) ∷ []) ∷ [])
+    ∷ row Image (codes "image/x-corel-cpt") (codes "cpt") None (at_least 8 (text 0 (codes "CPT") ∷ text 4 (codes "FILE") ∷ []) ∷ [])
+    ∷ row Image (codes "image/cineon") (codes "cin") None (at_least 4 (text 0 (0x80 ∷ [] ++ codes "*_" ++ 0xD7 ∷ []) ∷ []) ∷ [])
+    ∷ row Image (codes "image/x-olympus-orf") (codes "orf") None (at_least 8 (text 0 (codes "IIR") ∷ byte 3 (any_of (0x4F ∷ 0x53 ∷ [])) ∷ text 4 (0x08 ∷ 0x00 ∷ 0x00 ∷ 0x00 ∷ []) ∷ []) ∷ at_least 8 (text 0 (codes "MMOR" ++ 0x00 ∷ 0x00 ∷ 0x00 ∷ 0x08 ∷ []) ∷ []) ∷ [])
+    ∷ row Image (codes "image/tiff") (codes "btf") None (at_least 8 (text 0 (codes "II+" ++ 0x00 ∷ 0x08 ∷ 0x00 ∷ 0x00 ∷ 0x00 ∷ []) ∷ []) ∷ at_least 8 (text 0 (codes "MM" ++ 0x00 ∷ [] ++ codes "+" ++ 0x00 ∷ 0x08 ∷ 0x00 ∷ 0x00 ∷ []) ∷ []) ∷ [])
+    ∷ row Video (codes "application/x-shockwave-flash") (codes "swfz") None (at_least 4 (text 0 (codes "ZWS") ∷ byte 3 (between 0x06 0x3F) ∷ []) ∷ [])
+    ∷ row Image (codes "image/vnd.valve.source.texture") (codes "vtf") None (at_least 8 (text 0 (codes "VTF" ++ 0x00 ∷ 0x07 ∷ 0x00 ∷ 0x00 ∷ 0x00 ∷ []) ∷ []) ∷ [])
+    ∷ row Image (codes "image/x-pvr") (codes "pvr") None (at_least 4 (text 0 (codes "PVR" ++ 0x03 ∷ []) ∷ []) ∷ [])
+    ∷ row Image (codes "image/x-portable-arbitrarymap") (codes "pam") None (at_least 4 (text 0 (codes "P7" ++ 0x0A ∷ []) ∷ byte 3 (any_of (0x23 ∷ 0x44 ∷ 0x48 ∷ 0x4D ∷ 0x54 ∷ 0x57 ∷ [])) ∷ []) ∷ [])
+    ∷ row Image (codes "image/x-portable-floatmap") (codes "pfmap") None (at_least 4 (text 0 (codes "P") ∷ byte 1 (any_of (0x46 ∷ 0x66 ∷ [])) ∷ text 2 (0x0A ∷ []) ∷ byte 3 (between 0x31 0x39) ∷ []) ∷ [])
+    ∷ row Image (codes "image/x-farbfeld") (codes "ff") None (at_least 8 (text 0 (codes "farbfeld") ∷ []) ∷ [])
+    ∷ row Image (codes "image/x-lss16") (codes "lss") None (at_least 4 (text 0 (codes "=" ++ 0xF3 ∷ 0x13 ∷ 0x14 ∷ []) ∷ []) ∷ [])
+    ∷ row Image (codes "image/x-xisf") (codes "xisf") None (at_least 8 (text 0 (codes "XISF0100") ∷ []) ∷ [])
+    ∷ row Image (codes "image/x-jbig2") (codes "jbig2") None (at_least 8 (text 0 (0x97 ∷ [] ++ codes "JB2" ++ 0x0D ∷ 0x0A ∷ 0x1A ∷ 0x0A ∷ []) ∷ []) ∷ [])
+    ∷ row Image (codes "application/x-bentley-dgn") (codes "dgn") None (at_least 4 (byte 0 (any_of (0x08 ∷ 0xC8 ∷ [])) ∷ text 1 (0x09 ∷ 0xFE ∷ 0x02 ∷ []) ∷ []) ∷ [])
+    ∷ []
+
+-- images, models and points of scanners
+unfoldable pub shapes : List Further
+shapes =
+    row Image (codes "application/x-fbx") (codes "fbx") None (at_least 23 (text 0 (codes "Kaydara FBX Binary  " ++ 0x00 ∷ 0x1A ∷ 0x00 ∷ []) ∷ []) ∷ [])
+    ∷ row Image (codes "application/x-usdc") (codes "usdc") None (at_least 8 (text 0 (codes "PXR-USDC") ∷ []) ∷ [])
+    ∷ row Image (codes "model/e57") (codes "e57") None (at_least 8 (text 0 (codes "ASTM-E57") ∷ []) ∷ [])
+    ∷ row Image (codes "application/vnd.las") (codes "las") None (at_least 105 (text 0 (codes "LASF") ∷ text 24 (0x01 ∷ []) ∷ byte 25 (between 0x00 0x05) ∷ byte 104 (between 0x00 0x0A) ∷ []) ∷ [])
+    ∷ row Image (codes "application/vnd.laszip") (codes "laz") None (at_least 105 (text 0 (codes "LASF") ∷ text 24 (0x01 ∷ []) ∷ byte 25 (between 0x00 0x05) ∷ byte 104 (between 0x80 0x8A) ∷ []) ∷ [])
+    ∷ row Image (codes "image/x-xv-thumbnail") (codes "xvthumb") None (at_least 6 (text 0 (codes "P7 332") ∷ []) ∷ [])
+    ∷ row Image (codes "image/x-award-bioslogo2") (codes "awbm") None (at_least 8 (text 0 (codes "AWBM") ∷ byte 5 (between 0x00 0x07) ∷ byte 7 (between 0x00 0x07) ∷ []) ∷ [])
+    ∷ row Audio (codes "audio/x-8svx") (codes "8svx") None (at_least 12 (text 0 (codes "FORM") ∷ text 8 (codes "8SVX") ∷ []) ∷ [])
+    ∷ row Video (codes "video/x-anim") (codes "anim") None (at_least 12 (text 0 (codes "FORM") ∷ text 8 (codes "ANIM") ∷ []) ∷ [])
+    ∷ row App (codes "application/x-blorb") (codes "blb") None (at_least 12 (text 0 (codes "FORM") ∷ text 8 (codes "IFRS") ∷ []) ∷ [])
+    ∷ row Image (codes "image/x-lwo") (codes "lwo") None (at_least 12 (text 0 (codes "FORM") ∷ text 8 (codes "LWO") ∷ byte 11 (any_of (0x32 ∷ 0x33 ∷ 0x42 ∷ [])) ∷ []) ∷ [])
+    ∷ row Audio (codes "audio/mid") (codes "rmi") None (at_least 12 (text 0 (codes "RIFF") ∷ text 8 (codes "RMID") ∷ []) ∷ [])
+    ∷ row Audio (codes "audio/x-sfbk") (codes "sf2") None (at_least 12 (text 0 (codes "RIFF") ∷ text 8 (codes "sfbk") ∷ []) ∷ [])
+    ∷ row Video (codes "video/x-cdxa") (codes "cdxa") None (at_least 12 (text 0 (codes "RIFF") ∷ text 8 (codes "CDXA") ∷ []) ∷ [])
+    ∷ row Image (codes "application/vnd.corel-draw") (codes "cdr") None (at_least 16 (text 0 (codes "RIFF") ∷ text 8 (codes "CDR") ∷ text 12 (codes "vrsn") ∷ []) ∷ at_least 16 (text 0 (codes "RIFF") ∷ text 8 (codes "cdr") ∷ text 12 (codes "vrsn") ∷ []) ∷ [])
+    ∷ row Image (codes "image/x-cmx") (codes "cmxr") None (at_least 12 (text 0 (codes "RIFF") ∷ text 8 (codes "CMX1") ∷ []) ∷ [])
+    ∷ row Video (codes "video/x-4xmv") (codes "4xm") None (at_least 12 (text 0 (codes "RIFF") ∷ text 8 (codes "4XMV") ∷ []) ∷ [])
+    ∷ row Video (codes "video/x-amv") (codes "amv") None (at_least 12 (text 0 (codes "RIFF") ∷ text 8 (codes "AMV ") ∷ []) ∷ [])
+    ∷ row Audio (codes "audio/x-mids") (codes "mids") None (at_least 12 (text 0 (codes "RIFF") ∷ text 8 (codes "MIDS") ∷ []) ∷ [])
+    ∷ row Video (codes "video/x-mmm") (codes "mmm") None (at_least 12 (text 0 (codes "RIFF") ∷ text 8 (codes "RMMP") ∷ []) ∷ [])
+    ∷ []
+
+-- kinds of RIFF and IFF files, and modules
+unfoldable pub chunks : List Further
+chunks =
+    row App (codes "application/x-trid-trd") (codes "trd") None (at_least 12 (text 0 (codes "RIFF") ∷ text 8 (codes "TRID") ∷ []) ∷ [])
+    ∷ row Video (codes "video/x-vdr") (codes "vdr") None (at_least 12 (text 0 (codes "RIFF") ∷ text 8 (codes "VDRM") ∷ []) ∷ [])
+    ∷ row Audio (codes "audio/x-wav") (codes "rifx") None (at_least 12 (text 0 (codes "RIFX") ∷ text 8 (codes "WAVE") ∷ []) ∷ [])
+    ∷ row App (codes "application/x-director") (codes "dcr") None (at_least 12 (text 0 (codes "RIFX") ∷ text 8 (codes "MV93") ∷ []) ∷ at_least 12 (text 0 (codes "XFIR") ∷ text 8 (codes "39VM") ∷ []) ∷ at_least 12 (text 0 (codes "RIFX") ∷ text 8 (codes "FGDM") ∷ []) ∷ at_least 12 (text 0 (codes "XFIR") ∷ text 8 (codes "MDGF") ∷ []) ∷ [])
+    ∷ row Audio (codes "audio/x-rf64") (codes "rf64") None (at_least 16 (text 0 (codes "RF64") ∷ text 8 (codes "WAVEds64") ∷ []) ∷ at_least 16 (text 0 (codes "BW64") ∷ text 8 (codes "WAVEds64") ∷ []) ∷ [])
+    ∷ row Audio (codes "audio/x-w64") (codes "w64") None (at_least 40 (text 0 (codes "riff." ++ 0x91 ∷ 0xCF ∷ 0x11 ∷ 0xA5 ∷ 0xD6 ∷ [] ++ codes "(" ++ 0xDB ∷ 0x04 ∷ 0xC1 ∷ 0x00 ∷ 0x00 ∷ []) ∷ text 24 (codes "wave" ++ 0xF3 ∷ 0xAC ∷ 0xD3 ∷ 0x11 ∷ 0x8C ∷ 0xD1 ∷ 0x00 ∷ 0xC0 ∷ [] ++ codes "O" ++ 0x8E ∷ 0xDB ∷ 0x8A ∷ []) ∷ []) ∷ [])
+    ∷ row Audio (codes "audio/x-xi") (codes "xi") None (at_least 21 (text 0 (codes "Extended Instrument: ") ∷ []) ∷ [])
+    ∷ row Audio (codes "audio/x-ult") (codes "ult") None (at_least 14 (text 0 (codes "MAS_UTrack_V00") ∷ []) ∷ [])
+    ∷ row Audio (codes "audio/x-okt") (codes "okt") None (at_least 12 (text 0 (codes "OKTASONGCMOD") ∷ []) ∷ [])
+    ∷ row Audio (codes "audio/x-dbm") (codes "dbm") None (at_least 5 (text 0 (codes "DBM0") ∷ byte 4 (between 0x00 0x03) ∷ []) ∷ [])
+    ∷ row App (codes "application/x-unreal-package") (codes "umx") None (at_least 4 (text 0 (0xC1 ∷ 0x83 ∷ [] ++ codes "*" ++ 0x9E ∷ []) ∷ []) ∷ [])
+    ∷ row Audio (codes "audio/x-spc") (codes "spc") None (at_least 27 (text 0 (codes "SNES-SPC700 Sound File Data") ∷ []) ∷ [])
+    ∷ row Audio (codes "audio/x-vgm") (codes "vgm") None (at_least 12 (text 0 (codes "Vgm ") ∷ text 9 (0x01 ∷ []) ∷ text 10 (0x00 ∷ 0x00 ∷ []) ∷ []) ∷ [])
+    ∷ row Audio (codes "audio/x-gbs") (codes "gbs") None (at_least 4 (text 0 (codes "GBS" ++ 0x01 ∷ []) ∷ []) ∷ [])
+    ∷ row Audio (codes "audio/x-sap") (codes "sap") None (at_least 5 (text 0 (codes "SAP" ++ 0x0D ∷ 0x0A ∷ []) ∷ []) ∷ [])
+    ∷ row Audio (codes "audio/x-psf") (codes "psf") None (binary_bytes (fixed.at_least 4 (text 0 (codes "PSF") ∷ byte 3 (any_of (0x01 ∷ 0x02 ∷ 0x11 ∷ 0x12 ∷ 0x13 ∷ 0x21 ∷ 0x22 ∷ 0x23 ∷ 0x24 ∷ 0x25 ∷ 0x41 ∷ [])) ∷ [])) ∷ [])
+    ∷ row Audio (codes "audio/x-caf") (codes "caf") None (at_least 8 (text 0 (codes "caff" ++ 0x00 ∷ 0x01 ∷ 0x00 ∷ 0x00 ∷ []) ∷ []) ∷ [])
+    ∷ row Audio (codes "application/x-shorten") (codes "shn") None (at_least 5 (text 0 (codes "ajkg") ∷ byte 4 (between 0x00 0x03) ∷ []) ∷ [])
+    ∷ row Audio (codes "audio/ac3") (codes "ac3") None (at_least 6 (text 0 (0x0B ∷ [] ++ codes "w") ∷ byte 4 (between 0x00 0x25) ∷ byte 5 (between 0x30 0x47) ∷ []) ∷ at_least 6 (text 0 (0x0B ∷ [] ++ codes "w") ∷ byte 4 (between 0x40 0x65) ∷ byte 5 (between 0x30 0x47) ∷ []) ∷ at_least 6 (text 0 (0x0B ∷ [] ++ codes "w") ∷ byte 4 (between 0x80 0xA5) ∷ byte 5 (between 0x30 0x47) ∷ []) ∷ [])
+    ∷ row Audio (codes "audio/mobile-xmf") (codes "xmf") None (at_least 8 (text 0 (codes "XMF_") ∷ byte 4 (between 0x31 0x32) ∷ text 5 (codes ".") ∷ byte 6 (between 0x30 0x39) ∷ byte 7 (between 0x30 0x39) ∷ []) ∷ [])
+    ∷ []
+
+-- sounds of programs and machines
+unfoldable pub tunes : List Further
+tunes =
+    row Audio (codes "audio/x-brstm") (codes "brstm") None (at_least 6 (text 0 (codes "RSTM" ++ 0xFE ∷ 0xFF ∷ []) ∷ []) ∷ [])
+    ∷ row Audio (codes "audio/x-bcstm") (codes "bcstm") None (at_least 6 (text 0 (codes "CSTM" ++ 0xFF ∷ 0xFE ∷ []) ∷ []) ∷ at_least 6 (text 0 (codes "CSTM" ++ 0xFE ∷ 0xFF ∷ []) ∷ []) ∷ [])
+    ∷ row Audio (codes "audio/x-bfstm") (codes "bfstm") None (at_least 6 (text 0 (codes "FSTM" ++ 0xFF ∷ 0xFE ∷ []) ∷ []) ∷ at_least 6 (text 0 (codes "FSTM" ++ 0xFE ∷ 0xFF ∷ []) ∷ []) ∷ [])
+    ∷ row Audio (codes "audio/x-bcwav") (codes "bcwav") None (at_least 6 (text 0 (codes "CWAV" ++ 0xFF ∷ 0xFE ∷ []) ∷ []) ∷ at_least 6 (text 0 (codes "CWAV" ++ 0xFE ∷ 0xFF ∷ []) ∷ []) ∷ [])
+    ∷ row Audio (codes "audio/x-nist") (codes "sph") None (at_least 16 (text 0 (codes "NIST_1A" ++ 0x0A ∷ [] ++ codes "   1024" ++ 0x0A ∷ []) ∷ []) ∷ [])
+    ∷ row Audio (codes "audio/x-paf") (codes "paf") None (at_least 8 (text 0 (codes " paf") ∷ text 4 (0x00 ∷ 0x00 ∷ 0x00 ∷ 0x00 ∷ []) ∷ []) ∷ at_least 8 (text 0 (codes "fap ") ∷ text 4 (0x00 ∷ 0x00 ∷ 0x00 ∷ 0x00 ∷ []) ∷ []) ∷ [])
+    ∷ row Audio (codes "audio/x-psion-wve") (codes "wve") None (at_least 16 (text 0 (codes "ALawSoundFile**" ++ 0x00 ∷ []) ∷ []) ∷ [])
+    ∷ row Audio (codes "audio/x-pvf") (codes "pvf") None (at_least 5 (text 0 (codes "PVF") ∷ byte 3 (any_of (0x31 ∷ 0x32 ∷ [])) ∷ text 4 (0x0A ∷ []) ∷ []) ∷ [])
+    ∷ row Audio (codes "audio/x-sds") (codes "sds") None (at_least 6 (text 0 (0xF0 ∷ [] ++ codes "~") ∷ byte 2 (between 0x00 0x7F) ∷ text 3 (0x01 ∷ []) ∷ byte 5 (between 0x00 0x7F) ∷ []) ∷ [])
+    ∷ row Audio (codes "audio/x-ay") (codes "ay") None (at_least 8 (text 0 (codes "ZXAYEMUL") ∷ []) ∷ [])
+    ∷ row Video (codes "video/x-ivf") (codes "ivf") None (at_least 8 (text 0 (codes "DKIF" ++ 0x00 ∷ 0x00 ∷ [] ++ codes " " ++ 0x00 ∷ []) ∷ []) ∷ [])
+    ∷ row Video (codes "video/x-yuv4mpeg") (codes "y4m") None (at_least 10 (text 0 (codes "YUV4MPEG2 ") ∷ []) ∷ [])
+    ∷ row Video (codes "video/x-nut") (codes "nut") None (at_least 25 (text 0 (codes "nut/multimedia container" ++ 0x00 ∷ []) ∷ []) ∷ [])
+    ∷ row Video (codes "video/vnd.radgamettools.bink") (codes "bik") None (at_least 4 (text 0 (codes "BIK") ∷ byte 3 (any_of (0x62 ∷ 0x66 ∷ 0x67 ∷ 0x68 ∷ 0x69 ∷ 0x6B ∷ [])) ∷ []) ∷ at_least 4 (text 0 (codes "KB2") ∷ byte 3 (between 0x61 0x6B) ∷ []) ∷ [])
+    ∷ row Video (codes "video/vnd.radgamettools.smacker") (codes "smk") None (at_least 4 (text 0 (codes "SMK") ∷ byte 3 (any_of (0x32 ∷ 0x34 ∷ [])) ∷ []) ∷ [])
+    ∷ row Video (codes "video/x-roq") (codes "roq") None (at_least 8 (text 0 (0x84 ∷ 0x10 ∷ 0xFF ∷ 0xFF ∷ 0xFF ∷ 0xFF ∷ 0x1E ∷ 0x00 ∷ []) ∷ []) ∷ [])
+    ∷ row Video (codes "video/x-interplay-mve") (codes "mve") None (at_least 20 (text 0 (codes "Interplay MVE File" ++ 0x1A ∷ 0x00 ∷ []) ∷ []) ∷ [])
+    ∷ row Video (codes "video/x-sgi-movie") (codes "movie") None (at_least 6 (text 0 (codes "MOVI") ∷ text 4 (0x00 ∷ []) ∷ byte 5 (any_of (0x01 ∷ 0x02 ∷ 0x03 ∷ [])) ∷ []) ∷ [])
+    ∷ row Video (codes "video/x-ifo") (codes "ifo") None (at_least 12 (text 0 (codes "DVDVIDEO-V") ∷ byte 10 (any_of (0x4D ∷ 0x54 ∷ [])) ∷ byte 11 (any_of (0x47 ∷ 0x53 ∷ [])) ∷ []) ∷ [])
+    ∷ row Video (codes "video/x-dirac") (codes "drc") None (at_least 5 (text 0 (codes "BBCD" ++ 0x00 ∷ []) ∷ []) ∷ [])
+    ∷ []
+
 -- texts that begin with a text of their own
 unfoldable pub openings : List Further
 openings =
@@ -539,4 +639,4 @@ texts =
 -- all of them
 unfoldable pub further : List Further
 further =
-    packages ++ (headers ++ (markup ++ (code ++ (records ++ (archives ++ (images ++ (media ++ (late ++ (office ++ (kinds ++ (roots ++ (elements ++ (pictures ++ (rasters ++ (sounds ++ (packed ++ (disks ++ (papers ++ (stores ++ (games ++ (others ++ (scripts ++ (documents ++ (secrets ++ (openings ++ (prefaces ++ (texts ++ [])))))))))))))))))))))))))))
+    packages ++ (headers ++ (markup ++ (code ++ (records ++ (archives ++ (images ++ (media ++ (late ++ (office ++ (kinds ++ (roots ++ (elements ++ (pictures ++ (rasters ++ (sounds ++ (packed ++ (disks ++ (papers ++ (stores ++ (games ++ (others ++ (scripts ++ (documents ++ (secrets ++ (bitmaps ++ (shapes ++ (chunks ++ (tunes ++ (openings ++ (prefaces ++ (texts ++ [])))))))))))))))))))))))))))))))

@@ -85,6 +85,8 @@ macro_rules! is {
 }
 
 mod archives;
+mod bitmaps;
+mod chunks;
 mod code;
 mod disks;
 mod documents;
@@ -110,15 +112,17 @@ mod records;
 mod roots;
 mod scripts;
 mod secrets;
+mod shapes;
 mod sounds;
 mod stores;
 mod texts;
+mod tunes;
 
 pub(crate) use generated::{row_at, widens};
 
 /// The rows, list by list.
 #[inline(always)]
-pub(crate) fn lists() -> [&'static [FurtherRow]; 28]
+pub(crate) fn lists() -> [&'static [FurtherRow]; 32]
     ensures listed { joined result ≡ further }
     ensures ended { All (λ rows. AreEnded rows.now) result }
 {
@@ -148,6 +152,10 @@ pub(crate) fn lists() -> [&'static [FurtherRow]; 28]
         scripts::rows(),
         documents::rows(),
         secrets::rows(),
+        bitmaps::rows(),
+        shapes::rows(),
+        chunks::rows(),
+        tunes::rows(),
         openings::rows(),
         prefaces::rows(),
         texts::rows(),

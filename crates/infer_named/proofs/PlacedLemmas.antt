@@ -72,7 +72,7 @@ types_3-listed : map type_listed (take 256 (drop 768 TYPES)) ≡ types_3
 unfolding types_3 mime_types row_texts
 types_3-listed = refl
 
-types_4-listed : map type_listed (take 4 (drop 1024 TYPES)) ≡ types_4
+types_4-listed : map type_listed (take 11 (drop 1024 TYPES)) ≡ types_4
 unfolding types_4 mime_types row_texts
 types_4-listed = refl
 
@@ -83,7 +83,7 @@ types_listed =
     (listed_append type_listed TYPES 256 256 types_1-listed
     (listed_append type_listed TYPES 512 256 types_2-listed
     (listed_append type_listed TYPES 768 256 types_3-listed
-    (listed_last type_listed TYPES 1024 4 refl types_4-listed))))
+    (listed_last type_listed TYPES 1024 11 refl types_4-listed))))
 
 sets_0-listed : map set_listed (take 128 (drop 0 SETS)) ≡ sets_0
 unfolding sets_0 ranges row_spans row_texts
@@ -97,7 +97,7 @@ sets_2-listed : map set_listed (take 128 (drop 256 SETS)) ≡ sets_2
 unfolding sets_2 ranges row_spans row_texts
 sets_2-listed = refl
 
-sets_3-listed : map set_listed (take 44 (drop 384 SETS)) ≡ sets_3
+sets_3-listed : map set_listed (take 65 (drop 384 SETS)) ≡ sets_3
 unfolding sets_3 ranges row_spans row_texts
 sets_3-listed = refl
 
@@ -107,4 +107,4 @@ sets_listed =
     listed_append set_listed SETS 0 128 sets_0-listed
     (listed_append set_listed SETS 128 128 sets_1-listed
     (listed_append set_listed SETS 256 128 sets_2-listed
-    (listed_last set_listed SETS 384 44 refl sets_3-listed)))
+    (listed_last set_listed SETS 384 65 refl sets_3-listed)))

@@ -74,1256 +74,1319 @@ rows-z = 9
 abbrev pub rows-aac : ℕ
 rows-aac = 10
 
+abbrev pub rows-ac3 : ℕ
+rows-ac3 = 11
+
 abbrev pub rows-accdb : ℕ
-rows-accdb = 11
+rows-accdb = 12
 
 abbrev pub rows-adf : ℕ
-rows-adf = 12
+rows-adf = 13
 
 abbrev pub rows-afm : ℕ
-rows-afm = 13
+rows-afm = 14
 
 abbrev pub text-rows : ℕ
-text-rows = 14
+text-rows = 15
 
 abbrev pub rows-age : ℕ
-rows-age = 15
+rows-age = 16
 
 abbrev pub rows-age-asc-cms-crl-application-x-pem-key-csr-openssh-p7c-param-pgp-pubkey-sig-sshsig : ℕ
-rows-age-asc-cms-crl-application-x-pem-key-csr-openssh-p7c-param-pgp-pubkey-sig-sshsig = 16
+rows-age-asc-cms-crl-application-x-pem-key-csr-openssh-p7c-param-pgp-pubkey-sig-sshsig = 17
 
 abbrev pub rows-aifc : ℕ
-rows-aifc = 17
+rows-aifc = 18
 
 abbrev pub rows-aiff : ℕ
-rows-aiff = 18
+rows-aiff = 19
 
 abbrev pub rows-alz : ℕ
-rows-alz = 19
+rows-alz = 20
 
 abbrev pub rows-amr : ℕ
-rows-amr = 20
+rows-amr = 21
 
 abbrev pub rows-ani : ℕ
-rows-ani = 21
+rows-ani = 22
+
+abbrev pub rows-anim : ℕ
+rows-anim = 23
 
 abbrev pub rows-ape : ℕ
-rows-ape = 22
+rows-ape = 24
 
 abbrev pub rows-apk : ℕ
-rows-apk = 23
+rows-apk = 25
 
 abbrev pub rows-apk-jar-zip : ℕ
-rows-apk-jar-zip = 24
+rows-apk-jar-zip = 26
 
 abbrev pub rows-apng : ℕ
-rows-apng = 25
+rows-apng = 27
 
 abbrev pub rows-appimage : ℕ
-rows-appimage = 26
+rows-appimage = 28
 
 abbrev pub rows-appimage-core-cubin-o-so : ℕ
-rows-appimage-core-cubin-o-so = 27
+rows-appimage-core-cubin-o-so = 29
 
 abbrev pub rows-application-vnd-apple-keynote : ℕ
-rows-application-vnd-apple-keynote = 28
+rows-application-vnd-apple-keynote = 30
 
 abbrev pub rows-application-x-installshield : ℕ
-rows-application-x-installshield = 29
+rows-application-x-installshield = 31
 
 abbrev pub rows-application-x-msi : ℕ
-rows-application-x-msi = 30
+rows-application-x-msi = 32
 
 abbrev pub rows-application-x-ole-storage : ℕ
-rows-application-x-ole-storage = 31
+rows-application-x-ole-storage = 33
 
 abbrev pub rows-application-x-ole-storage-pptm-pptx-zip : ℕ
-rows-application-x-ole-storage-pptm-pptx-zip = 32
+rows-application-x-ole-storage-pptm-pptx-zip = 34
 
 abbrev pub rows-application-x-ole-storage-pptx-zip : ℕ
-rows-application-x-ole-storage-pptx-zip = 33
+rows-application-x-ole-storage-pptx-zip = 35
 
 abbrev pub rows-application-x-ole-storage-xlsm-xlsx-zip : ℕ
-rows-application-x-ole-storage-xlsm-xlsx-zip = 34
+rows-application-x-ole-storage-xlsm-xlsx-zip = 36
 
 abbrev pub rows-application-x-ole-storage-xlsx-zip : ℕ
-rows-application-x-ole-storage-xlsx-zip = 35
+rows-application-x-ole-storage-xlsx-zip = 37
 
 abbrev pub rows-application-x-ole-storage-zip : ℕ
-rows-application-x-ole-storage-zip = 36
+rows-application-x-ole-storage-zip = 38
 
 abbrev pub rows-application-x-pem-key : ℕ
-rows-application-x-pem-key = 37
+rows-application-x-pem-key = 39
 
 abbrev pub rows-ar : ℕ
-rows-ar = 38
+rows-ar = 40
 
 abbrev pub rows-arj : ℕ
-rows-arj = 39
+rows-arj = 41
 
 abbrev pub rows-arrow : ℕ
-rows-arrow = 40
+rows-arrow = 42
 
 abbrev pub rows-asar : ℕ
-rows-asar = 41
+rows-asar = 43
 
 abbrev pub rows-asc : ℕ
-rows-asc = 42
+rows-asc = 44
 
 abbrev pub rows-astc : ℕ
-rows-astc = 43
+rows-astc = 45
 
 abbrev pub rows-atom : ℕ
-rows-atom = 44
+rows-atom = 46
 
 abbrev pub rows-atom-diashape-fb2-fodt-gpx-gtkbuilder-jnlp-kml-lingts-meta4-mml-nzb-opml-owx-plist-rss-srx-svg-ttx-xhtml-xmp : ℕ
-rows-atom-diashape-fb2-fodt-gpx-gtkbuilder-jnlp-kml-lingts-meta4-mml-nzb-opml-owx-plist-rss-srx-svg-ttx-xhtml-xmp = 45
+rows-atom-diashape-fb2-fodt-gpx-gtkbuilder-jnlp-kml-lingts-meta4-mml-nzb-opml-owx-plist-rss-srx-svg-ttx-xhtml-xmp = 47
 
 abbrev pub rows-au : ℕ
-rows-au = 46
+rows-au = 48
 
 abbrev pub rows-aup3-fossil-gpkg-mbtiles-mtn : ℕ
-rows-aup3-fossil-gpkg-mbtiles-mtn = 47
+rows-aup3-fossil-gpkg-mbtiles-mtn = 49
 
 abbrev pub rows-avi : ℕ
-rows-avi = 48
+rows-avi = 50
 
 abbrev pub rows-avif : ℕ
-rows-avif = 49
+rows-avif = 51
 
 abbrev pub rows-avro : ℕ
-rows-avro = 50
+rows-avro = 52
 
 abbrev pub rows-awk : ℕ
-rows-awk = 51
+rows-awk = 53
 
 abbrev pub rows-bc : ℕ
-rows-bc = 52
+rows-bc = 54
 
 abbrev pub rows-bdb : ℕ
-rows-bdb = 53
+rows-bdb = 55
 
 abbrev pub rows-beam : ℕ
-rows-beam = 54
+rows-beam = 56
 
 abbrev pub rows-bgzf-karbon-kil-kpr-ksp-kwd : ℕ
-rows-bgzf-karbon-kil-kpr-ksp-kwd = 55
+rows-bgzf-karbon-kil-kpr-ksp-kwd = 57
 
 abbrev pub rows-blend : ℕ
-rows-blend = 56
+rows-blend = 58
 
 abbrev pub rows-bmp : ℕ
-rows-bmp = 57
+rows-bmp = 59
 
 abbrev pub rows-bookmarks : ℕ
-rows-bookmarks = 58
+rows-bookmarks = 60
 
 abbrev pub rows-bpg : ℕ
-rows-bpg = 59
+rows-bpg = 61
 
 abbrev pub rows-bplist : ℕ
-rows-bplist = 60
+rows-bplist = 62
 
 abbrev pub rows-bz2 : ℕ
-rows-bz2 = 61
+rows-bz2 = 63
 
 abbrev pub rows-bz2-gz-xz : ℕ
-rows-bz2-gz-xz = 62
+rows-bz2-gz-xz = 64
 
 abbrev pub rows-bz3 : ℕ
-rows-bz3 = 63
+rows-bz3 = 65
 
 abbrev pub rows-cab : ℕ
-rows-cab = 64
+rows-cab = 66
+
+abbrev pub rows-caf : ℕ
+rows-caf = 67
+
+abbrev pub rows-cdr : ℕ
+rows-cdr = 68
 
 abbrev pub rows-cer : ℕ
-rows-cer = 65
+rows-cer = 69
 
 abbrev pub rows-cer-crl : ℕ
-rows-cer-crl = 66
+rows-cer-crl = 70
 
 abbrev pub rows-cer-p10-p8 : ℕ
-rows-cer-p10-p8 = 67
+rows-cer-p10-p8 = 71
 
 abbrev pub rows-chd : ℕ
-rows-chd = 68
+rows-chd = 72
 
 abbrev pub rows-chm : ℕ
-rows-chm = 69
+rows-chm = 73
 
 abbrev pub rows-class : ℕ
-rows-class = 70
+rows-class = 74
 
 abbrev pub rows-clj : ℕ
-rows-clj = 71
+rows-clj = 75
 
 abbrev pub rows-cmap-eps-pfa-t2t : ℕ
-rows-cmap-eps-pfa-t2t = 72
+rows-cmap-eps-pfa-t2t = 76
 
 abbrev pub rows-core : ℕ
-rows-core = 73
+rows-core = 77
 
 abbrev pub rows-cpio : ℕ
-rows-cpio = 74
+rows-cpio = 78
 
 abbrev pub rows-cr2 : ℕ
-rows-cr2 = 75
+rows-cr2 = 79
 
 abbrev pub rows-cr2-dng : ℕ
-rows-cr2-dng = 76
+rows-cr2-dng = 80
 
 abbrev pub rows-cr3 : ℕ
-rows-cr3 = 77
+rows-cr3 = 81
 
 abbrev pub rows-crl : ℕ
-rows-crl = 78
+rows-crl = 82
 
 abbrev pub rows-crx : ℕ
-rows-crx = 79
+rows-crx = 83
 
 abbrev pub rows-csh : ℕ
-rows-csh = 80
+rows-csh = 84
 
 abbrev pub rows-csr-p10 : ℕ
-rows-csr-p10 = 81
+rows-csr-p10 = 85
 
 abbrev pub rows-cur : ℕ
-rows-cur = 82
+rows-cur = 86
 
 abbrev pub rows-dart : ℕ
-rows-dart = 83
+rows-dart = 87
 
 abbrev pub rows-dbf : ℕ
-rows-dbf = 84
+rows-dbf = 88
 
 abbrev pub rows-dcm : ℕ
-rows-dcm = 85
+rows-dcm = 89
+
+abbrev pub rows-dcr : ℕ
+rows-dcr = 90
+
+abbrev pub rows-dds : ℕ
+rows-dds = 91
 
 abbrev pub rows-deb : ℕ
-rows-deb = 86
+rows-deb = 92
 
 abbrev pub rows-deb-goa : ℕ
-rows-deb-goa = 87
+rows-deb-goa = 93
 
 abbrev pub rows-der : ℕ
-rows-der = 88
+rows-der = 94
 
 abbrev pub rows-der-application-x-pem-key-pem : ℕ
-rows-der-application-x-pem-key-pem = 89
+rows-der-application-x-pem-key-pem = 95
 
 abbrev pub rows-der-p7b-pem : ℕ
-rows-der-p7b-pem = 90
+rows-der-p7b-pem = 96
 
 abbrev pub rows-der-pem : ℕ
-rows-der-pem = 91
+rows-der-pem = 97
 
 abbrev pub rows-der-pem-txt : ℕ
-rows-der-pem-txt = 92
+rows-der-pem-txt = 98
 
 abbrev pub rows-dex : ℕ
-rows-dex = 93
+rows-dex = 99
 
 abbrev pub rows-dey : ℕ
-rows-dey = 94
+rows-dey = 100
 
 abbrev pub rows-dff : ℕ
-rows-dff = 95
+rows-dff = 101
 
 abbrev pub rows-djvm : ℕ
-rows-djvm = 96
+rows-djvm = 102
 
 abbrev pub rows-djvu : ℕ
-rows-djvu = 97
+rows-djvu = 103
 
 abbrev pub rows-dng : ℕ
-rows-dng = 98
+rows-dng = 104
 
 abbrev pub rows-doc : ℕ
-rows-doc = 99
+rows-doc = 105
 
 abbrev pub rows-docm : ℕ
-rows-docm = 100
+rows-docm = 106
 
 abbrev pub rows-docm-docx-application-x-ole-storage-zip : ℕ
-rows-docm-docx-application-x-ole-storage-zip = 101
+rows-docm-docx-application-x-ole-storage-zip = 107
 
 abbrev pub rows-docx : ℕ
-rows-docx = 102
+rows-docx = 108
 
 abbrev pub rows-docx-application-x-ole-storage-zip : ℕ
-rows-docx-application-x-ole-storage-zip = 103
+rows-docx-application-x-ole-storage-zip = 109
 
 abbrev pub rows-dsf : ℕ
-rows-dsf = 104
+rows-dsf = 110
 
 abbrev pub rows-dts : ℕ
-rows-dts = 105
+rows-dts = 111
 
 abbrev pub rows-dtsi : ℕ
-rows-dtsi = 106
+rows-dtsi = 112
 
 abbrev pub rows-dv : ℕ
-rows-dv = 107
+rows-dv = 113
 
 abbrev pub rows-dvi : ℕ
-rows-dvi = 108
+rows-dvi = 114
 
 abbrev pub rows-dwg : ℕ
-rows-dwg = 109
+rows-dwg = 115
+
+abbrev pub rows-e57 : ℕ
+rows-e57 = 116
 
 abbrev pub rows-elf : ℕ
-rows-elf = 110
+rows-elf = 117
 
 abbrev pub rows-elf-so : ℕ
-rows-elf-so = 111
+rows-elf-so = 118
+
+abbrev pub rows-emf : ℕ
+rows-emf = 119
 
 abbrev pub rows-eot : ℕ
-rows-eot = 112
+rows-eot = 120
 
 abbrev pub rows-eps : ℕ
-rows-eps = 113
+rows-eps = 121
 
 abbrev pub rows-eps-pdf-ps : ℕ
-rows-eps-pdf-ps = 114
+rows-eps-pdf-ps = 122
 
 abbrev pub rows-epub : ℕ
-rows-epub = 115
+rows-epub = 123
 
 abbrev pub rows-escript : ℕ
-rows-escript = 116
+rows-escript = 124
 
 abbrev pub rows-evtx : ℕ
-rows-evtx = 117
+rows-evtx = 125
 
 abbrev pub rows-exe : ℕ
-rows-exe = 118
+rows-exe = 126
 
 abbrev pub rows-exr : ℕ
-rows-exr = 119
+rows-exr = 127
 
 abbrev pub rows-exs : ℕ
-rows-exs = 120
+rows-exs = 128
 
 abbrev pub rows-ext2 : ℕ
-rows-ext2 = 121
+rows-ext2 = 129
 
 abbrev pub rows-f4v : ℕ
-rows-f4v = 122
+rows-f4v = 130
 
 abbrev pub rows-fb2 : ℕ
-rows-fb2 = 123
+rows-fb2 = 131
 
-abbrev pub rows-fbxtext : ℕ
-rows-fbxtext = 124
+abbrev pub rows-fbx-fbxtext : ℕ
+rows-fbx-fbxtext = 132
 
 abbrev pub rows-fcstd : ℕ
-rows-fcstd = 125
+rows-fcstd = 133
 
 abbrev pub rows-fig : ℕ
-rows-fig = 126
+rows-fig = 134
 
 abbrev pub rows-fish : ℕ
-rows-fish = 127
+rows-fish = 135
 
 abbrev pub rows-fits : ℕ
-rows-fits = 128
+rows-fits = 136
 
 abbrev pub rows-flac : ℕ
-rows-flac = 129
+rows-flac = 137
 
 abbrev pub rows-flac-ogg-opus : ℕ
-rows-flac-ogg-opus = 130
+rows-flac-ogg-opus = 138
 
 abbrev pub rows-flatpak : ℕ
-rows-flatpak = 131
+rows-flatpak = 139
 
 abbrev pub rows-flv : ℕ
-rows-flv = 132
+rows-flv = 140
 
 abbrev pub rows-fodt : ℕ
-rows-fodt = 133
+rows-fodt = 141
 
 abbrev pub rows-fpx : ℕ
-rows-fpx = 134
+rows-fpx = 142
 
 abbrev pub rows-gbr : ℕ
-rows-gbr = 135
+rows-gbr = 143
+
+abbrev pub rows-gbs : ℕ
+rows-gbs = 144
 
 abbrev pub rows-gdbm : ℕ
-rows-gdbm = 136
+rows-gdbm = 145
 
 abbrev pub rows-gem : ℕ
-rows-gem = 137
+rows-gem = 146
 
 abbrev pub rows-gguf : ℕ
-rows-gguf = 138
+rows-gguf = 147
 
 abbrev pub rows-gif : ℕ
-rows-gif = 139
+rows-gif = 148
 
 abbrev pub rows-gjs-js : ℕ
-rows-gjs-js = 140
+rows-gjs-js = 149
 
 abbrev pub rows-glb : ℕ
-rows-glb = 141
+rows-glb = 150
 
 abbrev pub rows-gnuplot : ℕ
-rows-gnuplot = 142
+rows-gnuplot = 151
 
 abbrev pub rows-gpg : ℕ
-rows-gpg = 143
+rows-gpg = 152
 
 abbrev pub rows-gpkg : ℕ
-rows-gpkg = 144
+rows-gpkg = 153
 
 abbrev pub rows-gpx : ℕ
-rows-gpx = 145
+rows-gpx = 154
 
 abbrev pub rows-groovy : ℕ
-rows-groovy = 146
+rows-groovy = 155
 
 abbrev pub rows-gtkbuilder : ℕ
-rows-gtkbuilder = 147
+rows-gtkbuilder = 156
 
 abbrev pub rows-gz : ℕ
-rows-gz = 148
+rows-gz = 157
 
 abbrev pub rows-gz-sqlite-xml : ℕ
-rows-gz-sqlite-xml = 149
+rows-gz-sqlite-xml = 158
 
 abbrev pub rows-gz-txt-xml : ℕ
-rows-gz-txt-xml = 150
+rows-gz-txt-xml = 159
 
 abbrev pub rows-gz-xml : ℕ
-rows-gz-xml = 151
+rows-gz-xml = 160
 
 abbrev pub rows-gz-zip : ℕ
-rows-gz-zip = 152
+rows-gz-zip = 161
 
 abbrev pub rows-gz-zst : ℕ
-rows-gz-zst = 153
+rows-gz-zst = 162
 
 abbrev pub rows-hdf4 : ℕ
-rows-hdf4 = 154
+rows-hdf4 = 163
 
 abbrev pub rows-hdf5 : ℕ
-rows-hdf5 = 155
+rows-hdf5 = 164
 
 abbrev pub rows-hdr : ℕ
-rows-hdr = 156
+rows-hdr = 165
 
 abbrev pub rows-heic : ℕ
-rows-heic = 157
+rows-heic = 166
 
 abbrev pub rows-heics : ℕ
-rows-heics = 158
+rows-heics = 167
 
 abbrev pub rows-heics-heif : ℕ
-rows-heics-heif = 159
+rows-heics-heif = 168
 
 abbrev pub rows-heif : ℕ
-rows-heif = 160
+rows-heif = 169
 
 abbrev pub rows-hlp : ℕ
-rows-hlp = 161
+rows-hlp = 170
 
 abbrev pub rows-hs : ℕ
-rows-hs = 162
+rows-hs = 171
 
 abbrev pub rows-html : ℕ
-rows-html = 163
+rows-html = 172
 
 abbrev pub rows-html-json-php-svg-txt-xhtml-xml : ℕ
-rows-html-json-php-svg-txt-xhtml-xml = 164
+rows-html-json-php-svg-txt-xhtml-xml = 173
 
 abbrev pub rows-html-rss-txt-xml : ℕ
-rows-html-rss-txt-xml = 165
+rows-html-rss-txt-xml = 174
 
 abbrev pub rows-html-sh-svg-txt-xhtml-xml : ℕ
-rows-html-sh-svg-txt-xhtml-xml = 166
+rows-html-sh-svg-txt-xhtml-xml = 175
 
 abbrev pub rows-html-txt : ℕ
-rows-html-txt = 167
+rows-html-txt = 176
 
 abbrev pub rows-html-txt-xhtml-xml : ℕ
-rows-html-txt-xhtml-xml = 168
+rows-html-txt-xhtml-xml = 177
 
 abbrev pub rows-html-txt-xml : ℕ
-rows-html-txt-xml = 169
+rows-html-txt-xml = 178
 
 abbrev pub rows-icc : ℕ
-rows-icc = 170
+rows-icc = 179
 
 abbrev pub rows-icns : ℕ
-rows-icns = 171
+rows-icns = 180
 
 abbrev pub rows-ico : ℕ
-rows-ico = 172
+rows-ico = 181
 
 abbrev pub rows-ics : ℕ
-rows-ics = 173
+rows-ics = 182
 
 abbrev pub rows-ilbm : ℕ
-rows-ilbm = 174
+rows-ilbm = 183
 
 abbrev pub rows-it : ℕ
-rows-it = 175
+rows-it = 184
+
+abbrev pub rows-ivf : ℕ
+rows-ivf = 185
 
 abbrev pub rows-j2c : ℕ
-rows-j2c = 176
+rows-j2c = 186
 
 abbrev pub rows-jar : ℕ
-rows-jar = 177
+rows-jar = 187
 
 abbrev pub rows-jar-zip : ℕ
-rows-jar-zip = 178
+rows-jar-zip = 188
 
 abbrev pub rows-jarmf : ℕ
-rows-jarmf = 179
+rows-jarmf = 189
 
 abbrev pub rows-jceks : ℕ
-rows-jceks = 180
+rows-jceks = 190
 
 abbrev pub rows-jks : ℕ
-rows-jks = 181
+rows-jks = 191
 
 abbrev pub rows-jl : ℕ
-rows-jl = 182
+rows-jl = 192
 
 abbrev pub rows-jls : ℕ
-rows-jls = 183
+rows-jls = 193
 
 abbrev pub rows-jmod : ℕ
-rows-jmod = 184
+rows-jmod = 194
 
 abbrev pub rows-jnlp : ℕ
-rows-jnlp = 185
+rows-jnlp = 195
 
 abbrev pub rows-journal : ℕ
-rows-journal = 186
+rows-journal = 196
 
 abbrev pub rows-jp2 : ℕ
-rows-jp2 = 187
+rows-jp2 = 197
 
 abbrev pub rows-jpg : ℕ
-rows-jpg = 188
+rows-jpg = 198
 
 abbrev pub rows-jph-jpm-jpx-mj2 : ℕ
-rows-jph-jpm-jpx-mj2 = 189
+rows-jph-jpm-jpx-mj2 = 199
 
 abbrev pub rows-jpx : ℕ
-rows-jpx = 190
+rows-jpx = 200
 
 abbrev pub rows-json : ℕ
-rows-json = 191
+rows-json = 201
 
 abbrev pub rows-json-ndjson-txt : ℕ
-rows-json-ndjson-txt = 192
+rows-json-ndjson-txt = 202
 
 abbrev pub rows-json-plist-txt-xml : ℕ
-rows-json-plist-txt-xml = 193
+rows-json-plist-txt-xml = 203
 
 abbrev pub rows-json-sh-txt : ℕ
-rows-json-sh-txt = 194
+rows-json-sh-txt = 204
 
 abbrev pub rows-json-txt : ℕ
-rows-json-txt = 195
+rows-json-txt = 205
 
 abbrev pub rows-jxl : ℕ
-rows-jxl = 196
+rows-jxl = 206
 
 abbrev pub rows-jxr : ℕ
-rows-jxr = 197
+rows-jxr = 207
 
 abbrev pub rows-kate-oga-ogm-ogv-ogx-opus-spx-vorbis : ℕ
-rows-kate-oga-ogm-ogv-ogx-opus-spx-vorbis = 198
+rows-kate-oga-ogm-ogv-ogx-opus-spx-vorbis = 208
 
 abbrev pub rows-kml : ℕ
-rows-kml = 199
+rows-kml = 209
 
 abbrev pub rows-kmz : ℕ
-rows-kmz = 200
+rows-kmz = 210
 
 abbrev pub rows-kra : ℕ
-rows-kra = 201
+rows-kra = 211
 
 abbrev pub rows-ktx : ℕ
-rows-ktx = 202
+rows-ktx = 212
 
 abbrev pub rows-ktx2 : ℕ
-rows-ktx2 = 203
+rows-ktx2 = 213
+
+abbrev pub rows-laz : ℕ
+rows-laz = 214
 
 abbrev pub rows-lingts : ℕ
-rows-lingts = 204
+rows-lingts = 215
 
 abbrev pub rows-lisp : ℕ
-rows-lisp = 205
+rows-lisp = 216
 
 abbrev pub rows-lnk : ℕ
-rows-lnk = 206
+rows-lnk = 217
 
 abbrev pub rows-lrz : ℕ
-rows-lrz = 207
+rows-lrz = 218
 
 abbrev pub rows-lua : ℕ
-rows-lua = 208
+rows-lua = 219
 
 abbrev pub rows-luac : ℕ
-rows-luac = 209
+rows-luac = 220
 
 abbrev pub rows-luks : ℕ
-rows-luks = 210
+rows-luks = 221
 
 abbrev pub rows-lwp : ℕ
-rows-lwp = 211
+rows-lwp = 222
 
 abbrev pub rows-lz : ℕ
-rows-lz = 212
+rows-lz = 223
 
 abbrev pub rows-lz4 : ℕ
-rows-lz4 = 213
+rows-lz4 = 224
 
 abbrev pub rows-lzh : ℕ
-rows-lzh = 214
+rows-lzh = 225
 
 abbrev pub rows-lzma : ℕ
-rows-lzma = 215
+rows-lzma = 226
 
 abbrev pub rows-lzo : ℕ
-rows-lzo = 216
+rows-lzo = 227
 
 abbrev pub rows-m : ℕ
-rows-m = 217
+rows-m = 228
 
 abbrev pub rows-m3u8 : ℕ
-rows-m3u8 = 218
+rows-m3u8 = 229
 
 abbrev pub rows-m4a : ℕ
-rows-m4a = 219
+rows-m4a = 230
 
 abbrev pub rows-m4a-mp4 : ℕ
-rows-m4a-mp4 = 220
+rows-m4a-mp4 = 231
 
 abbrev pub rows-m4b : ℕ
-rows-m4b = 221
+rows-m4b = 232
 
 abbrev pub rows-m4b-m4v-mp4 : ℕ
-rows-m4b-m4v-mp4 = 222
+rows-m4b-m4v-mp4 = 233
 
 abbrev pub rows-m4v : ℕ
-rows-m4v = 223
+rows-m4v = 234
 
 abbrev pub rows-mach : ℕ
-rows-mach = 224
+rows-mach = 235
 
 abbrev pub rows-mbtiles : ℕ
-rows-mbtiles = 225
+rows-mbtiles = 236
 
 abbrev pub rows-mdb : ℕ
-rows-mdb = 226
+rows-mdb = 237
 
 abbrev pub rows-med : ℕ
-rows-med = 227
+rows-med = 238
 
 abbrev pub rows-meta4 : ℕ
-rows-meta4 = 228
+rows-meta4 = 239
 
 abbrev pub rows-midi : ℕ
-rows-midi = 229
+rows-midi = 240
 
 abbrev pub rows-mj2 : ℕ
-rows-mj2 = 230
+rows-mj2 = 241
 
 abbrev pub rows-mk : ℕ
-rows-mk = 231
+rows-mk = 242
 
 abbrev pub rows-mkv : ℕ
-rows-mkv = 232
+rows-mkv = 243
 
 abbrev pub rows-ml : ℕ
-rows-ml = 233
+rows-ml = 244
 
 abbrev pub rows-mmf : ℕ
-rows-mmf = 234
+rows-mmf = 245
 
 abbrev pub rows-mml : ℕ
-rows-mml = 235
+rows-mml = 246
 
 abbrev pub rows-mng : ℕ
-rows-mng = 236
+rows-mng = 247
 
 abbrev pub rows-mo : ℕ
-rows-mo = 237
+rows-mo = 248
 
 abbrev pub rows-mo3 : ℕ
-rows-mo3 = 238
+rows-mo3 = 249
 
 abbrev pub rows-mobi : ℕ
-rows-mobi = 239
+rows-mobi = 250
 
 abbrev pub rows-model-step : ℕ
-rows-model-step = 240
+rows-model-step = 251
 
 abbrev pub rows-mov : ℕ
-rows-mov = 241
+rows-mov = 252
 
 abbrev pub rows-mp3 : ℕ
-rows-mp3 = 242
+rows-mp3 = 253
 
 abbrev pub rows-mp4 : ℕ
-rows-mp4 = 243
+rows-mp4 = 254
 
 abbrev pub rows-mpc : ℕ
-rows-mpc = 244
+rows-mpc = 255
 
 abbrev pub rows-mpg : ℕ
-rows-mpg = 245
+rows-mpg = 256
 
 abbrev pub rows-mpp : ℕ
-rows-mpp = 246
+rows-mpp = 257
 
 abbrev pub rows-msg : ℕ
-rows-msg = 247
+rows-msg = 258
 
 abbrev pub rows-mtm : ℕ
-rows-mtm = 248
+rows-mtm = 259
 
 abbrev pub rows-mxf : ℕ
-rows-mxf = 249
+rows-mxf = 260
 
 abbrev pub rows-n64 : ℕ
-rows-n64 = 250
+rows-n64 = 261
 
 abbrev pub rows-ndjson : ℕ
-rows-ndjson = 251
+rows-ndjson = 262
 
 abbrev pub rows-nes : ℕ
-rows-nes = 252
+rows-nes = 263
 
 abbrev pub rows-nft : ℕ
-rows-nft = 253
+rows-nft = 264
 
 abbrev pub rows-npy : ℕ
-rows-npy = 254
+rows-npy = 265
+
+abbrev pub rows-nut : ℕ
+rows-nut = 266
 
 abbrev pub rows-o : ℕ
-rows-o = 255
+rows-o = 267
 
 abbrev pub rows-obj : ℕ
-rows-obj = 256
+rows-obj = 268
 
 abbrev pub rows-odb : ℕ
-rows-odb = 257
+rows-odb = 269
 
 abbrev pub rows-odc : ℕ
-rows-odc = 258
+rows-odc = 270
 
 abbrev pub rows-odf : ℕ
-rows-odf = 259
+rows-odf = 271
 
 abbrev pub rows-odg : ℕ
-rows-odg = 260
+rows-odg = 272
 
 abbrev pub rows-odg-zip : ℕ
-rows-odg-zip = 261
+rows-odg-zip = 273
 
 abbrev pub rows-odi : ℕ
-rows-odi = 262
+rows-odi = 274
 
 abbrev pub rows-odm : ℕ
-rows-odm = 263
+rows-odm = 275
 
 abbrev pub rows-odm-ott : ℕ
-rows-odm-ott = 264
+rows-odm-ott = 276
 
 abbrev pub rows-odp : ℕ
-rows-odp = 265
+rows-odp = 277
 
 abbrev pub rows-odp-zip : ℕ
-rows-odp-zip = 266
+rows-odp-zip = 278
 
 abbrev pub rows-ods : ℕ
-rows-ods = 267
+rows-ods = 279
 
 abbrev pub rows-ods-zip : ℕ
-rows-ods-zip = 268
+rows-ods-zip = 280
 
 abbrev pub rows-odt : ℕ
-rows-odt = 269
+rows-odt = 281
 
 abbrev pub rows-odt-zip : ℕ
-rows-odt-zip = 270
+rows-odt-zip = 282
 
 abbrev pub rows-oga : ℕ
-rows-oga = 271
+rows-oga = 283
 
 abbrev pub rows-ogg : ℕ
-rows-ogg = 272
+rows-ogg = 284
 
 abbrev pub rows-ogg-ogv : ℕ
-rows-ogg-ogv = 273
+rows-ogg-ogv = 285
 
 abbrev pub rows-ogm : ℕ
-rows-ogm = 274
+rows-ogm = 286
 
 abbrev pub rows-ogv : ℕ
-rows-ogv = 275
+rows-ogv = 287
 
 abbrev pub rows-openssh : ℕ
-rows-openssh = 276
+rows-openssh = 288
 
 abbrev pub rows-opml : ℕ
-rows-opml = 277
+rows-opml = 289
 
 abbrev pub rows-opus : ℕ
-rows-opus = 278
+rows-opus = 290
 
 abbrev pub rows-ora : ℕ
-rows-ora = 279
+rows-ora = 291
 
 abbrev pub rows-orc : ℕ
-rows-orc = 280
+rows-orc = 292
+
+abbrev pub rows-orf : ℕ
+rows-orf = 293
 
 abbrev pub rows-otf : ℕ
-rows-otf = 281
+rows-otf = 294
 
 abbrev pub rows-otg : ℕ
-rows-otg = 282
+rows-otg = 295
 
 abbrev pub rows-otp : ℕ
-rows-otp = 283
+rows-otp = 296
 
 abbrev pub rows-ots : ℕ
-rows-ots = 284
+rows-ots = 297
 
 abbrev pub rows-ott : ℕ
-rows-ott = 285
+rows-ott = 298
 
 abbrev pub rows-owx : ℕ
-rows-owx = 286
+rows-owx = 299
 
 abbrev pub rows-p12 : ℕ
-rows-p12 = 287
+rows-p12 = 300
 
 abbrev pub rows-p7b-p7c : ℕ
-rows-p7b-p7c = 288
+rows-p7b-p7c = 301
 
 abbrev pub rows-p8 : ℕ
-rows-p8 = 289
+rows-p8 = 302
 
 abbrev pub rows-par2 : ℕ
-rows-par2 = 290
+rows-par2 = 303
 
 abbrev pub rows-parquet : ℕ
-rows-parquet = 291
+rows-parquet = 304
 
 abbrev pub rows-pat : ℕ
-rows-pat = 292
+rows-pat = 305
 
 abbrev pub rows-pcap : ℕ
-rows-pcap = 293
+rows-pcap = 306
 
 abbrev pub rows-pcapng : ℕ
-rows-pcapng = 294
+rows-pcapng = 307
 
 abbrev pub rows-pcx : ℕ
-rows-pcx = 295
+rows-pcx = 308
 
 abbrev pub rows-pdf : ℕ
-rows-pdf = 296
+rows-pdf = 309
 
 abbrev pub rows-pem : ℕ
-rows-pem = 297
+rows-pem = 310
 
 abbrev pub rows-pfa-pfb : ℕ
-rows-pfa-pfb = 298
+rows-pfa-pfb = 311
 
 abbrev pub rows-pfb : ℕ
-rows-pfb = 299
+rows-pfb = 312
 
 abbrev pub rows-pgp : ℕ
-rows-pgp = 300
+rows-pgp = 313
 
 abbrev pub rows-php : ℕ
-rows-php = 301
+rows-php = 314
 
 abbrev pub rows-php-svg-txt-xhtml-xml : ℕ
-rows-php-svg-txt-xhtml-xml = 302
+rows-php-svg-txt-xhtml-xml = 315
 
 abbrev pub rows-pl : ℕ
-rows-pl = 303
+rows-pl = 316
 
 abbrev pub rows-plist : ℕ
-rows-plist = 304
+rows-plist = 317
 
 abbrev pub rows-plist-txt-xml : ℕ
-rows-plist-txt-xml = 305
+rows-plist-txt-xml = 318
 
 abbrev pub rows-pls : ℕ
-rows-pls = 306
+rows-pls = 319
 
 abbrev pub rows-png : ℕ
-rows-png = 307
+rows-png = 320
 
 abbrev pub rows-pnm : ℕ
-rows-pnm = 308
+rows-pnm = 321
 
 abbrev pub rows-ppt : ℕ
-rows-ppt = 309
+rows-ppt = 322
 
 abbrev pub rows-pptm : ℕ
-rows-pptm = 310
+rows-pptm = 323
 
 abbrev pub rows-pptx : ℕ
-rows-pptx = 311
+rows-pptx = 324
 
 abbrev pub rows-ppu : ℕ
-rows-ppu = 312
+rows-ppu = 325
 
 abbrev pub rows-ps : ℕ
-rows-ps = 313
+rows-ps = 326
 
 abbrev pub rows-ps-sh-txt : ℕ
-rows-ps-sh-txt = 314
+rows-ps-sh-txt = 327
 
 abbrev pub rows-ps-txt : ℕ
-rows-ps-txt = 315
+rows-ps-txt = 328
 
 abbrev pub rows-ps1 : ℕ
-rows-ps1 = 316
+rows-ps1 = 329
 
 abbrev pub rows-psd : ℕ
-rows-psd = 317
+rows-psd = 330
 
 abbrev pub rows-pst : ℕ
-rows-pst = 318
+rows-pst = 331
 
 abbrev pub rows-pub : ℕ
-rows-pub = 319
+rows-pub = 332
 
 abbrev pub rows-puml : ℕ
-rows-puml = 320
+rows-puml = 333
 
 abbrev pub rows-py : ℕ
-rows-py = 321
+rows-py = 334
 
 abbrev pub rows-py-sh-zip : ℕ
-rows-py-sh-zip = 322
+rows-py-sh-zip = 335
 
 abbrev pub rows-pyc : ℕ
-rows-pyc = 323
+rows-pyc = 336
 
 abbrev pub rows-qcow2 : ℕ
-rows-qcow2 = 324
+rows-qcow2 = 337
 
 abbrev pub rows-qml : ℕ
-rows-qml = 325
+rows-qml = 338
+
+abbrev pub rows-qoi : ℕ
+rows-qoi = 339
 
 abbrev pub rows-r : ℕ
-rows-r = 326
+rows-r = 340
 
 abbrev pub rows-ra : ℕ
-rows-ra = 327
+rows-ra = 341
 
 abbrev pub rows-raf : ℕ
-rows-raf = 328
+rows-raf = 342
 
 abbrev pub rows-raku : ℕ
-rows-raku = 329
+rows-raku = 343
 
 abbrev pub rows-raml : ℕ
-rows-raml = 330
+rows-raml = 344
 
 abbrev pub rows-rar : ℕ
-rows-rar = 331
+rows-rar = 345
 
 abbrev pub rows-ras : ℕ
-rows-ras = 332
+rows-ras = 346
 
 abbrev pub rows-rb : ℕ
-rows-rb = 333
+rows-rb = 347
 
 abbrev pub rows-rkt : ℕ
-rows-rkt = 334
+rows-rkt = 348
 
 abbrev pub rows-rm : ℕ
-rows-rm = 335
+rows-rm = 349
 
 abbrev pub rows-rpm : ℕ
-rows-rpm = 336
+rows-rpm = 350
 
 abbrev pub rows-rq : ℕ
-rows-rq = 337
+rows-rq = 351
 
 abbrev pub rows-rss : ℕ
-rows-rss = 338
+rows-rss = 352
 
 abbrev pub rows-rtf : ℕ
-rows-rtf = 339
+rows-rtf = 353
 
 abbrev pub rows-rw2 : ℕ
-rows-rw2 = 340
+rows-rw2 = 354
 
 abbrev pub rows-safetensors : ℕ
-rows-safetensors = 341
+rows-safetensors = 355
 
 abbrev pub rows-sav : ℕ
-rows-sav = 342
+rows-sav = 356
 
 abbrev pub rows-scala : ℕ
-rows-scala = 343
+rows-scala = 357
 
 abbrev pub rows-scm : ℕ
-rows-scm = 344
+rows-scm = 358
 
 abbrev pub rows-sed : ℕ
-rows-sed = 345
+rows-sed = 359
+
+abbrev pub rows-sf2 : ℕ
+rows-sf2 = 360
 
 abbrev pub rows-sgf : ℕ
-rows-sgf = 346
+rows-sgf = 361
 
 abbrev pub rows-sgi : ℕ
-rows-sgi = 347
+rows-sgi = 362
 
 abbrev pub rows-sh : ℕ
-rows-sh = 348
+rows-sh = 363
 
 abbrev pub rows-sh-txt : ℕ
-rows-sh-txt = 349
+rows-sh-txt = 364
 
 abbrev pub rows-shp : ℕ
-rows-shp = 350
+rows-shp = 365
 
 abbrev pub rows-shx : ℕ
-rows-shx = 351
+rows-shx = 366
 
 abbrev pub rows-sid : ℕ
-rows-sid = 352
+rows-sid = 367
 
 abbrev pub rows-sig : ℕ
-rows-sig = 353
+rows-sig = 368
+
+abbrev pub rows-smk : ℕ
+rows-smk = 369
 
 abbrev pub rows-so : ℕ
-rows-so = 354
+rows-so = 370
+
+abbrev pub rows-spc : ℕ
+rows-spc = 371
 
 abbrev pub rows-spx : ℕ
-rows-spx = 355
+rows-spx = 372
 
 abbrev pub rows-sqlite : ℕ
-rows-sqlite = 356
+rows-sqlite = 373
 
 abbrev pub rows-squashfs : ℕ
-rows-squashfs = 357
+rows-squashfs = 374
 
 abbrev pub rows-srpm : ℕ
-rows-srpm = 358
+rows-srpm = 375
 
 abbrev pub rows-srt : ℕ
-rows-srt = 359
+rows-srt = 376
 
 abbrev pub rows-ssa : ℕ
-rows-ssa = 360
+rows-ssa = 377
 
 abbrev pub rows-stl : ℕ
-rows-stl = 361
+rows-stl = 378
 
 abbrev pub rows-subviewer : ℕ
-rows-subviewer = 362
+rows-subviewer = 379
 
 abbrev pub rows-svg : ℕ
-rows-svg = 363
+rows-svg = 380
 
 abbrev pub rows-swf : ℕ
-rows-swf = 364
+rows-swf = 381
 
 abbrev pub rows-sxc : ℕ
-rows-sxc = 365
+rows-sxc = 382
 
 abbrev pub rows-sxd : ℕ
-rows-sxd = 366
+rows-sxd = 383
 
 abbrev pub rows-sxi : ℕ
-rows-sxi = 367
+rows-sxi = 384
 
 abbrev pub rows-sxw : ℕ
-rows-sxw = 368
+rows-sxw = 385
 
 abbrev pub rows-sz : ℕ
-rows-sz = 369
+rows-sz = 386
 
 abbrev pub rows-t2t : ℕ
-rows-t2t = 370
+rows-t2t = 387
 
 abbrev pub rows-tar : ℕ
-rows-tar = 371
+rows-tar = 388
 
 abbrev pub rows-tcl : ℕ
-rows-tcl = 372
+rows-tcl = 389
 
 abbrev pub rows-terminfo : ℕ
-rows-terminfo = 373
+rows-terminfo = 390
 
 abbrev pub rows-texi : ℕ
-rows-texi = 374
+rows-texi = 391
 
 abbrev pub rows-tif : ℕ
-rows-tif = 375
+rows-tif = 392
 
 abbrev pub rows-tnef : ℕ
-rows-tnef = 376
+rows-tnef = 393
 
 abbrev pub rows-torrent : ℕ
-rows-torrent = 377
+rows-torrent = 394
 
 abbrev pub rows-tres : ℕ
-rows-tres = 378
+rows-tres = 395
 
 abbrev pub rows-ts : ℕ
-rows-ts = 379
+rows-ts = 396
 
 abbrev pub rows-tscn : ℕ
-rows-tscn = 380
+rows-tscn = 397
 
 abbrev pub rows-tta : ℕ
-rows-tta = 381
+rows-tta = 398
 
 abbrev pub rows-ttc : ℕ
-rows-ttc = 382
+rows-ttc = 399
 
 abbrev pub rows-ttf : ℕ
-rows-ttf = 383
+rows-ttf = 400
 
 abbrev pub rows-txt : ℕ
-rows-txt = 384
+rows-txt = 401
 
 abbrev pub rows-txt-xml : ℕ
-rows-txt-xml = 385
+rows-txt-xml = 402
 
 abbrev pub rows-txt-yaml : ℕ
-rows-txt-yaml = 386
+rows-txt-yaml = 403
 
 abbrev pub rows-tzif : ℕ
-rows-tzif = 387
+rows-tzif = 404
+
+abbrev pub rows-ult : ℕ
+rows-ult = 405
+
+abbrev pub rows-usdc : ℕ
+rows-usdc = 406
 
 abbrev pub rows-vcf : ℕ
-rows-vcf = 388
+rows-vcf = 407
 
 abbrev pub rows-vdi : ℕ
-rows-vdi = 389
+rows-vdi = 408
 
 abbrev pub rows-vhd : ℕ
-rows-vhd = 390
+rows-vhd = 409
 
 abbrev pub rows-vhdx : ℕ
-rows-vhdx = 391
+rows-vhdx = 410
 
 abbrev pub rows-vmdk : ℕ
-rows-vmdk = 392
+rows-vmdk = 411
 
 abbrev pub rows-voc : ℕ
-rows-voc = 393
+rows-voc = 412
 
 abbrev pub rows-vsd : ℕ
-rows-vsd = 394
+rows-vsd = 413
 
 abbrev pub rows-vsdx : ℕ
-rows-vsdx = 395
+rows-vsdx = 414
 
 abbrev pub rows-vsdx-zip : ℕ
-rows-vsdx-zip = 396
+rows-vsdx-zip = 415
 
 abbrev pub rows-vtt : ℕ
-rows-vtt = 397
+rows-vtt = 416
 
 abbrev pub rows-wad : ℕ
-rows-wad = 398
+rows-wad = 417
 
 abbrev pub rows-warc : ℕ
-rows-warc = 399
+rows-warc = 418
 
 abbrev pub rows-wasm : ℕ
-rows-wasm = 400
+rows-wasm = 419
 
 abbrev pub rows-wav : ℕ
-rows-wav = 401
+rows-wav = 420
 
 abbrev pub rows-webm : ℕ
-rows-webm = 402
+rows-webm = 421
 
 abbrev pub rows-webp : ℕ
-rows-webp = 403
+rows-webp = 422
 
 abbrev pub rows-wiiwad : ℕ
-rows-wiiwad = 404
+rows-wiiwad = 423
 
 abbrev pub rows-wim : ℕ
-rows-wim = 405
+rows-wim = 424
+
+abbrev pub rows-wmf : ℕ
+rows-wmf = 425
 
 abbrev pub rows-wmv : ℕ
-rows-wmv = 406
+rows-wmv = 426
 
 abbrev pub rows-woff : ℕ
-rows-woff = 407
+rows-woff = 427
 
 abbrev pub rows-woff2 : ℕ
-rows-woff2 = 408
+rows-woff2 = 428
 
 abbrev pub rows-wrl : ℕ
-rows-wrl = 409
+rows-wrl = 429
 
 abbrev pub rows-wv : ℕ
-rows-wv = 410
+rows-wv = 430
 
 abbrev pub rows-x3f : ℕ
-rows-x3f = 411
+rows-x3f = 431
 
 abbrev pub rows-xar : ℕ
-rows-xar = 412
+rows-xar = 432
 
 abbrev pub rows-xcf : ℕ
-rows-xcf = 413
+rows-xcf = 433
 
 abbrev pub rows-xhtml : ℕ
-rows-xhtml = 414
+rows-xhtml = 434
 
 abbrev pub rows-xls : ℕ
-rows-xls = 415
+rows-xls = 435
 
 abbrev pub rows-xlsb : ℕ
-rows-xlsb = 416
+rows-xlsb = 436
 
 abbrev pub rows-xlsm : ℕ
-rows-xlsm = 417
+rows-xlsm = 437
 
 abbrev pub rows-xlsx : ℕ
-rows-xlsx = 418
+rows-xlsx = 438
 
 abbrev pub rows-xm : ℕ
-rows-xm = 419
+rows-xm = 439
 
 abbrev pub rows-xml : ℕ
-rows-xml = 420
+rows-xml = 440
 
 abbrev pub rows-xpm : ℕ
-rows-xpm = 421
+rows-xpm = 441
 
 abbrev pub rows-xwd : ℕ
-rows-xwd = 422
+rows-xwd = 442
 
 abbrev pub rows-xz : ℕ
-rows-xz = 423
+rows-xz = 443
+
+abbrev pub rows-y4m : ℕ
+rows-y4m = 444
 
 abbrev pub rows-yaml : ℕ
-rows-yaml = 424
+rows-yaml = 445
 
 abbrev pub rows-zim : ℕ
-rows-zim = 425
+rows-zim = 446
 
 abbrev pub rows-zip : ℕ
-rows-zip = 426
+rows-zip = 447
 
 abbrev pub rows-zst : ℕ
-rows-zst = 427
+rows-zst = 448
 
 unfoldable pub lead_lists : List (List (List ℕ))
 lead_lists =
@@ -1355,6 +1418,7 @@ sets_0 =
     ∷ (codes "7z" ∷ [])
     ∷ (codes "Z" ∷ [])
     ∷ (codes "aac" ∷ [])
+    ∷ (codes "ac3" ∷ [])
     ∷ (codes "accdb" ∷ [])
     ∷ (codes "adf" ∷ [])
     ∷ (codes "afm" ∷ [])
@@ -1366,6 +1430,7 @@ sets_0 =
     ∷ (codes "alz" ∷ [])
     ∷ (codes "amr" ∷ [])
     ∷ (codes "ani" ∷ [])
+    ∷ (codes "anim" ∷ [])
     ∷ (codes "ape" ∷ [])
     ∷ (codes "apk" ∷ [])
     ∷ (codes "apk" ∷ codes "jar" ∷ codes "zip" ∷ [])
@@ -1409,6 +1474,8 @@ sets_0 =
     ∷ (codes "bz2" ∷ codes "gz" ∷ codes "xz" ∷ [])
     ∷ (codes "bz3" ∷ [])
     ∷ (codes "cab" ∷ [])
+    ∷ (codes "caf" ∷ [])
+    ∷ (codes "cdr" ∷ [])
     ∷ (codes "cer" ∷ [])
     ∷ (codes "cer" ∷ codes "crl" ∷ [])
     ∷ (codes "cer" ∷ codes "p10" ∷ codes "p8" ∷ [])
@@ -1430,6 +1497,8 @@ sets_0 =
     ∷ (codes "dart" ∷ [])
     ∷ (codes "dbf" ∷ [])
     ∷ (codes "dcm" ∷ [])
+    ∷ (codes "dcr" ∷ [])
+    ∷ (codes "dds" ∷ [])
     ∷ (codes "deb" ∷ [])
     ∷ (codes "deb" ∷ codes "goa" ∷ [])
     ∷ (codes "der" ∷ [])
@@ -1454,8 +1523,10 @@ sets_0 =
     ∷ (codes "dv" ∷ [])
     ∷ (codes "dvi" ∷ [])
     ∷ (codes "dwg" ∷ [])
+    ∷ (codes "e57" ∷ [])
     ∷ (codes "elf" ∷ [])
     ∷ (codes "elf" ∷ codes "so" ∷ [])
+    ∷ (codes "emf" ∷ [])
     ∷ (codes "eot" ∷ [])
     ∷ (codes "eps" ∷ [])
     ∷ (codes "eps" ∷ codes "pdf" ∷ codes "ps" ∷ [])
@@ -1464,19 +1535,19 @@ sets_0 =
     ∷ (codes "evtx" ∷ [])
     ∷ (codes "exe" ∷ [])
     ∷ (codes "exr" ∷ [])
-    ∷ (codes "exs" ∷ [])
-    ∷ (codes "ext2" ∷ [])
-    ∷ (codes "f4v" ∷ [])
-    ∷ (codes "fb2" ∷ [])
-    ∷ (codes "fbxtext" ∷ [])
-    ∷ (codes "fcstd" ∷ [])
-    ∷ (codes "fig" ∷ [])
-    ∷ (codes "fish" ∷ [])
     ∷ []
 
 unfoldable pub sets_1 : List (List (List ℕ))
 sets_1 =
-    (codes "fits" ∷ [])
+    (codes "exs" ∷ [])
+    ∷ (codes "ext2" ∷ [])
+    ∷ (codes "f4v" ∷ [])
+    ∷ (codes "fb2" ∷ [])
+    ∷ (codes "fbx" ∷ codes "fbxtext" ∷ [])
+    ∷ (codes "fcstd" ∷ [])
+    ∷ (codes "fig" ∷ [])
+    ∷ (codes "fish" ∷ [])
+    ∷ (codes "fits" ∷ [])
     ∷ (codes "flac" ∷ [])
     ∷ (codes "flac" ∷ codes "ogg" ∷ codes "opus" ∷ [])
     ∷ (codes "flatpak" ∷ [])
@@ -1484,6 +1555,7 @@ sets_1 =
     ∷ (codes "fodt" ∷ [])
     ∷ (codes "fpx" ∷ [])
     ∷ (codes "gbr" ∷ [])
+    ∷ (codes "gbs" ∷ [])
     ∷ (codes "gdbm" ∷ [])
     ∷ (codes "gem" ∷ [])
     ∷ (codes "gguf" ∷ [])
@@ -1524,6 +1596,7 @@ sets_1 =
     ∷ (codes "ics" ∷ [])
     ∷ (codes "ilbm" ∷ [])
     ∷ (codes "it" ∷ [])
+    ∷ (codes "ivf" ∷ [])
     ∷ (codes "j2c" ∷ [])
     ∷ (codes "jar" ∷ [])
     ∷ (codes "jar" ∷ codes "zip" ∷ [])
@@ -1552,6 +1625,7 @@ sets_1 =
     ∷ (codes "kra" ∷ [])
     ∷ (codes "ktx" ∷ [])
     ∷ (codes "ktx2" ∷ [])
+    ∷ (codes "laz" ∷ [])
     ∷ (codes "lingts" ∷ [])
     ∷ (codes "lisp" ∷ [])
     ∷ (codes "lnk" ∷ [])
@@ -1593,7 +1667,11 @@ sets_1 =
     ∷ (codes "mp3" ∷ [])
     ∷ (codes "mp4" ∷ [])
     ∷ (codes "mpc" ∷ [])
-    ∷ (codes "mpg" ∷ [])
+    ∷ []
+
+unfoldable pub sets_2 : List (List (List ℕ))
+sets_2 =
+    (codes "mpg" ∷ [])
     ∷ (codes "mpp" ∷ [])
     ∷ (codes "msg" ∷ [])
     ∷ (codes "mtm" ∷ [])
@@ -1603,12 +1681,9 @@ sets_1 =
     ∷ (codes "nes" ∷ [])
     ∷ (codes "nft" ∷ [])
     ∷ (codes "npy" ∷ [])
+    ∷ (codes "nut" ∷ [])
     ∷ (codes "o" ∷ [])
-    ∷ []
-
-unfoldable pub sets_2 : List (List (List ℕ))
-sets_2 =
-    (codes "obj" ∷ [])
+    ∷ (codes "obj" ∷ [])
     ∷ (codes "odb" ∷ [])
     ∷ (codes "odc" ∷ [])
     ∷ (codes "odf" ∷ [])
@@ -1633,6 +1708,7 @@ sets_2 =
     ∷ (codes "opus" ∷ [])
     ∷ (codes "ora" ∷ [])
     ∷ (codes "orc" ∷ [])
+    ∷ (codes "orf" ∷ [])
     ∷ (codes "otf" ∷ [])
     ∷ (codes "otg" ∷ [])
     ∷ (codes "otp" ∷ [])
@@ -1678,6 +1754,7 @@ sets_2 =
     ∷ (codes "pyc" ∷ [])
     ∷ (codes "qcow2" ∷ [])
     ∷ (codes "qml" ∷ [])
+    ∷ (codes "qoi" ∷ [])
     ∷ (codes "r" ∷ [])
     ∷ (codes "ra" ∷ [])
     ∷ (codes "raf" ∷ [])
@@ -1698,6 +1775,7 @@ sets_2 =
     ∷ (codes "scala" ∷ [])
     ∷ (codes "scm" ∷ [])
     ∷ (codes "sed" ∷ [])
+    ∷ (codes "sf2" ∷ [])
     ∷ (codes "sgf" ∷ [])
     ∷ (codes "sgi" ∷ [])
     ∷ (codes "sh" ∷ [])
@@ -1706,7 +1784,9 @@ sets_2 =
     ∷ (codes "shx" ∷ [])
     ∷ (codes "sid" ∷ [])
     ∷ (codes "sig" ∷ [])
+    ∷ (codes "smk" ∷ [])
     ∷ (codes "so" ∷ [])
+    ∷ (codes "spc" ∷ [])
     ∷ (codes "spx" ∷ [])
     ∷ (codes "sqlite" ∷ [])
     ∷ (codes "squashfs" ∷ [])
@@ -1719,7 +1799,11 @@ sets_2 =
     ∷ (codes "swf" ∷ [])
     ∷ (codes "sxc" ∷ [])
     ∷ (codes "sxd" ∷ [])
-    ∷ (codes "sxi" ∷ [])
+    ∷ []
+
+unfoldable pub sets_3 : List (List (List ℕ))
+sets_3 =
+    (codes "sxi" ∷ [])
     ∷ (codes "sxw" ∷ [])
     ∷ (codes "sz" ∷ [])
     ∷ (codes "t2t" ∷ [])
@@ -1736,14 +1820,12 @@ sets_2 =
     ∷ (codes "tta" ∷ [])
     ∷ (codes "ttc" ∷ [])
     ∷ (codes "ttf" ∷ [])
-    ∷ []
-
-unfoldable pub sets_3 : List (List (List ℕ))
-sets_3 =
-    (codes "txt" ∷ [])
+    ∷ (codes "txt" ∷ [])
     ∷ (codes "txt" ∷ codes "xml" ∷ [])
     ∷ (codes "txt" ∷ codes "yaml" ∷ [])
     ∷ (codes "tzif" ∷ [])
+    ∷ (codes "ult" ∷ [])
+    ∷ (codes "usdc" ∷ [])
     ∷ (codes "vcf" ∷ [])
     ∷ (codes "vdi" ∷ [])
     ∷ (codes "vhd" ∷ [])
@@ -1762,6 +1844,7 @@ sets_3 =
     ∷ (codes "webp" ∷ [])
     ∷ (codes "wiiwad" ∷ [])
     ∷ (codes "wim" ∷ [])
+    ∷ (codes "wmf" ∷ [])
     ∷ (codes "wmv" ∷ [])
     ∷ (codes "woff" ∷ [])
     ∷ (codes "woff2" ∷ [])
@@ -1780,6 +1863,7 @@ sets_3 =
     ∷ (codes "xpm" ∷ [])
     ∷ (codes "xwd" ∷ [])
     ∷ (codes "xz" ∷ [])
+    ∷ (codes "y4m" ∷ [])
     ∷ (codes "yaml" ∷ [])
     ∷ (codes "zim" ∷ [])
     ∷ (codes "zip" ∷ [])

@@ -347,8 +347,8 @@ is-application-vnd-hp-pcl = 113
 abbrev pub is-application-vnd-iccprofile : ℕ
 is-application-vnd-iccprofile = 114
 
-abbrev pub is-application-vnd-las : ℕ
-is-application-vnd-las = 115
+abbrev pub is-application-vnd-laszip : ℕ
+is-application-vnd-laszip = 115
 
 abbrev pub is-application-vnd-lotus-1-2-3 : ℕ
 is-application-vnd-lotus-1-2-3 = 116
@@ -749,23 +749,23 @@ is-application-x-dia-diagram = 247
 abbrev pub is-application-x-dictzip : ℕ
 is-application-x-dictzip = 248
 
+abbrev pub is-application-x-director : ℕ
+is-application-x-director = 249
+
 abbrev pub is-application-x-docbook-xml : ℕ
-is-application-x-docbook-xml = 249
+is-application-x-docbook-xml = 250
 
 abbrev pub is-application-x-doom-wad : ℕ
-is-application-x-doom-wad = 250
+is-application-x-doom-wad = 251
 
 abbrev pub is-application-x-drawio-xml : ℕ
-is-application-x-drawio-xml = 251
+is-application-x-drawio-xml = 252
 
 abbrev pub is-application-x-dtbncx-xml : ℕ
-is-application-x-dtbncx-xml = 252
+is-application-x-dtbncx-xml = 253
 
 abbrev pub is-application-x-dvi : ℕ
-is-application-x-dvi = 253
-
-abbrev pub is-application-x-e57 : ℕ
-is-application-x-e57 = 254
+is-application-x-dvi = 254
 
 abbrev pub is-application-x-eclipse-xml : ℕ
 is-application-x-eclipse-xml = 255
@@ -1337,1754 +1337,1775 @@ is-application-x-uproject-json = 443
 abbrev pub is-application-x-urdf-xml : ℕ
 is-application-x-urdf-xml = 444
 
+abbrev pub is-application-x-usdc : ℕ
+is-application-x-usdc = 445
+
 abbrev pub is-application-x-usdz : ℕ
-is-application-x-usdz = 445
+is-application-x-usdz = 446
 
 abbrev pub is-application-x-vdi-disk : ℕ
-is-application-x-vdi-disk = 446
+is-application-x-vdi-disk = 447
 
 abbrev pub is-application-x-vhd-disk : ℕ
-is-application-x-vhd-disk = 447
+is-application-x-vhd-disk = 448
 
 abbrev pub is-application-x-vhdx-disk : ℕ
-is-application-x-vhdx-disk = 448
+is-application-x-vhdx-disk = 449
 
 abbrev pub is-application-x-vim-spell : ℕ
-is-application-x-vim-spell = 449
+is-application-x-vim-spell = 450
 
 abbrev pub is-application-x-vim-swap : ℕ
-is-application-x-vim-swap = 450
+is-application-x-vim-swap = 451
 
 abbrev pub is-application-x-virtualbox-saved-state : ℕ
-is-application-x-virtualbox-saved-state = 451
+is-application-x-virtualbox-saved-state = 452
 
 abbrev pub is-application-x-vmdk-disk : ℕ
-is-application-x-vmdk-disk = 452
+is-application-x-vmdk-disk = 453
 
 abbrev pub is-application-x-wheel-zip : ℕ
-is-application-x-wheel-zip = 453
+is-application-x-wheel-zip = 454
 
 abbrev pub is-application-x-wii-wad : ℕ
-is-application-x-wii-wad = 454
+is-application-x-wii-wad = 455
 
 abbrev pub is-application-x-windows-dump : ℕ
-is-application-x-windows-dump = 455
+is-application-x-windows-dump = 456
 
 abbrev pub is-application-x-wix-xml : ℕ
-is-application-x-wix-xml = 456
+is-application-x-wix-xml = 457
 
 abbrev pub is-application-x-wmz : ℕ
-is-application-x-wmz = 457
+is-application-x-wmz = 458
 
 abbrev pub is-application-x-x509-ca-cert-as-known : ℕ
-is-application-x-x509-ca-cert-as-known = 458
+is-application-x-x509-ca-cert-as-known = 459
 
 abbrev pub is-application-x-x509-ca-cert-as-row-der : ℕ
-is-application-x-x509-ca-cert-as-row-der = 459
+is-application-x-x509-ca-cert-as-row-der = 460
 
 abbrev pub is-application-x-x509-ca-cert-as-row-pem : ℕ
-is-application-x-x509-ca-cert-as-row-pem = 460
+is-application-x-x509-ca-cert-as-row-pem = 461
 
 abbrev pub is-application-x-xar : ℕ
-is-application-x-xar = 461
+is-application-x-xar = 462
 
 abbrev pub is-application-x-xpinstall : ℕ
-is-application-x-xpinstall = 462
+is-application-x-xpinstall = 463
 
 abbrev pub is-application-x-xz : ℕ
-is-application-x-xz = 463
+is-application-x-xz = 464
 
 abbrev pub is-application-x-xz-compressed-tar : ℕ
-is-application-x-xz-compressed-tar = 464
+is-application-x-xz-compressed-tar = 465
 
 abbrev pub is-application-x-zcml : ℕ
-is-application-x-zcml = 465
+is-application-x-zcml = 466
 
 abbrev pub is-application-x-zoo : ℕ
-is-application-x-zoo = 466
+is-application-x-zoo = 467
 
 abbrev pub is-application-x-zsh : ℕ
-is-application-x-zsh = 467
+is-application-x-zsh = 468
 
 abbrev pub is-application-x-zstd-compressed-tar : ℕ
-is-application-x-zstd-compressed-tar = 468
+is-application-x-zstd-compressed-tar = 469
 
 abbrev pub is-application-xaml-xml : ℕ
-is-application-xaml-xml = 469
+is-application-xaml-xml = 470
 
 abbrev pub is-application-xhtml-xml : ℕ
-is-application-xhtml-xml = 470
+is-application-xhtml-xml = 471
 
 abbrev pub is-application-xliff-xml : ℕ
-is-application-xliff-xml = 471
+is-application-xliff-xml = 472
 
 abbrev pub is-application-xml : ℕ
-is-application-xml = 472
+is-application-xml = 473
 
 abbrev pub is-application-xml-dtd : ℕ
-is-application-xml-dtd = 473
+is-application-xml-dtd = 474
 
 abbrev pub is-application-xml-external-parsed-entity : ℕ
-is-application-xml-external-parsed-entity = 474
+is-application-xml-external-parsed-entity = 475
 
 abbrev pub is-application-xproc-xml : ℕ
-is-application-xproc-xml = 475
+is-application-xproc-xml = 476
 
 abbrev pub is-application-xquery : ℕ
-is-application-xquery = 476
+is-application-xquery = 477
 
 abbrev pub is-application-xslt-xml : ℕ
-is-application-xslt-xml = 477
+is-application-xslt-xml = 478
 
 abbrev pub is-application-xspf-xml : ℕ
-is-application-xspf-xml = 478
+is-application-xspf-xml = 479
 
 abbrev pub is-application-yaml : ℕ
-is-application-yaml = 479
+is-application-yaml = 480
 
 abbrev pub is-application-zip : ℕ
-is-application-zip = 480
+is-application-zip = 481
 
 abbrev pub is-application-zstd : ℕ
-is-application-zstd = 481
+is-application-zstd = 482
 
 abbrev pub is-audio-aac : ℕ
-is-audio-aac = 482
+is-audio-aac = 483
 
 abbrev pub is-audio-ac3 : ℕ
-is-audio-ac3 = 483
+is-audio-ac3 = 484
 
 abbrev pub is-audio-amr : ℕ
-is-audio-amr = 484
+is-audio-amr = 485
 
 abbrev pub is-audio-basic : ℕ
-is-audio-basic = 485
+is-audio-basic = 486
 
 abbrev pub is-audio-eac3 : ℕ
-is-audio-eac3 = 486
+is-audio-eac3 = 487
 
 abbrev pub is-audio-m4a : ℕ
-is-audio-m4a = 487
+is-audio-m4a = 488
 
 abbrev pub is-audio-midi : ℕ
-is-audio-midi = 488
+is-audio-midi = 489
 
 abbrev pub is-audio-mpeg : ℕ
-is-audio-mpeg = 489
+is-audio-mpeg = 490
 
 abbrev pub is-audio-ogg-as-row-oga : ℕ
-is-audio-ogg-as-row-oga = 490
+is-audio-ogg-as-row-oga = 491
 
 abbrev pub is-audio-ogg-as-row-ogg : ℕ
-is-audio-ogg-as-row-ogg = 491
+is-audio-ogg-as-row-ogg = 492
 
 abbrev pub is-audio-opus : ℕ
-is-audio-opus = 492
+is-audio-opus = 493
 
 abbrev pub is-audio-prs-sid : ℕ
-is-audio-prs-sid = 493
+is-audio-prs-sid = 494
 
 abbrev pub is-audio-sf2 : ℕ
-is-audio-sf2 = 494
+is-audio-sf2 = 495
 
 abbrev pub is-audio-vnd-audible : ℕ
-is-audio-vnd-audible = 495
+is-audio-vnd-audible = 496
 
 abbrev pub is-audio-vnd-dts : ℕ
-is-audio-vnd-dts = 496
+is-audio-vnd-dts = 497
 
 abbrev pub is-audio-vnd-rn-realaudio : ℕ
-is-audio-vnd-rn-realaudio = 497
+is-audio-vnd-rn-realaudio = 498
 
 abbrev pub is-audio-webm : ℕ
-is-audio-webm = 498
+is-audio-webm = 499
 
 abbrev pub is-audio-x-abc : ℕ
-is-audio-x-abc = 499
+is-audio-x-abc = 500
 
 abbrev pub is-audio-x-aifc : ℕ
-is-audio-x-aifc = 500
+is-audio-x-aifc = 501
 
 abbrev pub is-audio-x-aiff : ℕ
-is-audio-x-aiff = 501
+is-audio-x-aiff = 502
 
 abbrev pub is-audio-x-ape : ℕ
-is-audio-x-ape = 502
+is-audio-x-ape = 503
 
 abbrev pub is-audio-x-caf : ℕ
-is-audio-x-caf = 503
+is-audio-x-caf = 504
 
 abbrev pub is-audio-x-dff : ℕ
-is-audio-x-dff = 504
+is-audio-x-dff = 505
 
 abbrev pub is-audio-x-dsf : ℕ
-is-audio-x-dsf = 505
+is-audio-x-dsf = 506
 
 abbrev pub is-audio-x-flac : ℕ
-is-audio-x-flac = 506
+is-audio-x-flac = 507
+
+abbrev pub is-audio-x-gbs : ℕ
+is-audio-x-gbs = 508
 
 abbrev pub is-audio-x-gsm : ℕ
-is-audio-x-gsm = 507
+is-audio-x-gsm = 509
 
 abbrev pub is-audio-x-it : ℕ
-is-audio-x-it = 508
+is-audio-x-it = 510
 
 abbrev pub is-audio-x-m4b : ℕ
-is-audio-x-m4b = 509
+is-audio-x-m4b = 511
 
 abbrev pub is-audio-x-matroska : ℕ
-is-audio-x-matroska = 510
+is-audio-x-matroska = 512
 
 abbrev pub is-audio-x-mo3 : ℕ
-is-audio-x-mo3 = 511
+is-audio-x-mo3 = 513
 
 abbrev pub is-audio-x-mod : ℕ
-is-audio-x-mod = 512
+is-audio-x-mod = 514
 
 abbrev pub is-audio-x-mpegurl : ℕ
-is-audio-x-mpegurl = 513
+is-audio-x-mpegurl = 515
 
 abbrev pub is-audio-x-ms-wma : ℕ
-is-audio-x-ms-wma = 514
+is-audio-x-ms-wma = 516
 
 abbrev pub is-audio-x-musepack : ℕ
-is-audio-x-musepack = 515
+is-audio-x-musepack = 517
 
 abbrev pub is-audio-x-s3m : ℕ
-is-audio-x-s3m = 516
+is-audio-x-s3m = 518
 
 abbrev pub is-audio-x-scpls : ℕ
-is-audio-x-scpls = 517
+is-audio-x-scpls = 519
+
+abbrev pub is-audio-x-sfbk : ℕ
+is-audio-x-sfbk = 520
+
+abbrev pub is-audio-x-spc : ℕ
+is-audio-x-spc = 521
 
 abbrev pub is-audio-x-speex-ogg : ℕ
-is-audio-x-speex-ogg = 518
+is-audio-x-speex-ogg = 522
 
 abbrev pub is-audio-x-tta : ℕ
-is-audio-x-tta = 519
+is-audio-x-tta = 523
+
+abbrev pub is-audio-x-ult : ℕ
+is-audio-x-ult = 524
 
 abbrev pub is-audio-x-voc : ℕ
-is-audio-x-voc = 520
+is-audio-x-voc = 525
 
 abbrev pub is-audio-x-wav : ℕ
-is-audio-x-wav = 521
+is-audio-x-wav = 526
 
 abbrev pub is-audio-x-wavpack : ℕ
-is-audio-x-wavpack = 522
+is-audio-x-wavpack = 527
 
 abbrev pub is-audio-x-xm : ℕ
-is-audio-x-xm = 523
+is-audio-x-xm = 528
 
 abbrev pub is-chemical-x-cdx : ℕ
-is-chemical-x-cdx = 524
+is-chemical-x-cdx = 529
 
 abbrev pub is-chemical-x-cif : ℕ
-is-chemical-x-cif = 525
+is-chemical-x-cif = 530
 
 abbrev pub is-chemical-x-mdl-molfile : ℕ
-is-chemical-x-mdl-molfile = 526
+is-chemical-x-mdl-molfile = 531
 
 abbrev pub is-chemical-x-mdl-sdfile : ℕ
-is-chemical-x-mdl-sdfile = 527
+is-chemical-x-mdl-sdfile = 532
 
 abbrev pub is-chemical-x-pdb : ℕ
-is-chemical-x-pdb = 528
+is-chemical-x-pdb = 533
 
 abbrev pub is-chemical-x-xyz : ℕ
-is-chemical-x-xyz = 529
+is-chemical-x-xyz = 534
 
 abbrev pub is-font-collection : ℕ
-is-font-collection = 530
+is-font-collection = 535
 
 abbrev pub is-image-apng : ℕ
-is-image-apng = 531
+is-image-apng = 536
 
 abbrev pub is-image-astc : ℕ
-is-image-astc = 532
+is-image-astc = 537
 
 abbrev pub is-image-avif : ℕ
-is-image-avif = 533
+is-image-avif = 538
 
 abbrev pub is-image-bmp : ℕ
-is-image-bmp = 534
+is-image-bmp = 539
 
 abbrev pub is-image-bpg : ℕ
-is-image-bpg = 535
+is-image-bpg = 540
 
 abbrev pub is-image-emf : ℕ
-is-image-emf = 536
+is-image-emf = 541
 
 abbrev pub is-image-fits : ℕ
-is-image-fits = 537
+is-image-fits = 542
 
 abbrev pub is-image-geotiff : ℕ
-is-image-geotiff = 538
+is-image-geotiff = 543
 
 abbrev pub is-image-gif : ℕ
-is-image-gif = 539
+is-image-gif = 544
 
 abbrev pub is-image-heic : ℕ
-is-image-heic = 540
+is-image-heic = 545
 
 abbrev pub is-image-heic-sequence : ℕ
-is-image-heic-sequence = 541
+is-image-heic-sequence = 546
 
 abbrev pub is-image-heif : ℕ
-is-image-heif = 542
+is-image-heif = 547
 
 abbrev pub is-image-jls : ℕ
-is-image-jls = 543
+is-image-jls = 548
 
 abbrev pub is-image-jp2 : ℕ
-is-image-jp2 = 544
+is-image-jp2 = 549
 
 abbrev pub is-image-jpeg : ℕ
-is-image-jpeg = 545
+is-image-jpeg = 550
 
 abbrev pub is-image-jpx : ℕ
-is-image-jpx = 546
+is-image-jpx = 551
 
 abbrev pub is-image-jxl : ℕ
-is-image-jxl = 547
+is-image-jxl = 552
 
 abbrev pub is-image-ktx : ℕ
-is-image-ktx = 548
+is-image-ktx = 553
 
 abbrev pub is-image-ktx2 : ℕ
-is-image-ktx2 = 549
+is-image-ktx2 = 554
 
 abbrev pub is-image-openraster : ℕ
-is-image-openraster = 550
+is-image-openraster = 555
 
 abbrev pub is-image-png : ℕ
-is-image-png = 551
-
-abbrev pub is-image-qoi : ℕ
-is-image-qoi = 552
+is-image-png = 556
 
 abbrev pub is-image-svg-xml : ℕ
-is-image-svg-xml = 553
+is-image-svg-xml = 557
 
 abbrev pub is-image-svg-xml-compressed : ℕ
-is-image-svg-xml-compressed = 554
+is-image-svg-xml-compressed = 558
 
 abbrev pub is-image-tiff : ℕ
-is-image-tiff = 555
+is-image-tiff = 559
 
 abbrev pub is-image-vnd-adobe-photoshop : ℕ
-is-image-vnd-adobe-photoshop = 556
+is-image-vnd-adobe-photoshop = 560
 
 abbrev pub is-image-vnd-djvu : ℕ
-is-image-vnd-djvu = 557
+is-image-vnd-djvu = 561
 
 abbrev pub is-image-vnd-dwg : ℕ
-is-image-vnd-dwg = 558
+is-image-vnd-dwg = 562
 
 abbrev pub is-image-vnd-dxf : ℕ
-is-image-vnd-dxf = 559
+is-image-vnd-dxf = 563
 
 abbrev pub is-image-vnd-fpx : ℕ
-is-image-vnd-fpx = 560
+is-image-vnd-fpx = 564
 
 abbrev pub is-image-vnd-microsoft-icon : ℕ
-is-image-vnd-microsoft-icon = 561
+is-image-vnd-microsoft-icon = 565
+
+abbrev pub is-image-vnd-ms-dds : ℕ
+is-image-vnd-ms-dds = 566
 
 abbrev pub is-image-vnd-ms-photo : ℕ
-is-image-vnd-ms-photo = 562
+is-image-vnd-ms-photo = 567
 
 abbrev pub is-image-vnd-radiance : ℕ
-is-image-vnd-radiance = 563
+is-image-vnd-radiance = 568
 
 abbrev pub is-image-vnd-zbrush-pcx : ℕ
-is-image-vnd-zbrush-pcx = 564
+is-image-vnd-zbrush-pcx = 569
 
 abbrev pub is-image-webp : ℕ
-is-image-webp = 565
+is-image-webp = 570
 
 abbrev pub is-image-wmf : ℕ
-is-image-wmf = 566
+is-image-wmf = 571
 
 abbrev pub is-image-x-3ds : ℕ
-is-image-x-3ds = 567
+is-image-x-3ds = 572
 
 abbrev pub is-image-x-adobe-dng : ℕ
-is-image-x-adobe-dng = 568
+is-image-x-adobe-dng = 573
 
 abbrev pub is-image-x-canon-cr2 : ℕ
-is-image-x-canon-cr2 = 569
+is-image-x-canon-cr2 = 574
 
 abbrev pub is-image-x-canon-cr3 : ℕ
-is-image-x-canon-cr3 = 570
+is-image-x-canon-cr3 = 575
 
 abbrev pub is-image-x-cmu-raster : ℕ
-is-image-x-cmu-raster = 571
-
-abbrev pub is-image-x-dds : ℕ
-is-image-x-dds = 572
+is-image-x-cmu-raster = 576
 
 abbrev pub is-image-x-eps : ℕ
-is-image-x-eps = 573
+is-image-x-eps = 577
 
 abbrev pub is-image-x-epson-erf : ℕ
-is-image-x-epson-erf = 574
+is-image-x-epson-erf = 578
 
 abbrev pub is-image-x-exr : ℕ
-is-image-x-exr = 575
+is-image-x-exr = 579
 
 abbrev pub is-image-x-fuji-raf : ℕ
-is-image-x-fuji-raf = 576
+is-image-x-fuji-raf = 580
 
 abbrev pub is-image-x-gimp-gbr : ℕ
-is-image-x-gimp-gbr = 577
+is-image-x-gimp-gbr = 581
 
 abbrev pub is-image-x-gimp-pat : ℕ
-is-image-x-gimp-pat = 578
+is-image-x-gimp-pat = 582
 
 abbrev pub is-image-x-hasselblad-3fr : ℕ
-is-image-x-hasselblad-3fr = 579
+is-image-x-hasselblad-3fr = 583
 
 abbrev pub is-image-x-icns : ℕ
-is-image-x-icns = 580
+is-image-x-icns = 584
 
 abbrev pub is-image-x-ilbm : ℕ
-is-image-x-ilbm = 581
+is-image-x-ilbm = 585
 
 abbrev pub is-image-x-jp2-codestream : ℕ
-is-image-x-jp2-codestream = 582
+is-image-x-jp2-codestream = 586
 
 abbrev pub is-image-x-kodak-dcr : ℕ
-is-image-x-kodak-dcr = 583
+is-image-x-kodak-dcr = 587
 
 abbrev pub is-image-x-kodak-kdc : ℕ
-is-image-x-kodak-kdc = 584
+is-image-x-kodak-kdc = 588
 
 abbrev pub is-image-x-mamiya-mef : ℕ
-is-image-x-mamiya-mef = 585
+is-image-x-mamiya-mef = 589
 
 abbrev pub is-image-x-minolta-mrw : ℕ
-is-image-x-minolta-mrw = 586
+is-image-x-minolta-mrw = 590
 
 abbrev pub is-image-x-nikon-nef : ℕ
-is-image-x-nikon-nef = 587
+is-image-x-nikon-nef = 591
 
 abbrev pub is-image-x-nikon-nrw : ℕ
-is-image-x-nikon-nrw = 588
+is-image-x-nikon-nrw = 592
 
 abbrev pub is-image-x-olympus-orf : ℕ
-is-image-x-olympus-orf = 589
+is-image-x-olympus-orf = 593
 
 abbrev pub is-image-x-panasonic-rw2 : ℕ
-is-image-x-panasonic-rw2 = 590
+is-image-x-panasonic-rw2 = 594
 
 abbrev pub is-image-x-pentax-pef : ℕ
-is-image-x-pentax-pef = 591
+is-image-x-pentax-pef = 595
 
 abbrev pub is-image-x-pict : ℕ
-is-image-x-pict = 592
+is-image-x-pict = 596
 
 abbrev pub is-image-x-portable-anymap : ℕ
-is-image-x-portable-anymap = 593
+is-image-x-portable-anymap = 597
 
 abbrev pub is-image-x-portable-bitmap : ℕ
-is-image-x-portable-bitmap = 594
+is-image-x-portable-bitmap = 598
 
 abbrev pub is-image-x-portable-graymap : ℕ
-is-image-x-portable-graymap = 595
+is-image-x-portable-graymap = 599
 
 abbrev pub is-image-x-portable-pixmap : ℕ
-is-image-x-portable-pixmap = 596
+is-image-x-portable-pixmap = 600
+
+abbrev pub is-image-x-qoi : ℕ
+is-image-x-qoi = 601
 
 abbrev pub is-image-x-samsung-srw : ℕ
-is-image-x-samsung-srw = 597
+is-image-x-samsung-srw = 602
 
 abbrev pub is-image-x-sgi : ℕ
-is-image-x-sgi = 598
+is-image-x-sgi = 603
 
 abbrev pub is-image-x-sigma-x3f : ℕ
-is-image-x-sigma-x3f = 599
+is-image-x-sigma-x3f = 604
 
 abbrev pub is-image-x-sony-arw : ℕ
-is-image-x-sony-arw = 600
+is-image-x-sony-arw = 605
 
 abbrev pub is-image-x-sony-sr2 : ℕ
-is-image-x-sony-sr2 = 601
+is-image-x-sony-sr2 = 606
 
 abbrev pub is-image-x-sony-srf : ℕ
-is-image-x-sony-srf = 602
+is-image-x-sony-srf = 607
 
 abbrev pub is-image-x-tga : ℕ
-is-image-x-tga = 603
+is-image-x-tga = 608
 
 abbrev pub is-image-x-win-bitmap : ℕ
-is-image-x-win-bitmap = 604
+is-image-x-win-bitmap = 609
 
 abbrev pub is-image-x-xbitmap : ℕ
-is-image-x-xbitmap = 605
+is-image-x-xbitmap = 610
 
 abbrev pub is-image-x-xcf : ℕ
-is-image-x-xcf = 606
+is-image-x-xcf = 611
 
 abbrev pub is-image-x-xfig : ℕ
-is-image-x-xfig = 607
+is-image-x-xfig = 612
 
 abbrev pub is-image-x-xpixmap : ℕ
-is-image-x-xpixmap = 608
+is-image-x-xpixmap = 613
 
 abbrev pub is-image-x-xwindowdump : ℕ
-is-image-x-xwindowdump = 609
+is-image-x-xwindowdump = 614
 
 abbrev pub is-message-rfc822 : ℕ
-is-message-rfc822 = 610
+is-message-rfc822 = 615
 
 abbrev pub is-model-3mf : ℕ
-is-model-3mf = 611
+is-model-3mf = 616
+
+abbrev pub is-model-e57 : ℕ
+is-model-e57 = 617
 
 abbrev pub is-model-gltf-json : ℕ
-is-model-gltf-json = 612
+is-model-gltf-json = 618
 
 abbrev pub is-model-gltf-binary : ℕ
-is-model-gltf-binary = 613
+is-model-gltf-binary = 619
 
 abbrev pub is-model-iges : ℕ
-is-model-iges = 614
+is-model-iges = 620
 
 abbrev pub is-model-mtl : ℕ
-is-model-mtl = 615
+is-model-mtl = 621
 
 abbrev pub is-model-obj : ℕ
-is-model-obj = 616
+is-model-obj = 622
 
 abbrev pub is-model-step : ℕ
-is-model-step = 617
+is-model-step = 623
 
 abbrev pub is-model-stl : ℕ
-is-model-stl = 618
+is-model-stl = 624
 
 abbrev pub is-model-vnd-collada-xml : ℕ
-is-model-vnd-collada-xml = 619
-
-abbrev pub is-model-vnd-usdc : ℕ
-is-model-vnd-usdc = 620
+is-model-vnd-collada-xml = 625
 
 abbrev pub is-model-vrml : ℕ
-is-model-vrml = 621
+is-model-vrml = 626
 
 abbrev pub is-model-x3d-xml : ℕ
-is-model-x3d-xml = 622
+is-model-x3d-xml = 627
 
 abbrev pub is-model-x3d-vrml : ℕ
-is-model-x3d-vrml = 623
+is-model-x3d-vrml = 628
 
 abbrev pub is-multipart-related : ℕ
-is-multipart-related = 624
+is-multipart-related = 629
 
 abbrev pub is-text-cache-manifest : ℕ
-is-text-cache-manifest = 625
+is-text-cache-manifest = 630
 
 abbrev pub is-text-calendar : ℕ
-is-text-calendar = 626
+is-text-calendar = 631
 
 abbrev pub is-text-cql : ℕ
-is-text-cql = 627
+is-text-cql = 632
 
 abbrev pub is-text-css : ℕ
-is-text-css = 628
+is-text-css = 633
 
 abbrev pub is-text-csv : ℕ
-is-text-csv = 629
+is-text-csv = 634
 
 abbrev pub is-text-html : ℕ
-is-text-html = 630
+is-text-html = 635
 
 abbrev pub is-text-javascript : ℕ
-is-text-javascript = 631
+is-text-javascript = 636
 
 abbrev pub is-text-markdown : ℕ
-is-text-markdown = 632
+is-text-markdown = 637
 
 abbrev pub is-text-mdx : ℕ
-is-text-mdx = 633
+is-text-mdx = 638
 
 abbrev pub is-text-n3 : ℕ
-is-text-n3 = 634
+is-text-n3 = 639
 
 abbrev pub is-text-org : ℕ
-is-text-org = 635
+is-text-org = 640
 
 abbrev pub is-text-plain : ℕ
-is-text-plain = 636
+is-text-plain = 641
 
 abbrev pub is-text-rust : ℕ
-is-text-rust = 637
+is-text-rust = 642
 
 abbrev pub is-text-sgml : ℕ
-is-text-sgml = 638
+is-text-sgml = 643
 
 abbrev pub is-text-tab-separated-values : ℕ
-is-text-tab-separated-values = 639
+is-text-tab-separated-values = 644
 
 abbrev pub is-text-troff : ℕ
-is-text-troff = 640
+is-text-troff = 645
 
 abbrev pub is-text-turtle : ℕ
-is-text-turtle = 641
+is-text-turtle = 646
 
 abbrev pub is-text-uri-list : ℕ
-is-text-uri-list = 642
+is-text-uri-list = 647
 
 abbrev pub is-text-vbscript : ℕ
-is-text-vbscript = 643
+is-text-vbscript = 648
 
 abbrev pub is-text-vcard : ℕ
-is-text-vcard = 644
+is-text-vcard = 649
 
 abbrev pub is-text-velocity : ℕ
-is-text-velocity = 645
+is-text-velocity = 650
 
 abbrev pub is-text-vnd-familysearch-gedcom : ℕ
-is-text-vnd-familysearch-gedcom = 646
+is-text-vnd-familysearch-gedcom = 651
 
 abbrev pub is-text-vnd-graphviz : ℕ
-is-text-vnd-graphviz = 647
+is-text-vnd-graphviz = 652
 
 abbrev pub is-text-vnd-trolltech-linguist : ℕ
-is-text-vnd-trolltech-linguist = 648
+is-text-vnd-trolltech-linguist = 653
 
 abbrev pub is-text-vnd-wap-wml : ℕ
-is-text-vnd-wap-wml = 649
+is-text-vnd-wap-wml = 654
 
 abbrev pub is-text-vtt : ℕ
-is-text-vtt = 650
+is-text-vtt = 655
 
 abbrev pub is-text-wgsl : ℕ
-is-text-wgsl = 651
+is-text-wgsl = 656
 
 abbrev pub is-text-x-abap : ℕ
-is-text-x-abap = 652
+is-text-x-abap = 657
 
 abbrev pub is-text-x-adasrc : ℕ
-is-text-x-adasrc = 653
+is-text-x-adasrc = 658
 
 abbrev pub is-text-x-agda : ℕ
-is-text-x-agda = 654
+is-text-x-agda = 659
 
 abbrev pub is-text-x-aidl : ℕ
-is-text-x-aidl = 655
+is-text-x-aidl = 660
 
 abbrev pub is-text-x-ampl : ℕ
-is-text-x-ampl = 656
+is-text-x-ampl = 661
 
 abbrev pub is-text-x-antlr : ℕ
-is-text-x-antlr = 657
+is-text-x-antlr = 662
 
 abbrev pub is-text-x-apacheconf : ℕ
-is-text-x-apacheconf = 658
+is-text-x-apacheconf = 663
 
 abbrev pub is-text-x-apex : ℕ
-is-text-x-apex = 659
+is-text-x-apex = 664
 
 abbrev pub is-text-x-apl : ℕ
-is-text-x-apl = 660
+is-text-x-apl = 665
 
 abbrev pub is-text-x-applescript : ℕ
-is-text-x-applescript = 661
+is-text-x-applescript = 666
 
 abbrev pub is-text-x-asciidoc : ℕ
-is-text-x-asciidoc = 662
+is-text-x-asciidoc = 667
 
 abbrev pub is-text-x-asm : ℕ
-is-text-x-asm = 663
+is-text-x-asm = 668
 
 abbrev pub is-text-x-asn1 : ℕ
-is-text-x-asn1 = 664
+is-text-x-asn1 = 669
 
 abbrev pub is-text-x-astro : ℕ
-is-text-x-astro = 665
+is-text-x-astro = 670
 
 abbrev pub is-text-x-asymptote : ℕ
-is-text-x-asymptote = 666
+is-text-x-asymptote = 671
 
 abbrev pub is-text-x-autoconf : ℕ
-is-text-x-autoconf = 667
+is-text-x-autoconf = 672
 
 abbrev pub is-text-x-autohotkey : ℕ
-is-text-x-autohotkey = 668
+is-text-x-autohotkey = 673
 
 abbrev pub is-text-x-autoit : ℕ
-is-text-x-autoit = 669
+is-text-x-autoit = 674
 
 abbrev pub is-text-x-automake : ℕ
-is-text-x-automake = 670
+is-text-x-automake = 675
 
 abbrev pub is-text-x-awk : ℕ
-is-text-x-awk = 671
+is-text-x-awk = 676
 
 abbrev pub is-text-x-ballerina : ℕ
-is-text-x-ballerina = 672
+is-text-x-ballerina = 677
 
 abbrev pub is-text-x-basic : ℕ
-is-text-x-basic = 673
+is-text-x-basic = 678
 
 abbrev pub is-text-x-bats : ℕ
-is-text-x-bats = 674
+is-text-x-bats = 679
 
 abbrev pub is-text-x-bc : ℕ
-is-text-x-bc = 675
+is-text-x-bc = 680
 
 abbrev pub is-text-x-bed : ℕ
-is-text-x-bed = 676
+is-text-x-bed = 681
 
 abbrev pub is-text-x-bibtex : ℕ
-is-text-x-bibtex = 677
+is-text-x-bibtex = 682
 
 abbrev pub is-text-x-bicep : ℕ
-is-text-x-bicep = 678
+is-text-x-bicep = 683
 
 abbrev pub is-text-x-bitbake : ℕ
-is-text-x-bitbake = 679
+is-text-x-bitbake = 684
 
 abbrev pub is-text-x-blade : ℕ
-is-text-x-blade = 680
+is-text-x-blade = 685
 
 abbrev pub is-text-x-bluespec : ℕ
-is-text-x-bluespec = 681
+is-text-x-bluespec = 686
 
 abbrev pub is-text-x-boo : ℕ
-is-text-x-boo = 682
+is-text-x-boo = 687
 
 abbrev pub is-text-x-bpftrace : ℕ
-is-text-x-bpftrace = 683
+is-text-x-bpftrace = 688
 
 abbrev pub is-text-x-bugs : ℕ
-is-text-x-bugs = 684
+is-text-x-bugs = 689
 
 abbrev pub is-text-x-c-hdr : ℕ
-is-text-x-c-hdr = 685
+is-text-x-c-hdr = 690
 
 abbrev pub is-text-x-c-src : ℕ
-is-text-x-c-src = 686
+is-text-x-c-src = 691
 
 abbrev pub is-text-x-cabal : ℕ
-is-text-x-cabal = 687
+is-text-x-cabal = 692
 
 abbrev pub is-text-x-cairo : ℕ
-is-text-x-cairo = 688
+is-text-x-cairo = 693
 
 abbrev pub is-text-x-capnp : ℕ
-is-text-x-capnp = 689
+is-text-x-capnp = 694
 
 abbrev pub is-text-x-cfm : ℕ
-is-text-x-cfm = 690
+is-text-x-cfm = 695
 
 abbrev pub is-text-x-chapel : ℕ
-is-text-x-chapel = 691
+is-text-x-chapel = 696
 
 abbrev pub is-text-x-chdr : ℕ
-is-text-x-chdr = 692
+is-text-x-chdr = 697
 
 abbrev pub is-text-x-checksums : ℕ
-is-text-x-checksums = 693
+is-text-x-checksums = 698
 
 abbrev pub is-text-x-chuck : ℕ
-is-text-x-chuck = 694
+is-text-x-chuck = 699
 
 abbrev pub is-text-x-clojure : ℕ
-is-text-x-clojure = 695
+is-text-x-clojure = 700
 
 abbrev pub is-text-x-cmake : ℕ
-is-text-x-cmake = 696
+is-text-x-cmake = 701
 
 abbrev pub is-text-x-cobol : ℕ
-is-text-x-cobol = 697
+is-text-x-cobol = 702
 
 abbrev pub is-text-x-cocci : ℕ
-is-text-x-cocci = 698
+is-text-x-cocci = 703
 
 abbrev pub is-text-x-common-lisp : ℕ
-is-text-x-common-lisp = 699
+is-text-x-common-lisp = 704
 
 abbrev pub is-text-x-component : ℕ
-is-text-x-component = 700
+is-text-x-component = 705
 
 abbrev pub is-text-x-coq : ℕ
-is-text-x-coq = 701
+is-text-x-coq = 706
 
 abbrev pub is-text-x-cppconf : ℕ
-is-text-x-cppconf = 702
+is-text-x-cppconf = 707
 
 abbrev pub is-text-x-creole : ℕ
-is-text-x-creole = 703
+is-text-x-creole = 708
 
 abbrev pub is-text-x-cron : ℕ
-is-text-x-cron = 704
+is-text-x-cron = 709
 
 abbrev pub is-text-x-crystal : ℕ
-is-text-x-crystal = 705
+is-text-x-crystal = 710
 
 abbrev pub is-text-x-csharp : ℕ
-is-text-x-csharp = 706
+is-text-x-csharp = 711
 
 abbrev pub is-text-x-csound : ℕ
-is-text-x-csound = 707
+is-text-x-csound = 712
 
 abbrev pub is-text-x-csrc : ℕ
-is-text-x-csrc = 708
+is-text-x-csrc = 713
 
 abbrev pub is-text-x-cuda : ℕ
-is-text-x-cuda = 709
+is-text-x-cuda = 714
 
 abbrev pub is-text-x-cwl : ℕ
-is-text-x-cwl = 710
+is-text-x-cwl = 715
 
 abbrev pub is-text-x-cypher : ℕ
-is-text-x-cypher = 711
+is-text-x-cypher = 716
 
 abbrev pub is-text-x-cython : ℕ
-is-text-x-cython = 712
+is-text-x-cython = 717
 
 abbrev pub is-text-x-d2 : ℕ
-is-text-x-d2 = 713
+is-text-x-d2 = 718
 
 abbrev pub is-text-x-dart : ℕ
-is-text-x-dart = 714
+is-text-x-dart = 719
 
 abbrev pub is-text-x-debian-control : ℕ
-is-text-x-debian-control = 715
+is-text-x-debian-control = 720
 
 abbrev pub is-text-x-dhall : ℕ
-is-text-x-dhall = 716
+is-text-x-dhall = 721
 
 abbrev pub is-text-x-dimacs : ℕ
-is-text-x-dimacs = 717
+is-text-x-dimacs = 722
 
 abbrev pub is-text-x-dns-zone : ℕ
-is-text-x-dns-zone = 718
+is-text-x-dns-zone = 723
 
 abbrev pub is-text-x-dockerfile : ℕ
-is-text-x-dockerfile = 719
+is-text-x-dockerfile = 724
 
 abbrev pub is-text-x-dotenv : ℕ
-is-text-x-dotenv = 720
+is-text-x-dotenv = 725
 
 abbrev pub is-text-x-dsrc : ℕ
-is-text-x-dsrc = 721
+is-text-x-dsrc = 726
 
 abbrev pub is-text-x-dts : ℕ
-is-text-x-dts = 722
+is-text-x-dts = 727
 
 abbrev pub is-text-x-dune : ℕ
-is-text-x-dune = 723
+is-text-x-dune = 728
 
 abbrev pub is-text-x-ebnf : ℕ
-is-text-x-ebnf = 724
+is-text-x-ebnf = 729
 
 abbrev pub is-text-x-ebuild : ℕ
-is-text-x-ebuild = 725
+is-text-x-ebuild = 730
 
 abbrev pub is-text-x-editorconfig : ℕ
-is-text-x-editorconfig = 726
+is-text-x-editorconfig = 731
 
 abbrev pub is-text-x-eex : ℕ
-is-text-x-eex = 727
+is-text-x-eex = 732
 
 abbrev pub is-text-x-eiffel : ℕ
-is-text-x-eiffel = 728
+is-text-x-eiffel = 733
 
 abbrev pub is-text-x-ejs : ℕ
-is-text-x-ejs = 729
+is-text-x-ejs = 734
 
 abbrev pub is-text-x-elixir : ℕ
-is-text-x-elixir = 730
+is-text-x-elixir = 735
 
 abbrev pub is-text-x-elm : ℕ
-is-text-x-elm = 731
+is-text-x-elm = 736
 
 abbrev pub is-text-x-emacs-config : ℕ
-is-text-x-emacs-config = 732
+is-text-x-emacs-config = 737
 
 abbrev pub is-text-x-emacs-lisp : ℕ
-is-text-x-emacs-lisp = 733
+is-text-x-emacs-lisp = 738
 
 abbrev pub is-text-x-erlang : ℕ
-is-text-x-erlang = 734
+is-text-x-erlang = 739
 
 abbrev pub is-text-x-expect : ℕ
-is-text-x-expect = 735
+is-text-x-expect = 740
 
 abbrev pub is-text-x-factor : ℕ
-is-text-x-factor = 736
+is-text-x-factor = 741
 
 abbrev pub is-text-x-fasta : ℕ
-is-text-x-fasta = 737
+is-text-x-fasta = 742
 
 abbrev pub is-text-x-fastq : ℕ
-is-text-x-fastq = 738
+is-text-x-fastq = 743
 
 abbrev pub is-text-x-fennel : ℕ
-is-text-x-fennel = 739
+is-text-x-fennel = 744
 
 abbrev pub is-text-x-flatbuffers : ℕ
-is-text-x-flatbuffers = 740
+is-text-x-flatbuffers = 745
 
 abbrev pub is-text-x-fontforge-sfd : ℕ
-is-text-x-fontforge-sfd = 741
+is-text-x-fontforge-sfd = 746
 
 abbrev pub is-text-x-forth : ℕ
-is-text-x-forth = 742
+is-text-x-forth = 747
 
 abbrev pub is-text-x-fortran : ℕ
-is-text-x-fortran = 743
+is-text-x-fortran = 748
 
 abbrev pub is-text-x-fountain : ℕ
-is-text-x-fountain = 744
+is-text-x-fountain = 749
 
 abbrev pub is-text-x-freemarker : ℕ
-is-text-x-freemarker = 745
+is-text-x-freemarker = 750
 
 abbrev pub is-text-x-fsharp : ℕ
-is-text-x-fsharp = 746
+is-text-x-fsharp = 751
 
 abbrev pub is-text-x-gams : ℕ
-is-text-x-gams = 747
+is-text-x-gams = 752
 
 abbrev pub is-text-x-gap : ℕ
-is-text-x-gap = 748
+is-text-x-gap = 753
 
 abbrev pub is-text-x-gdb : ℕ
-is-text-x-gdb = 749
+is-text-x-gdb = 754
 
 abbrev pub is-text-x-genbank : ℕ
-is-text-x-genbank = 750
+is-text-x-genbank = 755
 
 abbrev pub is-text-x-genie : ℕ
-is-text-x-genie = 751
+is-text-x-genie = 756
 
 abbrev pub is-text-x-gerber : ℕ
-is-text-x-gerber = 752
+is-text-x-gerber = 757
 
 abbrev pub is-text-x-gettext-translation : ℕ
-is-text-x-gettext-translation = 753
+is-text-x-gettext-translation = 758
 
 abbrev pub is-text-x-gettext-translation-template : ℕ
-is-text-x-gettext-translation-template = 754
+is-text-x-gettext-translation-template = 759
 
 abbrev pub is-text-x-gff : ℕ
-is-text-x-gff = 755
+is-text-x-gff = 760
 
 abbrev pub is-text-x-gfortran-module : ℕ
-is-text-x-gfortran-module = 756
+is-text-x-gfortran-module = 761
 
 abbrev pub is-text-x-gherkin : ℕ
-is-text-x-gherkin = 757
+is-text-x-gherkin = 762
 
 abbrev pub is-text-x-gitattributes : ℕ
-is-text-x-gitattributes = 758
+is-text-x-gitattributes = 763
 
 abbrev pub is-text-x-gitconfig : ℕ
-is-text-x-gitconfig = 759
+is-text-x-gitconfig = 764
 
 abbrev pub is-text-x-gitignore : ℕ
-is-text-x-gitignore = 760
+is-text-x-gitignore = 765
 
 abbrev pub is-text-x-gleam : ℕ
-is-text-x-gleam = 761
+is-text-x-gleam = 766
 
 abbrev pub is-text-x-glsl : ℕ
-is-text-x-glsl = 762
+is-text-x-glsl = 767
 
 abbrev pub is-text-x-gn : ℕ
-is-text-x-gn = 763
+is-text-x-gn = 768
 
 abbrev pub is-text-x-go : ℕ
-is-text-x-go = 764
+is-text-x-go = 769
 
 abbrev pub is-text-x-gomod : ℕ
-is-text-x-gomod = 765
+is-text-x-gomod = 770
 
 abbrev pub is-text-x-gosum : ℕ
-is-text-x-gosum = 766
+is-text-x-gosum = 771
 
 abbrev pub is-text-x-gotemplate : ℕ
-is-text-x-gotemplate = 767
+is-text-x-gotemplate = 772
 
 abbrev pub is-text-x-gpr : ℕ
-is-text-x-gpr = 768
+is-text-x-gpr = 773
 
 abbrev pub is-text-x-gradle : ℕ
-is-text-x-gradle = 769
+is-text-x-gradle = 774
 
 abbrev pub is-text-x-groovy : ℕ
-is-text-x-groovy = 770
+is-text-x-groovy = 775
 
 abbrev pub is-text-x-haml : ℕ
-is-text-x-haml = 771
+is-text-x-haml = 776
 
 abbrev pub is-text-x-handlebars : ℕ
-is-text-x-handlebars = 772
+is-text-x-handlebars = 777
 
 abbrev pub is-text-x-haskell : ℕ
-is-text-x-haskell = 773
+is-text-x-haskell = 778
 
 abbrev pub is-text-x-haxe : ℕ
-is-text-x-haxe = 774
+is-text-x-haxe = 779
 
 abbrev pub is-text-x-hcl : ℕ
-is-text-x-hcl = 775
+is-text-x-hcl = 780
 
 abbrev pub is-text-x-hive : ℕ
-is-text-x-hive = 776
+is-text-x-hive = 781
 
 abbrev pub is-text-x-hlsl : ℕ
-is-text-x-hlsl = 777
+is-text-x-hlsl = 782
 
 abbrev pub is-text-x-http : ℕ
-is-text-x-http = 778
+is-text-x-http = 783
 
 abbrev pub is-text-x-hunspell-affix : ℕ
-is-text-x-hunspell-affix = 779
+is-text-x-hunspell-affix = 784
 
 abbrev pub is-text-x-hy : ℕ
-is-text-x-hy = 780
+is-text-x-hy = 785
 
 abbrev pub is-text-x-idl : ℕ
-is-text-x-idl = 781
+is-text-x-idl = 786
 
 abbrev pub is-text-x-idris : ℕ
-is-text-x-idris = 782
+is-text-x-idris = 787
 
 abbrev pub is-text-x-igor : ℕ
-is-text-x-igor = 783
+is-text-x-igor = 788
 
 abbrev pub is-text-x-imagej : ℕ
-is-text-x-imagej = 784
+is-text-x-imagej = 789
 
 abbrev pub is-text-x-ini : ℕ
-is-text-x-ini = 785
+is-text-x-ini = 790
 
 abbrev pub is-text-x-innosetup : ℕ
-is-text-x-innosetup = 786
+is-text-x-innosetup = 791
 
 abbrev pub is-text-x-io : ℕ
-is-text-x-io = 787
+is-text-x-io = 792
 
 abbrev pub is-text-x-ipxe : ℕ
-is-text-x-ipxe = 788
+is-text-x-ipxe = 793
 
 abbrev pub is-text-x-irclog : ℕ
-is-text-x-irclog = 789
+is-text-x-irclog = 794
 
 abbrev pub is-text-x-isabelle : ℕ
-is-text-x-isabelle = 790
+is-text-x-isabelle = 795
 
 abbrev pub is-text-x-janet : ℕ
-is-text-x-janet = 791
+is-text-x-janet = 796
 
 abbrev pub is-text-x-java : ℕ
-is-text-x-java = 792
+is-text-x-java = 797
 
 abbrev pub is-text-x-java-manifest : ℕ
-is-text-x-java-manifest = 793
+is-text-x-java-manifest = 798
 
 abbrev pub is-text-x-java-properties : ℕ
-is-text-x-java-properties = 794
+is-text-x-java-properties = 799
 
 abbrev pub is-text-x-jcl : ℕ
-is-text-x-jcl = 795
+is-text-x-jcl = 800
 
 abbrev pub is-text-x-jelly : ℕ
-is-text-x-jelly = 796
+is-text-x-jelly = 801
 
 abbrev pub is-text-x-jinja : ℕ
-is-text-x-jinja = 797
+is-text-x-jinja = 802
 
 abbrev pub is-text-x-jq : ℕ
-is-text-x-jq = 798
+is-text-x-jq = 803
 
 abbrev pub is-text-x-julia : ℕ
-is-text-x-julia = 799
+is-text-x-julia = 804
 
 abbrev pub is-text-x-just : ℕ
-is-text-x-just = 800
+is-text-x-just = 805
 
 abbrev pub is-text-x-kaitai-struct : ℕ
-is-text-x-kaitai-struct = 801
+is-text-x-kaitai-struct = 806
 
 abbrev pub is-text-x-kconfig : ℕ
-is-text-x-kconfig = 802
+is-text-x-kconfig = 807
 
 abbrev pub is-text-x-kickstart : ℕ
-is-text-x-kickstart = 803
+is-text-x-kickstart = 808
 
 abbrev pub is-text-x-kotlin : ℕ
-is-text-x-kotlin = 804
+is-text-x-kotlin = 809
 
 abbrev pub is-text-x-krl : ℕ
-is-text-x-krl = 805
+is-text-x-krl = 810
 
 abbrev pub is-text-x-kusto : ℕ
-is-text-x-kusto = 806
+is-text-x-kusto = 811
 
 abbrev pub is-text-x-latte : ℕ
-is-text-x-latte = 807
+is-text-x-latte = 812
 
 abbrev pub is-text-x-ld-script : ℕ
-is-text-x-ld-script = 808
+is-text-x-ld-script = 813
 
 abbrev pub is-text-x-ldif : ℕ
-is-text-x-ldif = 809
+is-text-x-ldif = 814
 
 abbrev pub is-text-x-lean : ℕ
-is-text-x-lean = 810
+is-text-x-lean = 815
 
 abbrev pub is-text-x-less : ℕ
-is-text-x-less = 811
+is-text-x-less = 816
 
 abbrev pub is-text-x-lex : ℕ
-is-text-x-lex = 812
+is-text-x-lex = 817
 
 abbrev pub is-text-x-lfe : ℕ
-is-text-x-lfe = 813
+is-text-x-lfe = 818
 
 abbrev pub is-text-x-lilypond : ℕ
-is-text-x-lilypond = 814
+is-text-x-lilypond = 819
 
 abbrev pub is-text-x-liquid : ℕ
-is-text-x-liquid = 815
+is-text-x-liquid = 820
 
 abbrev pub is-text-x-literate-haskell : ℕ
-is-text-x-literate-haskell = 816
+is-text-x-literate-haskell = 821
 
 abbrev pub is-text-x-livescript : ℕ
-is-text-x-livescript = 817
+is-text-x-livescript = 822
 
 abbrev pub is-text-x-llvm : ℕ
-is-text-x-llvm = 818
+is-text-x-llvm = 823
 
 abbrev pub is-text-x-logtalk : ℕ
-is-text-x-logtalk = 819
+is-text-x-logtalk = 824
 
 abbrev pub is-text-x-lsl : ℕ
-is-text-x-lsl = 820
+is-text-x-lsl = 825
 
 abbrev pub is-text-x-lua : ℕ
-is-text-x-lua = 821
+is-text-x-lua = 826
 
 abbrev pub is-text-x-makefile : ℕ
-is-text-x-makefile = 822
+is-text-x-makefile = 827
 
 abbrev pub is-text-x-mako : ℕ
-is-text-x-mako = 823
+is-text-x-mako = 828
 
 abbrev pub is-text-x-marko : ℕ
-is-text-x-marko = 824
+is-text-x-marko = 829
 
 abbrev pub is-text-x-matlab : ℕ
-is-text-x-matlab = 825
+is-text-x-matlab = 830
 
 abbrev pub is-text-x-maven-xml : ℕ
-is-text-x-maven-xml = 826
+is-text-x-maven-xml = 831
 
 abbrev pub is-text-x-maxima : ℕ
-is-text-x-maxima = 827
+is-text-x-maxima = 832
 
 abbrev pub is-text-x-mcfunction : ℕ
-is-text-x-mcfunction = 828
+is-text-x-mcfunction = 833
 
 abbrev pub is-text-x-mediawiki : ℕ
-is-text-x-mediawiki = 829
+is-text-x-mediawiki = 834
 
 abbrev pub is-text-x-mermaid : ℕ
-is-text-x-mermaid = 830
+is-text-x-mermaid = 835
 
 abbrev pub is-text-x-meson : ℕ
-is-text-x-meson = 831
+is-text-x-meson = 836
 
 abbrev pub is-text-x-metafont : ℕ
-is-text-x-metafont = 832
+is-text-x-metafont = 837
 
 abbrev pub is-text-x-metal : ℕ
-is-text-x-metal = 833
+is-text-x-metal = 838
 
 abbrev pub is-text-x-mib : ℕ
-is-text-x-mib = 834
+is-text-x-mib = 839
 
 abbrev pub is-text-x-mirc : ℕ
-is-text-x-mirc = 835
+is-text-x-mirc = 840
 
 abbrev pub is-text-x-mlir : ℕ
-is-text-x-mlir = 836
+is-text-x-mlir = 841
 
 abbrev pub is-text-x-modelica : ℕ
-is-text-x-modelica = 837
+is-text-x-modelica = 842
 
 abbrev pub is-text-x-modula : ℕ
-is-text-x-modula = 838
+is-text-x-modula = 843
 
 abbrev pub is-text-x-mojo : ℕ
-is-text-x-mojo = 839
+is-text-x-mojo = 844
 
 abbrev pub is-text-x-monkey : ℕ
-is-text-x-monkey = 840
+is-text-x-monkey = 845
 
 abbrev pub is-text-x-moonscript : ℕ
-is-text-x-moonscript = 841
+is-text-x-moonscript = 846
 
 abbrev pub is-text-x-move : ℕ
-is-text-x-move = 842
+is-text-x-move = 847
 
 abbrev pub is-text-x-ms-regedit : ℕ
-is-text-x-ms-regedit = 843
+is-text-x-ms-regedit = 848
 
 abbrev pub is-text-x-msdos-batch : ℕ
-is-text-x-msdos-batch = 844
+is-text-x-msdos-batch = 849
 
 abbrev pub is-text-x-newick : ℕ
-is-text-x-newick = 845
+is-text-x-newick = 850
 
 abbrev pub is-text-x-nextflow : ℕ
-is-text-x-nextflow = 846
+is-text-x-nextflow = 851
 
 abbrev pub is-text-x-nftables : ℕ
-is-text-x-nftables = 847
+is-text-x-nftables = 852
 
 abbrev pub is-text-x-nginx-conf : ℕ
-is-text-x-nginx-conf = 848
+is-text-x-nginx-conf = 853
 
 abbrev pub is-text-x-nim : ℕ
-is-text-x-nim = 849
+is-text-x-nim = 854
 
 abbrev pub is-text-x-ninja : ℕ
-is-text-x-ninja = 850
+is-text-x-ninja = 855
 
 abbrev pub is-text-x-nix : ℕ
-is-text-x-nix = 851
+is-text-x-nix = 856
 
 abbrev pub is-text-x-nsis : ℕ
-is-text-x-nsis = 852
+is-text-x-nsis = 857
 
 abbrev pub is-text-x-nushell : ℕ
-is-text-x-nushell = 853
+is-text-x-nushell = 858
 
 abbrev pub is-text-x-objc-src : ℕ
-is-text-x-objc-src = 854
+is-text-x-objc-src = 859
 
 abbrev pub is-text-x-objcsrc : ℕ
-is-text-x-objcsrc = 855
+is-text-x-objcsrc = 860
 
 abbrev pub is-text-x-ocaml : ℕ
-is-text-x-ocaml = 856
+is-text-x-ocaml = 861
 
 abbrev pub is-text-x-octave : ℕ
-is-text-x-octave = 857
+is-text-x-octave = 862
 
 abbrev pub is-text-x-odin : ℕ
-is-text-x-odin = 858
+is-text-x-odin = 863
 
 abbrev pub is-text-x-ooc : ℕ
-is-text-x-ooc = 859
+is-text-x-ooc = 864
 
 abbrev pub is-text-x-opencl-src : ℕ
-is-text-x-opencl-src = 860
+is-text-x-opencl-src = 865
 
 abbrev pub is-text-x-openscad : ℕ
-is-text-x-openscad = 861
+is-text-x-openscad = 866
 
 abbrev pub is-text-x-opentype-feature : ℕ
-is-text-x-opentype-feature = 862
+is-text-x-opentype-feature = 867
 
 abbrev pub is-text-x-opml-xml : ℕ
-is-text-x-opml-xml = 863
+is-text-x-opml-xml = 868
 
 abbrev pub is-text-x-oz : ℕ
-is-text-x-oz = 864
+is-text-x-oz = 869
 
 abbrev pub is-text-x-pascal : ℕ
-is-text-x-pascal = 865
+is-text-x-pascal = 870
 
 abbrev pub is-text-x-patch : ℕ
-is-text-x-patch = 866
+is-text-x-patch = 871
 
 abbrev pub is-text-x-pawn : ℕ
-is-text-x-pawn = 867
+is-text-x-pawn = 872
 
 abbrev pub is-text-x-perl : ℕ
-is-text-x-perl = 868
+is-text-x-perl = 873
 
 abbrev pub is-text-x-php : ℕ
-is-text-x-php = 869
+is-text-x-php = 874
 
 abbrev pub is-text-x-pic : ℕ
-is-text-x-pic = 870
+is-text-x-pic = 875
 
 abbrev pub is-text-x-pig : ℕ
-is-text-x-pig = 871
+is-text-x-pig = 876
 
 abbrev pub is-text-x-pike : ℕ
-is-text-x-pike = 872
+is-text-x-pike = 877
 
 abbrev pub is-text-x-pkg-config : ℕ
-is-text-x-pkg-config = 873
+is-text-x-pkg-config = 878
 
 abbrev pub is-text-x-plantuml : ℕ
-is-text-x-plantuml = 874
+is-text-x-plantuml = 879
 
 abbrev pub is-text-x-pli : ℕ
-is-text-x-pli = 875
+is-text-x-pli = 880
 
 abbrev pub is-text-x-pod : ℕ
-is-text-x-pod = 876
+is-text-x-pod = 881
 
 abbrev pub is-text-x-pony : ℕ
-is-text-x-pony = 877
+is-text-x-pony = 882
 
 abbrev pub is-text-x-postcss : ℕ
-is-text-x-postcss = 878
+is-text-x-postcss = 883
 
 abbrev pub is-text-x-praat : ℕ
-is-text-x-praat = 879
+is-text-x-praat = 884
 
 abbrev pub is-text-x-preseed : ℕ
-is-text-x-preseed = 880
+is-text-x-preseed = 885
 
 abbrev pub is-text-x-prisma : ℕ
-is-text-x-prisma = 881
+is-text-x-prisma = 886
 
 abbrev pub is-text-x-procfile : ℕ
-is-text-x-procfile = 882
+is-text-x-procfile = 887
 
 abbrev pub is-text-x-prolog : ℕ
-is-text-x-prolog = 883
+is-text-x-prolog = 888
 
 abbrev pub is-text-x-protobuf : ℕ
-is-text-x-protobuf = 884
+is-text-x-protobuf = 889
 
 abbrev pub is-text-x-psv : ℕ
-is-text-x-psv = 885
+is-text-x-psv = 890
 
 abbrev pub is-text-x-pth : ℕ
-is-text-x-pth = 886
+is-text-x-pth = 891
 
 abbrev pub is-text-x-pug : ℕ
-is-text-x-pug = 887
+is-text-x-pug = 892
 
 abbrev pub is-text-x-puppet : ℕ
-is-text-x-puppet = 888
+is-text-x-puppet = 893
 
 abbrev pub is-text-x-purescript : ℕ
-is-text-x-purescript = 889
+is-text-x-purescript = 894
 
 abbrev pub is-text-x-python-as-known : ℕ
-is-text-x-python-as-known = 890
+is-text-x-python-as-known = 895
 
 abbrev pub is-text-x-python-as-row-py : ℕ
-is-text-x-python-as-row-py = 891
+is-text-x-python-as-row-py = 896
 
 abbrev pub is-text-x-qmake : ℕ
-is-text-x-qmake = 892
+is-text-x-qmake = 897
 
 abbrev pub is-text-x-qml : ℕ
-is-text-x-qml = 893
+is-text-x-qml = 898
 
 abbrev pub is-text-x-r-doc : ℕ
-is-text-x-r-doc = 894
+is-text-x-r-doc = 899
 
 abbrev pub is-text-x-racket : ℕ
-is-text-x-racket = 895
+is-text-x-racket = 900
 
 abbrev pub is-text-x-ragel : ℕ
-is-text-x-ragel = 896
+is-text-x-ragel = 901
 
 abbrev pub is-text-x-raku : ℕ
-is-text-x-raku = 897
+is-text-x-raku = 902
 
 abbrev pub is-text-x-razor : ℕ
-is-text-x-razor = 898
+is-text-x-razor = 903
 
 abbrev pub is-text-x-rdoc : ℕ
-is-text-x-rdoc = 899
+is-text-x-rdoc = 904
 
 abbrev pub is-text-x-readline : ℕ
-is-text-x-readline = 900
+is-text-x-readline = 905
 
 abbrev pub is-text-x-reason : ℕ
-is-text-x-reason = 901
+is-text-x-reason = 906
 
 abbrev pub is-text-x-rebol : ℕ
-is-text-x-rebol = 902
+is-text-x-rebol = 907
 
 abbrev pub is-text-x-red : ℕ
-is-text-x-red = 903
+is-text-x-red = 908
 
 abbrev pub is-text-x-rego : ℕ
-is-text-x-rego = 904
+is-text-x-rego = 909
 
 abbrev pub is-text-x-reject : ℕ
-is-text-x-reject = 905
+is-text-x-reject = 910
 
 abbrev pub is-text-x-rexx : ℕ
-is-text-x-rexx = 906
+is-text-x-rexx = 911
 
 abbrev pub is-text-x-ring : ℕ
-is-text-x-ring = 907
+is-text-x-ring = 912
 
 abbrev pub is-text-x-rmarkdown : ℕ
-is-text-x-rmarkdown = 908
+is-text-x-rmarkdown = 913
 
 abbrev pub is-text-x-robotframework : ℕ
-is-text-x-robotframework = 909
+is-text-x-robotframework = 914
 
 abbrev pub is-text-x-roc : ℕ
-is-text-x-roc = 910
+is-text-x-roc = 915
 
 abbrev pub is-text-x-rpgle : ℕ
-is-text-x-rpgle = 911
+is-text-x-rpgle = 916
 
 abbrev pub is-text-x-rpm-spec : ℕ
-is-text-x-rpm-spec = 912
+is-text-x-rpm-spec = 917
 
 abbrev pub is-text-x-rsrc : ℕ
-is-text-x-rsrc = 913
+is-text-x-rsrc = 918
 
 abbrev pub is-text-x-rst : ℕ
-is-text-x-rst = 914
+is-text-x-rst = 919
 
 abbrev pub is-text-x-ruby : ℕ
-is-text-x-ruby = 915
+is-text-x-ruby = 920
 
 abbrev pub is-text-x-sagemath : ℕ
-is-text-x-sagemath = 916
+is-text-x-sagemath = 921
 
 abbrev pub is-text-x-sam : ℕ
-is-text-x-sam = 917
+is-text-x-sam = 922
 
 abbrev pub is-text-x-sas : ℕ
-is-text-x-sas = 918
+is-text-x-sas = 923
 
 abbrev pub is-text-x-sass : ℕ
-is-text-x-sass = 919
+is-text-x-sass = 924
 
 abbrev pub is-text-x-scala : ℕ
-is-text-x-scala = 920
+is-text-x-scala = 925
 
 abbrev pub is-text-x-scheme : ℕ
-is-text-x-scheme = 921
+is-text-x-scheme = 926
 
 abbrev pub is-text-x-scilab : ℕ
-is-text-x-scilab = 922
+is-text-x-scilab = 927
 
 abbrev pub is-text-x-scons : ℕ
-is-text-x-scons = 923
+is-text-x-scons = 928
 
 abbrev pub is-text-x-scss : ℕ
-is-text-x-scss = 924
+is-text-x-scss = 929
 
 abbrev pub is-text-x-sdc : ℕ
-is-text-x-sdc = 925
+is-text-x-sdc = 930
 
 abbrev pub is-text-x-sed : ℕ
-is-text-x-sed = 926
+is-text-x-sed = 931
 
 abbrev pub is-text-x-selinux : ℕ
-is-text-x-selinux = 927
+is-text-x-selinux = 932
 
 abbrev pub is-text-x-setext : ℕ
-is-text-x-setext = 928
+is-text-x-setext = 933
 
 abbrev pub is-text-x-shell-config : ℕ
-is-text-x-shell-config = 929
+is-text-x-shell-config = 934
 
 abbrev pub is-text-x-shellscript : ℕ
-is-text-x-shellscript = 930
+is-text-x-shellscript = 935
 
 abbrev pub is-text-x-sieve : ℕ
-is-text-x-sieve = 931
+is-text-x-sieve = 936
 
 abbrev pub is-text-x-slim : ℕ
-is-text-x-slim = 932
+is-text-x-slim = 937
 
 abbrev pub is-text-x-slint : ℕ
-is-text-x-slint = 933
+is-text-x-slint = 938
 
 abbrev pub is-text-x-sln : ℕ
-is-text-x-sln = 934
+is-text-x-sln = 939
 
 abbrev pub is-text-x-smali : ℕ
-is-text-x-smali = 935
+is-text-x-smali = 940
 
 abbrev pub is-text-x-smarty : ℕ
-is-text-x-smarty = 936
+is-text-x-smarty = 941
 
 abbrev pub is-text-x-sml : ℕ
-is-text-x-sml = 937
+is-text-x-sml = 942
 
 abbrev pub is-text-x-smt : ℕ
-is-text-x-smt = 938
+is-text-x-smt = 943
 
 abbrev pub is-text-x-snakemake : ℕ
-is-text-x-snakemake = 939
+is-text-x-snakemake = 944
 
 abbrev pub is-text-x-solidity : ℕ
-is-text-x-solidity = 940
+is-text-x-solidity = 945
 
 abbrev pub is-text-x-sourcepawn : ℕ
-is-text-x-sourcepawn = 941
+is-text-x-sourcepawn = 946
 
 abbrev pub is-text-x-soy : ℕ
-is-text-x-soy = 942
+is-text-x-soy = 947
 
 abbrev pub is-text-x-spice : ℕ
-is-text-x-spice = 943
+is-text-x-spice = 948
 
 abbrev pub is-text-x-spin : ℕ
-is-text-x-spin = 944
+is-text-x-spin = 949
 
 abbrev pub is-text-x-squirrel : ℕ
-is-text-x-squirrel = 945
+is-text-x-squirrel = 950
 
 abbrev pub is-text-x-ssa : ℕ
-is-text-x-ssa = 946
+is-text-x-ssa = 951
 
 abbrev pub is-text-x-stan : ℕ
-is-text-x-stan = 947
+is-text-x-stan = 952
 
 abbrev pub is-text-x-starlark : ℕ
-is-text-x-starlark = 948
+is-text-x-starlark = 953
 
 abbrev pub is-text-x-stata : ℕ
-is-text-x-stata = 949
+is-text-x-stata = 954
 
 abbrev pub is-text-x-strings : ℕ
-is-text-x-strings = 950
+is-text-x-strings = 955
 
 abbrev pub is-text-x-stylus : ℕ
-is-text-x-stylus = 951
+is-text-x-stylus = 956
 
 abbrev pub is-text-x-subviewer : ℕ
-is-text-x-subviewer = 952
+is-text-x-subviewer = 957
 
 abbrev pub is-text-x-supercollider : ℕ
-is-text-x-supercollider = 953
+is-text-x-supercollider = 958
 
 abbrev pub is-text-x-svelte : ℕ
-is-text-x-svelte = 954
+is-text-x-svelte = 959
 
 abbrev pub is-text-x-svhdr : ℕ
-is-text-x-svhdr = 955
+is-text-x-svhdr = 960
 
 abbrev pub is-text-x-svsrc : ℕ
-is-text-x-svsrc = 956
+is-text-x-svsrc = 961
 
 abbrev pub is-text-x-swift : ℕ
-is-text-x-swift = 957
+is-text-x-swift = 962
 
 abbrev pub is-text-x-systemd-unit : ℕ
-is-text-x-systemd-unit = 958
+is-text-x-systemd-unit = 963
 
 abbrev pub is-text-x-tablegen : ℕ
-is-text-x-tablegen = 959
+is-text-x-tablegen = 964
 
 abbrev pub is-text-x-tcl : ℕ
-is-text-x-tcl = 960
+is-text-x-tcl = 965
 
 abbrev pub is-text-x-template-toolkit : ℕ
-is-text-x-template-toolkit = 961
+is-text-x-template-toolkit = 966
 
 abbrev pub is-text-x-tex : ℕ
-is-text-x-tex = 962
+is-text-x-tex = 967
 
 abbrev pub is-text-x-texinfo : ℕ
-is-text-x-texinfo = 963
+is-text-x-texinfo = 968
 
 abbrev pub is-text-x-textile : ℕ
-is-text-x-textile = 964
+is-text-x-textile = 969
 
 abbrev pub is-text-x-textproto : ℕ
-is-text-x-textproto = 965
+is-text-x-textproto = 970
 
 abbrev pub is-text-x-thrift : ℕ
-is-text-x-thrift = 966
+is-text-x-thrift = 971
 
 abbrev pub is-text-x-tla : ℕ
-is-text-x-tla = 967
+is-text-x-tla = 972
 
 abbrev pub is-text-x-tmux-conf : ℕ
-is-text-x-tmux-conf = 968
+is-text-x-tmux-conf = 973
 
 abbrev pub is-text-x-tsx : ℕ
-is-text-x-tsx = 969
+is-text-x-tsx = 974
 
 abbrev pub is-text-x-twig : ℕ
-is-text-x-twig = 970
+is-text-x-twig = 975
 
 abbrev pub is-text-x-txt2tags : ℕ
-is-text-x-txt2tags = 971
+is-text-x-txt2tags = 976
 
 abbrev pub is-text-x-typescript : ℕ
-is-text-x-typescript = 972
+is-text-x-typescript = 977
 
 abbrev pub is-text-x-typst : ℕ
-is-text-x-typst = 973
+is-text-x-typst = 978
 
 abbrev pub is-text-x-uc : ℕ
-is-text-x-uc = 974
+is-text-x-uc = 979
 
 abbrev pub is-text-x-udev-rules : ℕ
-is-text-x-udev-rules = 975
+is-text-x-udev-rules = 980
 
 abbrev pub is-text-x-unity : ℕ
-is-text-x-unity = 976
+is-text-x-unity = 981
 
 abbrev pub is-text-x-uri : ℕ
-is-text-x-uri = 977
+is-text-x-uri = 982
 
 abbrev pub is-text-x-vagrantfile : ℕ
-is-text-x-vagrantfile = 978
+is-text-x-vagrantfile = 983
 
 abbrev pub is-text-x-vala : ℕ
-is-text-x-vala = 979
+is-text-x-vala = 984
 
 abbrev pub is-text-x-vb : ℕ
-is-text-x-vb = 980
+is-text-x-vb = 985
 
 abbrev pub is-text-x-vcl : ℕ
-is-text-x-vcl = 981
+is-text-x-vcl = 986
 
 abbrev pub is-text-x-vdf : ℕ
-is-text-x-vdf = 982
+is-text-x-vdf = 987
 
 abbrev pub is-text-x-verilog : ℕ
-is-text-x-verilog = 983
+is-text-x-verilog = 988
 
 abbrev pub is-text-x-vhdl : ℕ
-is-text-x-vhdl = 984
+is-text-x-vhdl = 989
 
 abbrev pub is-text-x-vim : ℕ
-is-text-x-vim = 985
+is-text-x-vim = 990
 
 abbrev pub is-text-x-vue : ℕ
-is-text-x-vue = 986
+is-text-x-vue = 991
 
 abbrev pub is-text-x-vyper : ℕ
-is-text-x-vyper = 987
+is-text-x-vyper = 992
 
 abbrev pub is-text-x-wat : ℕ
-is-text-x-wat = 988
+is-text-x-wat = 993
 
 abbrev pub is-text-x-wdl : ℕ
-is-text-x-wdl = 989
+is-text-x-wdl = 994
 
 abbrev pub is-text-x-wkt : ℕ
-is-text-x-wkt = 990
+is-text-x-wkt = 995
 
 abbrev pub is-text-x-wren : ℕ
-is-text-x-wren = 991
+is-text-x-wren = 996
 
 abbrev pub is-text-x-xcu-rng : ℕ
-is-text-x-xcu-rng = 992
+is-text-x-xcu-rng = 997
 
 abbrev pub is-text-x-xmi : ℕ
-is-text-x-xmi = 993
+is-text-x-xmi = 998
 
 abbrev pub is-text-x-xonsh : ℕ
-is-text-x-xonsh = 994
+is-text-x-xonsh = 999
 
 abbrev pub is-text-x-xresources : ℕ
-is-text-x-xresources = 995
+is-text-x-xresources = 1000
 
 abbrev pub is-text-x-yacc : ℕ
-is-text-x-yacc = 996
+is-text-x-yacc = 1001
 
 abbrev pub is-text-x-yang : ℕ
-is-text-x-yang = 997
+is-text-x-yang = 1002
 
 abbrev pub is-text-x-zig : ℕ
-is-text-x-zig = 998
+is-text-x-zig = 1003
 
 abbrev pub is-text-x-zimpl : ℕ
-is-text-x-zimpl = 999
+is-text-x-zimpl = 1004
 
 abbrev pub is-text-x-gcode : ℕ
-is-text-x-gcode = 1000
+is-text-x-gcode = 1005
 
 abbrev pub is-text-xml : ℕ
-is-text-xml = 1001
+is-text-xml = 1006
 
 abbrev pub is-video-3gpp : ℕ
-is-video-3gpp = 1002
+is-video-3gpp = 1007
 
 abbrev pub is-video-3gpp2 : ℕ
-is-video-3gpp2 = 1003
+is-video-3gpp2 = 1008
 
 abbrev pub is-video-dv : ℕ
-is-video-dv = 1004
+is-video-dv = 1009
 
 abbrev pub is-video-h264 : ℕ
-is-video-h264 = 1005
+is-video-h264 = 1010
 
 abbrev pub is-video-h265 : ℕ
-is-video-h265 = 1006
+is-video-h265 = 1011
 
 abbrev pub is-video-mj2 : ℕ
-is-video-mj2 = 1007
+is-video-mj2 = 1012
 
 abbrev pub is-video-mp2t : ℕ
-is-video-mp2t = 1008
+is-video-mp2t = 1013
 
 abbrev pub is-video-mp4 : ℕ
-is-video-mp4 = 1009
+is-video-mp4 = 1014
 
 abbrev pub is-video-mpeg : ℕ
-is-video-mpeg = 1010
+is-video-mpeg = 1015
 
 abbrev pub is-video-ogg : ℕ
-is-video-ogg = 1011
+is-video-ogg = 1016
 
 abbrev pub is-video-quicktime : ℕ
-is-video-quicktime = 1012
+is-video-quicktime = 1017
 
 abbrev pub is-video-vnd-radgamettools-smacker : ℕ
-is-video-vnd-radgamettools-smacker = 1013
+is-video-vnd-radgamettools-smacker = 1018
 
 abbrev pub is-video-webm : ℕ
-is-video-webm = 1014
+is-video-webm = 1019
+
+abbrev pub is-video-x-anim : ℕ
+is-video-x-anim = 1020
 
 abbrev pub is-video-x-f4v : ℕ
-is-video-x-f4v = 1015
+is-video-x-f4v = 1021
 
 abbrev pub is-video-x-flic : ℕ
-is-video-x-flic = 1016
+is-video-x-flic = 1022
 
 abbrev pub is-video-x-flv : ℕ
-is-video-x-flv = 1017
+is-video-x-flv = 1023
 
 abbrev pub is-video-x-ivf : ℕ
-is-video-x-ivf = 1018
+is-video-x-ivf = 1024
 
 abbrev pub is-video-x-m4v : ℕ
-is-video-x-m4v = 1019
+is-video-x-m4v = 1025
 
 abbrev pub is-video-x-matroska : ℕ
-is-video-x-matroska = 1020
+is-video-x-matroska = 1026
 
 abbrev pub is-video-x-matroska-3d : ℕ
-is-video-x-matroska-3d = 1021
+is-video-x-matroska-3d = 1027
 
 abbrev pub is-video-x-mng : ℕ
-is-video-x-mng = 1022
+is-video-x-mng = 1028
 
 abbrev pub is-video-x-ms-wmv : ℕ
-is-video-x-ms-wmv = 1023
+is-video-x-ms-wmv = 1029
 
 abbrev pub is-video-x-msvideo : ℕ
-is-video-x-msvideo = 1024
+is-video-x-msvideo = 1030
 
 abbrev pub is-video-x-nsv : ℕ
-is-video-x-nsv = 1025
+is-video-x-nsv = 1031
+
+abbrev pub is-video-x-nut : ℕ
+is-video-x-nut = 1032
 
 abbrev pub is-video-x-ogm-ogg : ℕ
-is-video-x-ogm-ogg = 1026
+is-video-x-ogm-ogg = 1033
 
-abbrev pub is-video-x-y4m : ℕ
-is-video-x-y4m = 1027
+abbrev pub is-video-x-yuv4mpeg : ℕ
+is-video-x-yuv4mpeg = 1034
 
 unfoldable pub types_0 : List NamedType
 types_0 =
@@ -3192,7 +3213,7 @@ types_0 =
     ∷ named (codes "application/vnd.coffeescript") known
     ∷ named (codes "application/vnd.comicbook+zip") known
     ∷ named (codes "application/vnd.comicbook-rar") known
-    ∷ named (codes "application/vnd.corel-draw") known
+    ∷ named (codes "application/vnd.corel-draw") (row (codes "cdr"))
     ∷ named (codes "application/vnd.dbf") (row (codes "dbf"))
     ∷ named (codes "application/vnd.debian.binary-package") (row (codes "deb"))
     ∷ named (codes "application/vnd.etsi.asic-e+zip") known
@@ -3203,7 +3224,7 @@ types_0 =
     ∷ named (codes "application/vnd.google-earth.kmz") (row (codes "kmz"))
     ∷ named (codes "application/vnd.hp-pcl") known
     ∷ named (codes "application/vnd.iccprofile") (row (codes "icc"))
-    ∷ named (codes "application/vnd.las") known
+    ∷ named (codes "application/vnd.laszip") (row (codes "laz"))
     ∷ named (codes "application/vnd.lotus-1-2-3") known
     ∷ named (codes "application/vnd.lotus-wordpro") (row (codes "lwp"))
     ∷ named (codes "application/vnd.mbtiles") own
@@ -3337,12 +3358,12 @@ types_0 =
     ∷ named (codes "application/x-device-tree-blob") own
     ∷ named (codes "application/x-dia-diagram") known
     ∷ named (codes "application/x-dictzip") own
+    ∷ named (codes "application/x-director") (row (codes "dcr"))
     ∷ named (codes "application/x-docbook+xml") known
     ∷ named (codes "application/x-doom-wad") (row (codes "wad"))
     ∷ named (codes "application/x-drawio+xml") own
     ∷ named (codes "application/x-dtbncx+xml") own
     ∷ named (codes "application/x-dvi") (row (codes "dvi"))
-    ∷ named (codes "application/x-e57") own
     ∷ named (codes "application/x-eclipse+xml") own
     ∷ []
 
@@ -3357,7 +3378,7 @@ types_1 =
     ∷ named (codes "application/x-executable") (row (codes "elf"))
     ∷ named (codes "application/x-executable") (row (codes "obj"))
     ∷ named (codes "application/x-ext-filesystem") (row (codes "ext2"))
-    ∷ named (codes "application/x-fbx") own
+    ∷ named (codes "application/x-fbx") (row (codes "fbx"))
     ∷ named (codes "application/x-fictionbook+xml") (row (codes "fb2"))
     ∷ named (codes "application/x-fishscript") (row (codes "fish"))
     ∷ named (codes "application/x-flash-authoring") own
@@ -3537,6 +3558,7 @@ types_1 =
     ∷ named (codes "application/x-unix-archive") (row (codes "ar"))
     ∷ named (codes "application/x-uproject+json") own
     ∷ named (codes "application/x-urdf+xml") own
+    ∷ named (codes "application/x-usdc") (row (codes "usdc"))
     ∷ named (codes "application/x-usdz") own
     ∷ named (codes "application/x-vdi-disk") (row (codes "vdi"))
     ∷ named (codes "application/x-vhd-disk") (row (codes "vhd"))
@@ -3575,7 +3597,7 @@ types_1 =
     ∷ named (codes "application/zip") (row (codes "zip"))
     ∷ named (codes "application/zstd") (row (codes "zst"))
     ∷ named (codes "audio/aac") (row (codes "aac"))
-    ∷ named (codes "audio/ac3") known
+    ∷ named (codes "audio/ac3") (row (codes "ac3"))
     ∷ named (codes "audio/amr") (row (codes "amr"))
     ∷ named (codes "audio/basic") (row (codes "au"))
     ∷ named (codes "audio/eac3") known
@@ -3595,27 +3617,31 @@ types_1 =
     ∷ named (codes "audio/x-aifc") (row (codes "aifc"))
     ∷ named (codes "audio/x-aiff") (row (codes "aiff"))
     ∷ named (codes "audio/x-ape") (row (codes "ape"))
-    ∷ named (codes "audio/x-caf") own
+    ∷ named (codes "audio/x-caf") (row (codes "caf"))
     ∷ named (codes "audio/x-dff") (row (codes "dff"))
     ∷ named (codes "audio/x-dsf") (row (codes "dsf"))
     ∷ named (codes "audio/x-flac") (row (codes "flac"))
+    ∷ named (codes "audio/x-gbs") (row (codes "gbs"))
     ∷ named (codes "audio/x-gsm") known
     ∷ named (codes "audio/x-it") (row (codes "it"))
     ∷ named (codes "audio/x-m4b") (row (codes "m4b"))
-    ∷ named (codes "audio/x-matroska") known
-    ∷ named (codes "audio/x-mo3") (row (codes "mo3"))
     ∷ []
 
 unfoldable pub types_2 : List NamedType
 types_2 =
-    named (codes "audio/x-mod") known
+    named (codes "audio/x-matroska") known
+    ∷ named (codes "audio/x-mo3") (row (codes "mo3"))
+    ∷ named (codes "audio/x-mod") known
     ∷ named (codes "audio/x-mpegurl") known
     ∷ named (codes "audio/x-ms-wma") known
     ∷ named (codes "audio/x-musepack") (row (codes "mpc"))
     ∷ named (codes "audio/x-s3m") known
     ∷ named (codes "audio/x-scpls") (row (codes "pls"))
+    ∷ named (codes "audio/x-sfbk") (row (codes "sf2"))
+    ∷ named (codes "audio/x-spc") (row (codes "spc"))
     ∷ named (codes "audio/x-speex+ogg") (row (codes "spx"))
     ∷ named (codes "audio/x-tta") (row (codes "tta"))
+    ∷ named (codes "audio/x-ult") (row (codes "ult"))
     ∷ named (codes "audio/x-voc") (row (codes "voc"))
     ∷ named (codes "audio/x-wav") (row (codes "wav"))
     ∷ named (codes "audio/x-wavpack") (row (codes "wv"))
@@ -3632,7 +3658,7 @@ types_2 =
     ∷ named (codes "image/avif") (row (codes "avif"))
     ∷ named (codes "image/bmp") (row (codes "bmp"))
     ∷ named (codes "image/bpg") (row (codes "bpg"))
-    ∷ named (codes "image/emf") known
+    ∷ named (codes "image/emf") (row (codes "emf"))
     ∷ named (codes "image/fits") (row (codes "fits"))
     ∷ named (codes "image/geotiff") own
     ∷ named (codes "image/gif") (row (codes "gif"))
@@ -3648,7 +3674,6 @@ types_2 =
     ∷ named (codes "image/ktx2") (row (codes "ktx2"))
     ∷ named (codes "image/openraster") (row (codes "ora"))
     ∷ named (codes "image/png") (row (codes "png"))
-    ∷ named (codes "image/qoi") own
     ∷ named (codes "image/svg+xml") (row (codes "svg"))
     ∷ named (codes "image/svg+xml-compressed") known
     ∷ named (codes "image/tiff") (row (codes "tif"))
@@ -3658,17 +3683,17 @@ types_2 =
     ∷ named (codes "image/vnd.dxf") known
     ∷ named (codes "image/vnd.fpx") (row (codes "fpx"))
     ∷ named (codes "image/vnd.microsoft.icon") (row (codes "ico"))
+    ∷ named (codes "image/vnd.ms-dds") (row (codes "dds"))
     ∷ named (codes "image/vnd.ms-photo") (row (codes "jxr"))
     ∷ named (codes "image/vnd.radiance") (row (codes "hdr"))
     ∷ named (codes "image/vnd.zbrush.pcx") (row (codes "pcx"))
     ∷ named (codes "image/webp") (row (codes "webp"))
-    ∷ named (codes "image/wmf") known
+    ∷ named (codes "image/wmf") (row (codes "wmf"))
     ∷ named (codes "image/x-3ds") (row (codes "3ds"))
     ∷ named (codes "image/x-adobe-dng") (row (codes "dng"))
     ∷ named (codes "image/x-canon-cr2") (row (codes "cr2"))
     ∷ named (codes "image/x-canon-cr3") (row (codes "cr3"))
     ∷ named (codes "image/x-cmu-raster") known
-    ∷ named (codes "image/x-dds") known
     ∷ named (codes "image/x-eps") (row (codes "eps"))
     ∷ named (codes "image/x-epson-erf") known
     ∷ named (codes "image/x-exr") (row (codes "exr"))
@@ -3685,7 +3710,7 @@ types_2 =
     ∷ named (codes "image/x-minolta-mrw") known
     ∷ named (codes "image/x-nikon-nef") known
     ∷ named (codes "image/x-nikon-nrw") known
-    ∷ named (codes "image/x-olympus-orf") known
+    ∷ named (codes "image/x-olympus-orf") (row (codes "orf"))
     ∷ named (codes "image/x-panasonic-rw2") (row (codes "rw2"))
     ∷ named (codes "image/x-pentax-pef") known
     ∷ named (codes "image/x-pict") known
@@ -3693,6 +3718,7 @@ types_2 =
     ∷ named (codes "image/x-portable-bitmap") known
     ∷ named (codes "image/x-portable-graymap") known
     ∷ named (codes "image/x-portable-pixmap") known
+    ∷ named (codes "image/x-qoi") (row (codes "qoi"))
     ∷ named (codes "image/x-samsung-srw") own
     ∷ named (codes "image/x-sgi") (row (codes "sgi"))
     ∷ named (codes "image/x-sigma-x3f") (row (codes "x3f"))
@@ -3708,6 +3734,7 @@ types_2 =
     ∷ named (codes "image/x-xwindowdump") (row (codes "xwd"))
     ∷ named (codes "message/rfc822") known
     ∷ named (codes "model/3mf") (row (codes "3mf"))
+    ∷ named (codes "model/e57") (row (codes "e57"))
     ∷ named (codes "model/gltf+json") known
     ∷ named (codes "model/gltf-binary") (row (codes "glb"))
     ∷ named (codes "model/iges") known
@@ -3716,7 +3743,6 @@ types_2 =
     ∷ named (codes "model/step") (row (codes "model/step"))
     ∷ named (codes "model/stl") (row (codes "stl"))
     ∷ named (codes "model/vnd.collada+xml") known
-    ∷ named (codes "model/vnd.usdc") own
     ∷ named (codes "model/vrml") (row (codes "wrl"))
     ∷ named (codes "model/x3d+xml") known
     ∷ named (codes "model/x3d-vrml") known
@@ -3859,16 +3885,16 @@ types_2 =
     ∷ named (codes "text/x-gitignore") own
     ∷ named (codes "text/x-gleam") own
     ∷ named (codes "text/x-glsl") own
-    ∷ named (codes "text/x-gn") own
-    ∷ named (codes "text/x-go") known
-    ∷ named (codes "text/x-gomod") own
-    ∷ named (codes "text/x-gosum") own
-    ∷ named (codes "text/x-gotemplate") own
     ∷ []
 
 unfoldable pub types_3 : List NamedType
 types_3 =
-    named (codes "text/x-gpr") own
+    named (codes "text/x-gn") own
+    ∷ named (codes "text/x-go") known
+    ∷ named (codes "text/x-gomod") own
+    ∷ named (codes "text/x-gosum") own
+    ∷ named (codes "text/x-gotemplate") own
+    ∷ named (codes "text/x-gpr") own
     ∷ named (codes "text/x-gradle") known
     ∷ named (codes "text/x-groovy") (row (codes "groovy"))
     ∷ named (codes "text/x-haml") known
@@ -4113,25 +4139,27 @@ types_3 =
     ∷ named (codes "video/mpeg") (row (codes "mpg"))
     ∷ named (codes "video/ogg") (row (codes "ogv"))
     ∷ named (codes "video/quicktime") (row (codes "mov"))
-    ∷ named (codes "video/vnd.radgamettools.smacker") known
+    ∷ named (codes "video/vnd.radgamettools.smacker") (row (codes "smk"))
     ∷ named (codes "video/webm") (row (codes "webm"))
+    ∷ named (codes "video/x-anim") (row (codes "anim"))
     ∷ named (codes "video/x-f4v") (row (codes "f4v"))
     ∷ named (codes "video/x-flic") known
     ∷ named (codes "video/x-flv") (row (codes "flv"))
-    ∷ named (codes "video/x-ivf") own
+    ∷ []
+
+unfoldable pub types_4 : List NamedType
+types_4 =
+    named (codes "video/x-ivf") (row (codes "ivf"))
     ∷ named (codes "video/x-m4v") (row (codes "m4v"))
     ∷ named (codes "video/x-matroska") (row (codes "mkv"))
     ∷ named (codes "video/x-matroska-3d") known
     ∷ named (codes "video/x-mng") (row (codes "mng"))
     ∷ named (codes "video/x-ms-wmv") (row (codes "wmv"))
-    ∷ []
-
-unfoldable pub types_4 : List NamedType
-types_4 =
-    named (codes "video/x-msvideo") (row (codes "avi"))
+    ∷ named (codes "video/x-msvideo") (row (codes "avi"))
     ∷ named (codes "video/x-nsv") known
+    ∷ named (codes "video/x-nut") (row (codes "nut"))
     ∷ named (codes "video/x-ogm+ogg") (row (codes "ogm"))
-    ∷ named (codes "video/x-y4m") own
+    ∷ named (codes "video/x-yuv4mpeg") (row (codes "y4m"))
     ∷ []
 
 unfoldable pub types : List NamedType

@@ -2,8 +2,8 @@
 use Rattle.std.specs.Prelude.{List, [], ◌∷◌, codes, false, true}
 use Rattle.infer_named.specs.Key.{Key, key}
 use Rattle.infer_named.specs.Listed.{reading}
-use Rattle.infer_named.specs.Sets.{any-lead, leads-1, leads-10, leads-6, no-rows, rows-3g2-3gp-f4v-m4a-m4b-m4v-mov, rows-3mf, rows-adf, rows-aifc, rows-aiff, rows-apng, rows-application-vnd-apple-keynote, rows-application-x-installshield, rows-application-x-ole-storage, rows-application-x-ole-storage-xlsx-zip, rows-application-x-ole-storage-zip, rows-application-x-pem-key, rows-asc, rows-au, rows-aup3-fossil-gpkg-mbtiles-mtn, rows-avif, rows-bdb, rows-bpg, rows-bplist, rows-bz2, rows-cab, rows-cer-crl, rows-core, rows-cur, rows-der-application-x-pem-key-pem, rows-der-pem, rows-dts, rows-dtsi, rows-dv, rows-dvi, rows-elf, rows-elf-so, rows-exe, rows-fcstd, rows-flac-ogg-opus, rows-gem, rows-gjs-js, rows-groovy, rows-gz, rows-gz-txt-xml, rows-gz-zip, rows-hdf5, rows-hdr, rows-heif, rows-hs, rows-html, rows-html-json-php-svg-txt-xhtml-xml, rows-html-sh-svg-txt-xhtml-xml, rows-html-txt-xhtml-xml, rows-j2c, rows-jls, rows-jnlp, rows-journal, rows-jpg, rows-json, rows-json-sh-txt, rows-json-txt, rows-lzma, rows-med, rows-midi, rows-mk, rows-mobi, rows-mov, rows-mp3, rows-mp4, rows-mpg, rows-msg, rows-n64, rows-ndjson, rows-o, rows-odb, rows-odc, rows-oga, rows-openssh, rows-p8, rows-pcap, rows-pcapng, rows-pem, rows-pfb, rows-php, rows-php-svg-txt-xhtml-xml, rows-pl, rows-png, rows-ps-sh-txt, rows-ps-txt, rows-py, rows-rb, rows-rm, rows-rpm, rows-scm, rows-sh, rows-sh-txt, rows-shp, rows-shx, rows-sid, rows-spx, rows-sqlite, rows-squashfs, rows-srpm, rows-tar, rows-terminfo, rows-texi, rows-tif, rows-tnef, rows-ts, rows-txt, rows-txt-xml, rows-txt-yaml, rows-vdi, rows-voc, rows-vsd, rows-vsdx-zip, rows-wav, rows-webp, rows-wmv, rows-wrl, rows-xar, rows-xls, rows-xlsb, rows-zip, rows-zst, text-rows}
-use Rattle.infer_named.specs.Types.{is-application-appx, is-application-graphql, is-application-json, is-application-json5, is-application-jsonnet, is-application-manifest-json, is-application-msix, is-application-msword-template, is-application-oebps-package-xml, is-application-pgp-keys-as-row-asc, is-application-pkcs8, is-application-sql, is-application-tei-xml, is-application-vnd-amazon-mobi8-ebook, is-application-vnd-apple-keynote, is-application-vnd-microsoft-portable-executable, is-application-vnd-ms-asf, is-application-vnd-ms-cab-compressed, is-application-vnd-ms-excel, is-application-vnd-ms-excel-sheet-binary-macroenabled-12, is-application-vnd-ms-outlook, is-application-vnd-ms-tnef, is-application-vnd-ms-visio-stencil-main-xml, is-application-vnd-ms-xpsdocument, is-application-vnd-oasis-opendocument-base, is-application-vnd-oasis-opendocument-chart, is-application-vnd-rn-realmedia, is-application-vnd-shx, is-application-vnd-sqlite3, is-application-vnd-squashfs, is-application-vnd-tcpdump-pcap, is-application-vnd-visio, is-application-vnd-wolfram-mathematica, is-application-x-admx, is-application-x-amiga-disk-format, is-application-x-ant-xml, is-application-x-appdata-xml, is-application-x-aspx, is-application-x-bplist, is-application-x-bzip-compressed-tar, is-application-x-cmi, is-application-x-compressed-tar, is-application-x-core, is-application-x-dbm, is-application-x-devhelp-xml, is-application-x-dvi, is-application-x-e57, is-application-x-flash-authoring, is-application-x-font-pcf, is-application-x-font-type1, is-application-x-freecad, is-application-x-gcov-data, is-application-x-hdf5, is-application-x-java-jnlp-file, is-application-x-jsonc, is-application-x-lzma-compressed-tar, is-application-x-minecraft-world, is-application-x-msbuild-xml, is-application-x-mysql-myisam, is-application-x-n64-rom, is-application-x-natvis-xml, is-application-x-ndjson, is-application-x-nuget-package, is-application-x-object, is-application-x-openssh-private-key, is-application-x-ova, is-application-x-pem-key, is-application-x-ply, is-application-x-pov, is-application-x-qrc-xml, is-application-x-resx-xml, is-application-x-rpm, is-application-x-scribus, is-application-x-sfnt-collection-dfont, is-application-x-shared-library-la, is-application-x-storyboard-xml, is-application-x-systemd-journal, is-application-x-tar, is-application-x-terminfo, is-application-x-unity-asmdef-json, is-application-x-uproject-json, is-application-x-usdz, is-application-x-vdi-disk, is-application-x-vim-spell, is-application-x-windows-dump, is-application-x-wmz, is-application-x-x509-ca-cert-as-known, is-application-x-xar, is-application-x-zsh, is-application-x-zstd-compressed-tar, is-application-xml, is-application-xquery, is-application-xspf-xml, is-application-zstd, is-audio-ac3, is-audio-basic, is-audio-midi, is-audio-mpeg, is-audio-ogg-as-row-oga, is-audio-prs-sid, is-audio-vnd-dts, is-audio-x-abc, is-audio-x-aiff, is-audio-x-mod, is-audio-x-speex-ogg, is-audio-x-voc, is-audio-x-wav, is-chemical-x-xyz, is-image-apng, is-image-avif, is-image-bpg, is-image-jpeg, is-image-vnd-radiance, is-image-webp, is-image-x-hasselblad-3fr, is-image-x-jp2-codestream, is-image-x-pict, is-image-x-sony-sr2, is-image-x-win-bitmap, is-image-x-xbitmap, is-model-3mf, is-model-iges, is-model-vrml, is-text-cql, is-text-html, is-text-javascript, is-text-mdx, is-text-n3, is-text-plain, is-text-troff, is-text-vbscript, is-text-vnd-graphviz, is-text-vnd-wap-wml, is-text-x-applescript, is-text-x-asm, is-text-x-astro, is-text-x-autoconf, is-text-x-automake, is-text-x-basic, is-text-x-blade, is-text-x-bugs, is-text-x-c-src, is-text-x-cfm, is-text-x-checksums, is-text-x-cython, is-text-x-dotenv, is-text-x-dts, is-text-x-ebnf, is-text-x-ejs, is-text-x-emacs-config, is-text-x-fortran, is-text-x-genbank, is-text-x-gerber, is-text-x-gfortran-module, is-text-x-glsl, is-text-x-gpr, is-text-x-groovy, is-text-x-haskell, is-text-x-haxe, is-text-x-hlsl, is-text-x-ini, is-text-x-janet, is-text-x-java, is-text-x-jq, is-text-x-just, is-text-x-literate-haskell, is-text-x-makefile, is-text-x-marko, is-text-x-mcfunction, is-text-x-mediawiki, is-text-x-meson, is-text-x-msdos-batch, is-text-x-pascal, is-text-x-patch, is-text-x-perl, is-text-x-php, is-text-x-postcss, is-text-x-prisma, is-text-x-prolog, is-text-x-pug, is-text-x-python-as-known, is-text-x-python-as-row-py, is-text-x-rebol, is-text-x-ring, is-text-x-rpgle, is-text-x-ruby, is-text-x-sass, is-text-x-scheme, is-text-x-scilab, is-text-x-scss, is-text-x-shell-config, is-text-x-shellscript, is-text-x-smarty, is-text-x-spice, is-text-x-starlark, is-text-x-strings, is-text-x-systemd-unit, is-text-x-template-toolkit, is-text-x-tex, is-text-x-texinfo, is-text-x-typescript, is-text-x-uc, is-text-x-udev-rules, is-text-x-unity, is-text-x-vhdl, is-text-x-vim, is-text-x-wat, is-text-x-wren, is-text-x-xresources, is-text-x-yacc, is-video-dv, is-video-mp2t, is-video-mp4, is-video-mpeg, is-video-quicktime, is-video-x-ivf, is-video-x-y4m}
+use Rattle.infer_named.specs.Sets.{any-lead, leads-1, leads-10, leads-6, no-rows, rows-3g2-3gp-f4v-m4a-m4b-m4v-mov, rows-3mf, rows-ac3, rows-adf, rows-aifc, rows-aiff, rows-apng, rows-application-vnd-apple-keynote, rows-application-x-installshield, rows-application-x-ole-storage, rows-application-x-ole-storage-xlsx-zip, rows-application-x-ole-storage-zip, rows-application-x-pem-key, rows-asc, rows-au, rows-aup3-fossil-gpkg-mbtiles-mtn, rows-avif, rows-bdb, rows-bpg, rows-bplist, rows-bz2, rows-cab, rows-cer-crl, rows-core, rows-cur, rows-der-application-x-pem-key-pem, rows-der-pem, rows-dts, rows-dtsi, rows-dv, rows-dvi, rows-e57, rows-elf, rows-elf-so, rows-exe, rows-fcstd, rows-flac-ogg-opus, rows-gem, rows-gjs-js, rows-groovy, rows-gz, rows-gz-txt-xml, rows-gz-zip, rows-hdf5, rows-hdr, rows-heif, rows-hs, rows-html, rows-html-json-php-svg-txt-xhtml-xml, rows-html-sh-svg-txt-xhtml-xml, rows-html-txt-xhtml-xml, rows-ivf, rows-j2c, rows-jls, rows-jnlp, rows-journal, rows-jpg, rows-json, rows-json-sh-txt, rows-json-txt, rows-lzma, rows-med, rows-midi, rows-mk, rows-mobi, rows-mov, rows-mp3, rows-mp4, rows-mpg, rows-msg, rows-n64, rows-ndjson, rows-o, rows-odb, rows-odc, rows-oga, rows-openssh, rows-p8, rows-pcap, rows-pcapng, rows-pem, rows-pfb, rows-php, rows-php-svg-txt-xhtml-xml, rows-pl, rows-png, rows-ps-sh-txt, rows-ps-txt, rows-py, rows-rb, rows-rm, rows-rpm, rows-scm, rows-sh, rows-sh-txt, rows-shp, rows-shx, rows-sid, rows-spx, rows-sqlite, rows-squashfs, rows-srpm, rows-tar, rows-terminfo, rows-texi, rows-tif, rows-tnef, rows-ts, rows-txt, rows-txt-xml, rows-txt-yaml, rows-vdi, rows-voc, rows-vsd, rows-vsdx-zip, rows-wav, rows-webp, rows-wmv, rows-wrl, rows-xar, rows-xls, rows-xlsb, rows-y4m, rows-zip, rows-zst, text-rows}
+use Rattle.infer_named.specs.Types.{is-application-appx, is-application-graphql, is-application-json, is-application-json5, is-application-jsonnet, is-application-manifest-json, is-application-msix, is-application-msword-template, is-application-oebps-package-xml, is-application-pgp-keys-as-row-asc, is-application-pkcs8, is-application-sql, is-application-tei-xml, is-application-vnd-amazon-mobi8-ebook, is-application-vnd-apple-keynote, is-application-vnd-microsoft-portable-executable, is-application-vnd-ms-asf, is-application-vnd-ms-cab-compressed, is-application-vnd-ms-excel, is-application-vnd-ms-excel-sheet-binary-macroenabled-12, is-application-vnd-ms-outlook, is-application-vnd-ms-tnef, is-application-vnd-ms-visio-stencil-main-xml, is-application-vnd-ms-xpsdocument, is-application-vnd-oasis-opendocument-base, is-application-vnd-oasis-opendocument-chart, is-application-vnd-rn-realmedia, is-application-vnd-shx, is-application-vnd-sqlite3, is-application-vnd-squashfs, is-application-vnd-tcpdump-pcap, is-application-vnd-visio, is-application-vnd-wolfram-mathematica, is-application-x-admx, is-application-x-amiga-disk-format, is-application-x-ant-xml, is-application-x-appdata-xml, is-application-x-aspx, is-application-x-bplist, is-application-x-bzip-compressed-tar, is-application-x-cmi, is-application-x-compressed-tar, is-application-x-core, is-application-x-dbm, is-application-x-devhelp-xml, is-application-x-dvi, is-application-x-flash-authoring, is-application-x-font-pcf, is-application-x-font-type1, is-application-x-freecad, is-application-x-gcov-data, is-application-x-hdf5, is-application-x-java-jnlp-file, is-application-x-jsonc, is-application-x-lzma-compressed-tar, is-application-x-minecraft-world, is-application-x-msbuild-xml, is-application-x-mysql-myisam, is-application-x-n64-rom, is-application-x-natvis-xml, is-application-x-ndjson, is-application-x-nuget-package, is-application-x-object, is-application-x-openssh-private-key, is-application-x-ova, is-application-x-pem-key, is-application-x-ply, is-application-x-pov, is-application-x-qrc-xml, is-application-x-resx-xml, is-application-x-rpm, is-application-x-scribus, is-application-x-sfnt-collection-dfont, is-application-x-shared-library-la, is-application-x-storyboard-xml, is-application-x-systemd-journal, is-application-x-tar, is-application-x-terminfo, is-application-x-unity-asmdef-json, is-application-x-uproject-json, is-application-x-usdz, is-application-x-vdi-disk, is-application-x-vim-spell, is-application-x-windows-dump, is-application-x-wmz, is-application-x-x509-ca-cert-as-known, is-application-x-xar, is-application-x-zsh, is-application-x-zstd-compressed-tar, is-application-xml, is-application-xquery, is-application-xspf-xml, is-application-zstd, is-audio-ac3, is-audio-basic, is-audio-midi, is-audio-mpeg, is-audio-ogg-as-row-oga, is-audio-prs-sid, is-audio-vnd-dts, is-audio-x-abc, is-audio-x-aiff, is-audio-x-mod, is-audio-x-speex-ogg, is-audio-x-voc, is-audio-x-wav, is-chemical-x-xyz, is-image-apng, is-image-avif, is-image-bpg, is-image-jpeg, is-image-vnd-radiance, is-image-webp, is-image-x-hasselblad-3fr, is-image-x-jp2-codestream, is-image-x-pict, is-image-x-sony-sr2, is-image-x-win-bitmap, is-image-x-xbitmap, is-model-3mf, is-model-e57, is-model-iges, is-model-vrml, is-text-cql, is-text-html, is-text-javascript, is-text-mdx, is-text-n3, is-text-plain, is-text-troff, is-text-vbscript, is-text-vnd-graphviz, is-text-vnd-wap-wml, is-text-x-applescript, is-text-x-asm, is-text-x-astro, is-text-x-autoconf, is-text-x-automake, is-text-x-basic, is-text-x-blade, is-text-x-bugs, is-text-x-c-src, is-text-x-cfm, is-text-x-checksums, is-text-x-cython, is-text-x-dotenv, is-text-x-dts, is-text-x-ebnf, is-text-x-ejs, is-text-x-emacs-config, is-text-x-fortran, is-text-x-genbank, is-text-x-gerber, is-text-x-gfortran-module, is-text-x-glsl, is-text-x-gpr, is-text-x-groovy, is-text-x-haskell, is-text-x-haxe, is-text-x-hlsl, is-text-x-ini, is-text-x-janet, is-text-x-java, is-text-x-jq, is-text-x-just, is-text-x-literate-haskell, is-text-x-makefile, is-text-x-marko, is-text-x-mcfunction, is-text-x-mediawiki, is-text-x-meson, is-text-x-msdos-batch, is-text-x-pascal, is-text-x-patch, is-text-x-perl, is-text-x-php, is-text-x-postcss, is-text-x-prisma, is-text-x-prolog, is-text-x-pug, is-text-x-python-as-known, is-text-x-python-as-row-py, is-text-x-rebol, is-text-x-ring, is-text-x-rpgle, is-text-x-ruby, is-text-x-sass, is-text-x-scheme, is-text-x-scilab, is-text-x-scss, is-text-x-shell-config, is-text-x-shellscript, is-text-x-smarty, is-text-x-spice, is-text-x-starlark, is-text-x-strings, is-text-x-systemd-unit, is-text-x-template-toolkit, is-text-x-tex, is-text-x-texinfo, is-text-x-typescript, is-text-x-uc, is-text-x-udev-rules, is-text-x-unity, is-text-x-vhdl, is-text-x-vim, is-text-x-wat, is-text-x-wren, is-text-x-xresources, is-text-x-yacc, is-video-dv, is-video-mp2t, is-video-mp4, is-video-mpeg, is-video-quicktime, is-video-x-ivf, is-video-x-yuv4mpeg}
 use Rattle.infer_named.specs.declared.table.Asks.TheVariants.{Bytes, Nothing, Signature, Text}
 use Rattle.infer_named.specs.declared.table.Part.TheVariants.{Extension, Whole}
 
@@ -82,15 +82,15 @@ keys =
     ∷ key Extension (codes "tac") false (reading is-text-x-python-as-row-py Text rows-py rows-json-sh-txt no-rows any-lead ∷ [])
     ∷ key Extension (codes "midi") false (reading is-audio-midi Signature rows-midi no-rows no-rows any-lead ∷ [])
     ∷ key Whole (codes ".profile") false (reading is-text-x-shell-config Text no-rows rows-sh-txt no-rows any-lead ∷ [])
+    ∷ key Extension (codes "ivf") false (reading is-video-x-ivf Bytes rows-ivf no-rows no-rows any-lead ∷ [])
     ∷ key Extension (codes "n3") false (reading is-text-n3 Text no-rows rows-txt no-rows any-lead ∷ [])
     ∷ key Extension (codes "tmac") false (reading is-text-troff Text no-rows rows-txt no-rows any-lead ∷ [])
-    ∷ key Extension (codes "ivf") false (reading is-video-x-ivf Bytes no-rows no-rows no-rows any-lead ∷ [])
     ∷ key Extension (codes "astro") false (reading is-text-x-astro Text no-rows rows-html-json-php-svg-txt-xhtml-xml no-rows any-lead ∷ [])
     ∷ key Extension (codes "aif") false (reading is-audio-x-aiff Signature rows-aiff no-rows rows-aifc any-lead ∷ [])
+    ∷ key Extension (codes "e57") false (reading is-model-e57 Bytes rows-e57 no-rows no-rows any-lead ∷ [])
     ∷ key Extension (codes "vsw") false (reading is-application-vnd-visio Signature rows-vsd rows-application-x-ole-storage no-rows any-lead ∷ [])
     ∷ key Extension (codes "php8") false (reading is-text-x-php Text rows-php rows-html-sh-svg-txt-xhtml-xml no-rows any-lead ∷ [])
     ∷ key Extension (codes "webp") false (reading is-image-webp Signature rows-webp no-rows no-rows any-lead ∷ [])
-    ∷ key Extension (codes "e57") false (reading is-application-x-e57 Bytes no-rows no-rows no-rows any-lead ∷ [])
     ∷ key Extension (codes "gcno") false (reading is-application-x-gcov-data Bytes no-rows no-rows no-rows any-lead ∷ [])
     ∷ key Extension (codes "snupkg") false (reading is-application-x-nuget-package Signature no-rows rows-zip no-rows any-lead ∷ [])
     ∷ key Extension (codes "uproject") false (reading is-application-x-uproject-json Text no-rows rows-json no-rows any-lead ∷ [])
@@ -116,9 +116,9 @@ keys =
     ∷ key Whole (codes ".bashrc") false (reading is-text-x-shell-config Text no-rows rows-sh-txt no-rows any-lead ∷ [])
     ∷ key Whole (codes ".tcshrc") false (reading is-text-x-shell-config Text no-rows rows-sh-txt no-rows any-lead ∷ [])
     ∷ key Whole (codes ".bash_aliases") false (reading is-text-x-shell-config Text no-rows rows-sh-txt no-rows any-lead ∷ [])
+    ∷ key Extension (codes "y4m") false (reading is-video-x-yuv4mpeg Bytes rows-y4m no-rows no-rows any-lead ∷ [])
     ∷ key Extension (codes "la") false (reading is-application-x-shared-library-la Text no-rows rows-txt no-rows any-lead ∷ [])
     ∷ key Extension (codes "tbz") false (reading is-application-x-bzip-compressed-tar Signature no-rows rows-bz2 no-rows any-lead ∷ [])
-    ∷ key Extension (codes "y4m") false (reading is-video-x-y4m Bytes no-rows no-rows no-rows any-lead ∷ [])
     ∷ key Extension (codes "ypp") false (reading is-text-x-yacc Text no-rows rows-txt no-rows any-lead ∷ [])
     ∷ key Extension (codes "adml") false (reading is-application-x-admx Text no-rows rows-html-txt-xhtml-xml no-rows leads-10 ∷ [])
     ∷ key Extension (codes "pyi") false (reading is-text-x-python-as-known Text no-rows rows-sh-txt no-rows any-lead ∷ [])
@@ -173,7 +173,7 @@ keys =
     ∷ key Whole (codes "todo") false (reading is-text-plain Text rows-txt no-rows text-rows any-lead ∷ [])
     ∷ key Extension (codes "odc") false (reading is-application-vnd-oasis-opendocument-chart Signature rows-odc rows-zip no-rows any-lead ∷ [])
     ∷ key Extension (codes "msix") false (reading is-application-msix Signature no-rows rows-zip no-rows any-lead ∷ [])
-    ∷ key Extension (codes "ac3") false (reading is-audio-ac3 Bytes no-rows no-rows no-rows any-lead ∷ [])
+    ∷ key Extension (codes "ac3") false (reading is-audio-ac3 Bytes rows-ac3 no-rows no-rows any-lead ∷ [])
     ∷ key Extension (codes "cmti") false (reading is-application-x-cmi Bytes no-rows rows-elf-so no-rows any-lead ∷ [])
     ∷ key Extension (codes "usdz") false (reading is-application-x-usdz Signature no-rows rows-zip no-rows any-lead ∷ [])
     ∷ key Extension (codes "sha256sum") false (reading is-text-x-checksums Text no-rows rows-txt no-rows any-lead ∷ [])

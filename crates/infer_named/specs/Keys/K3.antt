@@ -2,8 +2,8 @@
 use Rattle.std.specs.Prelude.{List, [], ◌∷◌, codes, false, true}
 use Rattle.infer_named.specs.Key.{Key, key}
 use Rattle.infer_named.specs.Listed.{reading}
-use Rattle.infer_named.specs.Sets.{any-lead, leads-10, leads-2, no-rows, rows-3ds, rows-3gp, rows-aac, rows-afm, rows-amr, rows-application-x-msi, rows-application-x-ole-storage, rows-application-x-ole-storage-pptm-pptx-zip, rows-application-x-ole-storage-pptx-zip, rows-ar, rows-asc, rows-atom-diashape-fb2-fodt-gpx-gtkbuilder-jnlp-kml-lingts-meta4-mml-nzb-opml-owx-plist-rss-srx-svg-ttx-xhtml-xmp, rows-aup3-fossil-gpkg-mbtiles-mtn, rows-awk, rows-bc, rows-bookmarks, rows-bz2, rows-cmap-eps-pfa-t2t, rows-crx, rows-csr-p10, rows-dart, rows-deb-goa, rows-der-pem-txt, rows-djvm, rows-djvu, rows-docx-application-x-ole-storage-zip, rows-dwg, rows-elf, rows-elf-so, rows-eot, rows-escript, rows-exe, rows-f4v, rows-fig, rows-fish, rows-gjs-js, rows-glb, rows-gpg, rows-gpkg, rows-html, rows-html-json-php-svg-txt-xhtml-xml, rows-html-sh-svg-txt-xhtml-xml, rows-html-txt, rows-html-txt-xhtml-xml, rows-html-txt-xml, rows-icc, rows-ilbm, rows-jar-zip, rows-jks, rows-jmod, rows-json, rows-json-sh-txt, rows-jxr, rows-kml, rows-kmz, rows-kra, rows-lingts, rows-lua, rows-luks, rows-lzma, rows-m, rows-m3u8, rows-mach, rows-mk, rows-mkv, rows-ml, rows-model-step, rows-mov, rows-mp4, rows-mpc, rows-mpg, rows-mpp, rows-n64, rows-nes, rows-o, rows-obj, rows-odf, rows-odg, rows-odm-ott, rows-odp-zip, rows-odt, rows-opml, rows-otp, rows-pat, rows-pcapng, rows-pem, rows-pgp, rows-php, rows-php-svg-txt-xhtml-xml, rows-plist-txt-xml, rows-ppt, rows-pptm, rows-ppu, rows-ps, rows-ps-sh-txt, rows-ps-txt, rows-ps1, rows-psd, rows-puml, rows-py, rows-qcow2, rows-r, rows-raku, rows-rb, rows-rtf, rows-scm, rows-sh-txt, rows-sid, rows-sig, rows-sqlite, rows-squashfs, rows-sxi, rows-sxw, rows-sz, rows-ts, rows-txt, rows-txt-xml, rows-vhd, rows-vmdk, rows-wmv, rows-woff2, rows-xls, rows-xml, rows-zim, rows-zip, rows-zst, text-rows}
-use Rattle.infer_named.specs.Types.{is-application-dita-xml, is-application-font-woff-as-row-woff2, is-application-geopackage-sqlite3, is-application-json, is-application-mbox, is-application-metalink-xml, is-application-octet-stream, is-application-pgp-encrypted, is-application-pgp-keys-as-row-asc, is-application-pgp-keys-as-row-gpg, is-application-pgp-signature, is-application-pkcs10, is-application-postscript, is-application-rtf, is-application-sourcemap-json, is-application-vnd-adobe-xfdf, is-application-vnd-apple-mpegurl, is-application-vnd-chess-pgn, is-application-vnd-corel-draw, is-application-vnd-garmin-tcx-xml, is-application-vnd-geogebra-file, is-application-vnd-google-earth-kml-xml, is-application-vnd-google-earth-kmz, is-application-vnd-iccprofile, is-application-vnd-lotus-1-2-3, is-application-vnd-microsoft-portable-executable, is-application-vnd-ms-excel, is-application-vnd-ms-powerpoint, is-application-vnd-ms-powerpoint-presentation-macroenabled-12, is-application-vnd-ms-powerpoint-template-macroenabled-12, is-application-vnd-ms-project, is-application-vnd-oasis-opendocument-formula, is-application-vnd-oasis-opendocument-graphics, is-application-vnd-oasis-opendocument-graphics-flat-xml, is-application-vnd-oasis-opendocument-presentation-template, is-application-vnd-oasis-opendocument-text, is-application-vnd-openxmlformats-officedocument-wordprocessingml-template, is-application-vnd-sqlite3, is-application-vnd-squashfs, is-application-vnd-sun-xml-impress, is-application-vnd-sun-xml-writer, is-application-x-ant-xml, is-application-x-arb-json, is-application-x-bzip2, is-application-x-cmi, is-application-x-com-executable, is-application-x-docbook-xml, is-application-x-entitlements, is-application-x-executable-as-row-obj, is-application-x-fishscript, is-application-x-font-afm, is-application-x-font-bdf, is-application-x-gameboy-rom, is-application-x-gba-rom, is-application-x-gds, is-application-x-gdscript, is-application-x-gir-xml, is-application-x-google-chrome-extension, is-application-x-har-json, is-application-x-haskell-interface, is-application-x-intellij-xml, is-application-x-ios-app, is-application-x-java-jmod, is-application-x-java-keystore, is-application-x-jsonc, is-application-x-jsp, is-application-x-krita, is-application-x-leveldb-table, is-application-x-llvm, is-application-x-locale-archive, is-application-x-luks, is-application-x-lzma-compressed-tar, is-application-x-m4, is-application-x-mach-binary, is-application-x-mimecache, is-application-x-msbuild-xml, is-application-x-msi, is-application-x-mysql-myisam, is-application-x-n64-rom, is-application-x-nintendo-nes-rom, is-application-x-object, is-application-x-openzim, is-application-x-pascal-unit, is-application-x-pcapng, is-application-x-powershell, is-application-x-precompiled-header, is-application-x-pytorch, is-application-x-qemu-disk, is-application-x-snappy-framed, is-application-x-storyboard-xml, is-application-x-swiftmodule, is-application-x-tflite, is-application-x-thumbs-db, is-application-x-tmx-xml, is-application-x-unix-archive, is-application-x-vhd-disk, is-application-x-vim-swap, is-application-x-vmdk-disk, is-application-x-wix-xml, is-application-x-xpinstall, is-application-x-zstd-compressed-tar, is-application-xaml-xml, is-application-xliff-xml, is-application-xquery, is-audio-aac, is-audio-amr, is-audio-prs-sid, is-audio-sf2, is-audio-x-caf, is-audio-x-ms-wma, is-audio-x-musepack, is-audio-x-s3m, is-image-qoi, is-image-vnd-adobe-photoshop, is-image-vnd-djvu, is-image-vnd-dwg, is-image-vnd-ms-photo, is-image-x-3ds, is-image-x-gimp-pat, is-image-x-ilbm, is-image-x-tga, is-image-x-xfig, is-model-gltf-binary, is-model-step, is-text-html, is-text-javascript, is-text-plain, is-text-troff, is-text-vnd-trolltech-linguist, is-text-x-asn1, is-text-x-asymptote, is-text-x-awk, is-text-x-bluespec, is-text-x-boo, is-text-x-c-src, is-text-x-checksums, is-text-x-cmake, is-text-x-cocci, is-text-x-csound, is-text-x-cuda, is-text-x-cython, is-text-x-d2, is-text-x-dart, is-text-x-dune, is-text-x-ebnf, is-text-x-eex, is-text-x-ejs, is-text-x-erlang, is-text-x-expect, is-text-x-flatbuffers, is-text-x-fortran, is-text-x-fsharp, is-text-x-genie, is-text-x-gerber, is-text-x-gleam, is-text-x-glsl, is-text-x-gomod, is-text-x-hlsl, is-text-x-hy, is-text-x-idl, is-text-x-ini, is-text-x-isabelle, is-text-x-krl, is-text-x-lex, is-text-x-lfe, is-text-x-lilypond, is-text-x-logtalk, is-text-x-lua, is-text-x-makefile, is-text-x-maven-xml, is-text-x-mermaid, is-text-x-meson, is-text-x-metafont, is-text-x-modula, is-text-x-nginx-conf, is-text-x-nix, is-text-x-ocaml, is-text-x-octave, is-text-x-opentype-feature, is-text-x-opml-xml, is-text-x-pascal, is-text-x-php, is-text-x-pic, is-text-x-plantuml, is-text-x-praat, is-text-x-preseed, is-text-x-pug, is-text-x-puppet, is-text-x-python-as-row-py, is-text-x-qmake, is-text-x-raku, is-text-x-razor, is-text-x-rsrc, is-text-x-ruby, is-text-x-sagemath, is-text-x-scheme, is-text-x-spice, is-text-x-starlark, is-text-x-stata, is-text-x-svelte, is-text-x-systemd-unit, is-text-x-tablegen, is-text-x-tex, is-text-x-tla, is-text-x-typescript, is-text-x-vhdl, is-text-x-vim, is-text-x-wkt, is-text-x-xmi, is-text-xml, is-video-3gpp, is-video-mp2t, is-video-mpeg, is-video-quicktime, is-video-x-f4v, is-video-x-matroska-3d}
+use Rattle.infer_named.specs.Sets.{any-lead, leads-10, leads-2, no-rows, rows-3ds, rows-3gp, rows-aac, rows-afm, rows-amr, rows-application-x-msi, rows-application-x-ole-storage, rows-application-x-ole-storage-pptm-pptx-zip, rows-application-x-ole-storage-pptx-zip, rows-ar, rows-asc, rows-atom-diashape-fb2-fodt-gpx-gtkbuilder-jnlp-kml-lingts-meta4-mml-nzb-opml-owx-plist-rss-srx-svg-ttx-xhtml-xmp, rows-aup3-fossil-gpkg-mbtiles-mtn, rows-awk, rows-bc, rows-bookmarks, rows-bz2, rows-caf, rows-cdr, rows-cmap-eps-pfa-t2t, rows-crx, rows-csr-p10, rows-dart, rows-deb-goa, rows-der-pem-txt, rows-djvm, rows-djvu, rows-docx-application-x-ole-storage-zip, rows-dwg, rows-elf, rows-elf-so, rows-eot, rows-escript, rows-exe, rows-f4v, rows-fig, rows-fish, rows-gjs-js, rows-glb, rows-gpg, rows-gpkg, rows-html, rows-html-json-php-svg-txt-xhtml-xml, rows-html-sh-svg-txt-xhtml-xml, rows-html-txt, rows-html-txt-xhtml-xml, rows-html-txt-xml, rows-icc, rows-ilbm, rows-jar-zip, rows-jks, rows-jmod, rows-json, rows-json-sh-txt, rows-jxr, rows-kml, rows-kmz, rows-kra, rows-lingts, rows-lua, rows-luks, rows-lzma, rows-m, rows-m3u8, rows-mach, rows-mk, rows-mkv, rows-ml, rows-model-step, rows-mov, rows-mp4, rows-mpc, rows-mpg, rows-mpp, rows-n64, rows-nes, rows-o, rows-obj, rows-odf, rows-odg, rows-odm-ott, rows-odp-zip, rows-odt, rows-opml, rows-otp, rows-pat, rows-pcapng, rows-pem, rows-pgp, rows-php, rows-php-svg-txt-xhtml-xml, rows-plist-txt-xml, rows-ppt, rows-pptm, rows-ppu, rows-ps, rows-ps-sh-txt, rows-ps-txt, rows-ps1, rows-psd, rows-puml, rows-py, rows-qcow2, rows-qoi, rows-r, rows-raku, rows-rb, rows-rtf, rows-scm, rows-sf2, rows-sh-txt, rows-sid, rows-sig, rows-sqlite, rows-squashfs, rows-sxi, rows-sxw, rows-sz, rows-ts, rows-txt, rows-txt-xml, rows-vhd, rows-vmdk, rows-wmv, rows-woff2, rows-xls, rows-xml, rows-zim, rows-zip, rows-zst, text-rows}
+use Rattle.infer_named.specs.Types.{is-application-dita-xml, is-application-font-woff-as-row-woff2, is-application-geopackage-sqlite3, is-application-json, is-application-mbox, is-application-metalink-xml, is-application-octet-stream, is-application-pgp-encrypted, is-application-pgp-keys-as-row-asc, is-application-pgp-keys-as-row-gpg, is-application-pgp-signature, is-application-pkcs10, is-application-postscript, is-application-rtf, is-application-sourcemap-json, is-application-vnd-adobe-xfdf, is-application-vnd-apple-mpegurl, is-application-vnd-chess-pgn, is-application-vnd-corel-draw, is-application-vnd-garmin-tcx-xml, is-application-vnd-geogebra-file, is-application-vnd-google-earth-kml-xml, is-application-vnd-google-earth-kmz, is-application-vnd-iccprofile, is-application-vnd-lotus-1-2-3, is-application-vnd-microsoft-portable-executable, is-application-vnd-ms-excel, is-application-vnd-ms-powerpoint, is-application-vnd-ms-powerpoint-presentation-macroenabled-12, is-application-vnd-ms-powerpoint-template-macroenabled-12, is-application-vnd-ms-project, is-application-vnd-oasis-opendocument-formula, is-application-vnd-oasis-opendocument-graphics, is-application-vnd-oasis-opendocument-graphics-flat-xml, is-application-vnd-oasis-opendocument-presentation-template, is-application-vnd-oasis-opendocument-text, is-application-vnd-openxmlformats-officedocument-wordprocessingml-template, is-application-vnd-sqlite3, is-application-vnd-squashfs, is-application-vnd-sun-xml-impress, is-application-vnd-sun-xml-writer, is-application-x-ant-xml, is-application-x-arb-json, is-application-x-bzip2, is-application-x-cmi, is-application-x-com-executable, is-application-x-docbook-xml, is-application-x-entitlements, is-application-x-executable-as-row-obj, is-application-x-fishscript, is-application-x-font-afm, is-application-x-font-bdf, is-application-x-gameboy-rom, is-application-x-gba-rom, is-application-x-gds, is-application-x-gdscript, is-application-x-gir-xml, is-application-x-google-chrome-extension, is-application-x-har-json, is-application-x-haskell-interface, is-application-x-intellij-xml, is-application-x-ios-app, is-application-x-java-jmod, is-application-x-java-keystore, is-application-x-jsonc, is-application-x-jsp, is-application-x-krita, is-application-x-leveldb-table, is-application-x-llvm, is-application-x-locale-archive, is-application-x-luks, is-application-x-lzma-compressed-tar, is-application-x-m4, is-application-x-mach-binary, is-application-x-mimecache, is-application-x-msbuild-xml, is-application-x-msi, is-application-x-mysql-myisam, is-application-x-n64-rom, is-application-x-nintendo-nes-rom, is-application-x-object, is-application-x-openzim, is-application-x-pascal-unit, is-application-x-pcapng, is-application-x-powershell, is-application-x-precompiled-header, is-application-x-pytorch, is-application-x-qemu-disk, is-application-x-snappy-framed, is-application-x-storyboard-xml, is-application-x-swiftmodule, is-application-x-tflite, is-application-x-thumbs-db, is-application-x-tmx-xml, is-application-x-unix-archive, is-application-x-vhd-disk, is-application-x-vim-swap, is-application-x-vmdk-disk, is-application-x-wix-xml, is-application-x-xpinstall, is-application-x-zstd-compressed-tar, is-application-xaml-xml, is-application-xliff-xml, is-application-xquery, is-audio-aac, is-audio-amr, is-audio-prs-sid, is-audio-x-caf, is-audio-x-ms-wma, is-audio-x-musepack, is-audio-x-s3m, is-audio-x-sfbk, is-image-vnd-adobe-photoshop, is-image-vnd-djvu, is-image-vnd-dwg, is-image-vnd-ms-photo, is-image-x-3ds, is-image-x-gimp-pat, is-image-x-ilbm, is-image-x-qoi, is-image-x-tga, is-image-x-xfig, is-model-gltf-binary, is-model-step, is-text-html, is-text-javascript, is-text-plain, is-text-troff, is-text-vnd-trolltech-linguist, is-text-x-asn1, is-text-x-asymptote, is-text-x-awk, is-text-x-bluespec, is-text-x-boo, is-text-x-c-src, is-text-x-checksums, is-text-x-cmake, is-text-x-cocci, is-text-x-csound, is-text-x-cuda, is-text-x-cython, is-text-x-d2, is-text-x-dart, is-text-x-dune, is-text-x-ebnf, is-text-x-eex, is-text-x-ejs, is-text-x-erlang, is-text-x-expect, is-text-x-flatbuffers, is-text-x-fortran, is-text-x-fsharp, is-text-x-genie, is-text-x-gerber, is-text-x-gleam, is-text-x-glsl, is-text-x-gomod, is-text-x-hlsl, is-text-x-hy, is-text-x-idl, is-text-x-ini, is-text-x-isabelle, is-text-x-krl, is-text-x-lex, is-text-x-lfe, is-text-x-lilypond, is-text-x-logtalk, is-text-x-lua, is-text-x-makefile, is-text-x-maven-xml, is-text-x-mermaid, is-text-x-meson, is-text-x-metafont, is-text-x-modula, is-text-x-nginx-conf, is-text-x-nix, is-text-x-ocaml, is-text-x-octave, is-text-x-opentype-feature, is-text-x-opml-xml, is-text-x-pascal, is-text-x-php, is-text-x-pic, is-text-x-plantuml, is-text-x-praat, is-text-x-preseed, is-text-x-pug, is-text-x-puppet, is-text-x-python-as-row-py, is-text-x-qmake, is-text-x-raku, is-text-x-razor, is-text-x-rsrc, is-text-x-ruby, is-text-x-sagemath, is-text-x-scheme, is-text-x-spice, is-text-x-starlark, is-text-x-stata, is-text-x-svelte, is-text-x-systemd-unit, is-text-x-tablegen, is-text-x-tex, is-text-x-tla, is-text-x-typescript, is-text-x-vhdl, is-text-x-vim, is-text-x-wkt, is-text-x-xmi, is-text-xml, is-video-3gpp, is-video-mp2t, is-video-mpeg, is-video-quicktime, is-video-x-f4v, is-video-x-matroska-3d}
 use Rattle.infer_named.specs.declared.table.Asks.TheVariants.{Bytes, Nothing, Signature, Text}
 use Rattle.infer_named.specs.declared.table.Part.TheVariants.{Extension, Whole}
 
@@ -149,10 +149,10 @@ keys =
     ∷ key Extension (codes "lfe") false (reading is-text-x-lfe Text no-rows rows-sh-txt no-rows any-lead ∷ [])
     ∷ key Extension (codes "tese") false (reading is-text-x-glsl Text no-rows rows-txt no-rows any-lead ∷ [])
     ∷ key Whole (codes "build.bazel") false (reading is-text-x-starlark Text no-rows rows-sh-txt no-rows any-lead ∷ [])
+    ∷ key Extension (codes "qoi") false (reading is-image-x-qoi Bytes rows-qoi no-rows no-rows any-lead ∷ [])
     ∷ key Extension (codes "adts") false (reading is-audio-aac Bytes rows-aac no-rows no-rows any-lead ∷ [])
     ∷ key Extension (codes "tag") false (reading is-application-x-jsp Text no-rows rows-html-json-php-svg-txt-xhtml-xml no-rows any-lead ∷ [])
     ∷ key Extension (codes "wk3") false (reading is-application-vnd-lotus-1-2-3 Bytes no-rows no-rows no-rows any-lead ∷ [])
-    ∷ key Extension (codes "qoi") false (reading is-image-qoi Bytes no-rows no-rows no-rows any-lead ∷ [])
     ∷ key Extension (codes "krz") false (reading is-application-x-krita Signature rows-kra rows-zip no-rows any-lead ∷ [])
     ∷ key Extension (codes "rtf") false (reading is-application-rtf Text rows-rtf no-rows no-rows any-lead ∷ [])
     ∷ key Extension (codes "xlc") false (reading is-application-vnd-ms-excel Bytes rows-xls rows-application-x-ole-storage no-rows any-lead ∷ [])
@@ -173,7 +173,7 @@ keys =
     ∷ key Extension (codes "xpi") false (reading is-application-x-xpinstall Signature no-rows rows-jar-zip no-rows any-lead ∷ [])
     ∷ key Extension (codes "sage") false (reading is-text-x-sagemath Text no-rows rows-sh-txt no-rows any-lead ∷ [])
     ∷ key Extension (codes "arb") false (reading is-application-x-arb-json Text no-rows rows-json no-rows any-lead ∷ [])
-    ∷ key Extension (codes "caf") false (reading is-audio-x-caf Bytes no-rows no-rows no-rows any-lead ∷ [])
+    ∷ key Extension (codes "caf") false (reading is-audio-x-caf Bytes rows-caf no-rows no-rows any-lead ∷ [])
     ∷ key Extension (codes "preseed") false (reading is-text-x-preseed Text no-rows rows-txt no-rows any-lead ∷ [])
     ∷ key Extension (codes "glb") false (reading is-model-gltf-binary Signature rows-glb no-rows no-rows any-lead ∷ [])
     ∷ key Extension (codes "mly") false (reading is-text-x-ocaml Text rows-ml rows-sh-txt no-rows any-lead ∷ [])
@@ -199,8 +199,8 @@ keys =
     ∷ key Extension (codes "asy") false (reading is-text-x-asymptote Text no-rows rows-txt no-rows any-lead ∷ [])
     ∷ key Extension (codes "afm") false (reading is-application-x-font-afm Text rows-afm rows-txt no-rows any-lead ∷ [])
     ∷ key Extension (codes "dll") false (reading is-application-vnd-microsoft-portable-executable Signature rows-exe no-rows no-rows any-lead ∷ [])
+    ∷ key Extension (codes "sf2") false (reading is-audio-x-sfbk Bytes rows-sf2 no-rows no-rows any-lead ∷ [])
     ∷ key Extension (codes "vhd") false (reading is-application-x-vhd-disk Bytes rows-vhd no-rows no-rows any-lead ∷ reading is-text-x-vhdl Text no-rows rows-txt no-rows any-lead ∷ [])
-    ∷ key Extension (codes "sf2") false (reading is-audio-sf2 Bytes no-rows no-rows no-rows any-lead ∷ [])
     ∷ key Extension (codes "jsx") false (reading is-text-javascript Text rows-gjs-js rows-json-sh-txt no-rows any-lead ∷ [])
     ∷ key Extension (codes "wma") false (reading is-audio-x-ms-wma Signature no-rows rows-wmv no-rows any-lead ∷ [])
     ∷ key Extension (codes "xliff") false (reading is-application-xliff-xml Text no-rows rows-html-txt-xhtml-xml no-rows leads-10 ∷ [])
@@ -243,7 +243,7 @@ keys =
     ∷ key Extension (codes "bsv") false (reading is-text-x-bluespec Text no-rows rows-txt no-rows any-lead ∷ [])
     ∷ key Extension (codes "myi") false (reading is-application-x-mysql-myisam Bytes no-rows no-rows no-rows any-lead ∷ [])
     ∷ key Extension (codes "xfdf") false (reading is-application-vnd-adobe-xfdf Text no-rows rows-html-txt-xhtml-xml no-rows leads-10 ∷ [])
-    ∷ key Extension (codes "cdr") false (reading is-application-vnd-corel-draw Bytes no-rows no-rows no-rows any-lead ∷ [])
+    ∷ key Extension (codes "cdr") false (reading is-application-vnd-corel-draw Bytes rows-cdr no-rows no-rows any-lead ∷ [])
     ∷ key Extension (codes "ipp") false (reading is-text-x-c-src Text no-rows rows-txt no-rows any-lead ∷ [])
     ∷ key Extension (codes "nes") false (reading is-application-x-nintendo-nes-rom Signature rows-nes no-rows no-rows any-lead ∷ [])
     ∷ key Extension (codes "gb") false (reading is-application-x-gameboy-rom Bytes no-rows no-rows no-rows any-lead ∷ [])

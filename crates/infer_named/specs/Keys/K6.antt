@@ -2,8 +2,8 @@
 use Rattle.std.specs.Prelude.{List, [], ◌∷◌, codes, false, true}
 use Rattle.infer_named.specs.Key.{Key, key}
 use Rattle.infer_named.specs.Listed.{reading}
-use Rattle.infer_named.specs.Sets.{any-lead, leads-10, no-rows, rows-3g2-3gp-f4v-m4a-m4b-m4v-mov, rows-aac, rows-aifc, rows-aiff, rows-alz, rows-ape, rows-apk-jar-zip, rows-application-x-ole-storage, rows-application-x-ole-storage-pptx-zip, rows-application-x-ole-storage-xlsm-xlsx-zip, rows-ar, rows-asar, rows-avif, rows-awk, rows-bc, rows-bookmarks, rows-clj, rows-dsf, rows-elf-so, rows-eps, rows-escript, rows-exe, rows-ext2, rows-fbxtext, rows-hdf4, rows-hdf5, rows-heic, rows-heif, rows-html, rows-html-json-php-svg-txt-xhtml-xml, rows-html-rss-txt-xml, rows-html-sh-svg-txt-xhtml-xml, rows-html-txt-xhtml-xml, rows-ilbm, rows-j2c, rows-jar-zip, rows-jks, rows-jl, rows-jp2, rows-jph-jpm-jpx-mj2, rows-json, rows-json-ndjson-txt, rows-json-plist-txt-xml, rows-kate-oga-ogm-ogv-ogx-opus-spx-vorbis, rows-ktx2, rows-lisp, rows-lua, rows-lz, rows-m4a, rows-m4b-m4v-mp4, rows-mach, rows-mbtiles, rows-meta4, rows-midi, rows-mk, rows-mkv, rows-mo, rows-mp3, rows-mp4, rows-mpg, rows-mtm, rows-odg-zip, rows-ogg, rows-otf, rows-otg, rows-p12, rows-parquet, rows-php, rows-php-svg-txt-xhtml-xml, rows-pl, rows-ps, rows-ps-sh-txt, rows-py, rows-pyc, rows-qml, rows-rar, rows-ras, rows-rb, rows-rkt, rows-scala, rows-sh, rows-sh-txt, rows-sqlite, rows-squashfs, rows-srt, rows-subviewer, rows-swf, rows-tar, rows-tres, rows-ttf, rows-txt, rows-txt-xml, rows-txt-yaml, rows-vsd, rows-webm, rows-xls, rows-yaml, rows-z, rows-zip, text-rows}
-use Rattle.infer_named.specs.Types.{is-application-brotli, is-application-cbor, is-application-dita-xml, is-application-font-sfnt-as-row-otf, is-application-graphql, is-application-hta, is-application-metalink4-xml, is-application-pkcs12, is-application-rdf-xml, is-application-relax-ng-compact-syntax, is-application-sql, is-application-tei-xml, is-application-vnd-apache-parquet, is-application-vnd-coffeescript, is-application-vnd-mbtiles, is-application-vnd-microsoft-portable-executable, is-application-vnd-mozilla-webapp-json, is-application-vnd-ms-excel, is-application-vnd-ms-excel-addin-macroenabled-12, is-application-vnd-oasis-opendocument-graphics-template, is-application-vnd-openxmlformats-officedocument-presentationml-slideshow, is-application-vnd-osm-xml, is-application-vnd-rar, is-application-vnd-snap, is-application-vnd-visio, is-application-vnd-wordperfect, is-application-x-alz, is-application-x-android-archive, is-application-x-apkm, is-application-x-asar, is-application-x-asp, is-application-x-avro-schema-json, is-application-x-cbt, is-application-x-cmi, is-application-x-dbus-gvdb, is-application-x-desktop, is-application-x-eclipse-xml, is-application-x-erb, is-application-x-ext-filesystem, is-application-x-fbx, is-application-x-genesis-rom, is-application-x-gettext-translation, is-application-x-godot-resource, is-application-x-grib, is-application-x-gschema-xml, is-application-x-hdf, is-application-x-hdf5, is-application-x-hwpx, is-application-x-hxml, is-application-x-java-enterprise-archive, is-application-x-java-keystore, is-application-x-jsa, is-application-x-jsonc, is-application-x-llvm, is-application-x-lzip, is-application-x-mach-binary, is-application-x-maya-binary, is-application-x-ms-registry-hive, is-application-x-msbuild-xml, is-application-x-mswinurl, is-application-x-osm-pbf, is-application-x-python-bytecode, is-application-x-python-pickle, is-application-x-quake-pak, is-application-x-quattropro, is-application-x-rust-rlib, is-application-x-shapefile-index, is-application-x-shockwave-flash, is-application-x-sketch, is-application-x-sketchup, is-application-x-stata-dta, is-application-x-sublime-syntax, is-application-x-subrip, is-application-x-swiftmodule, is-application-x-tarz, is-application-x-terraform-state-json, is-application-x-tex-pk, is-application-x-tex-tfm, is-application-x-theme-xml, is-application-x-urdf-xml, is-application-xproc-xml, is-application-xslt-xml, is-application-yaml, is-audio-aac, is-audio-m4a, is-audio-midi, is-audio-mpeg, is-audio-ogg-as-row-ogg, is-audio-x-aifc, is-audio-x-ape, is-audio-x-dsf, is-audio-x-mod, is-image-heif, is-image-jp2, is-image-ktx2, is-image-vnd-dxf, is-image-wmf, is-image-x-cmu-raster, is-image-x-dds, is-image-x-eps, is-image-x-ilbm, is-image-x-jp2-codestream, is-text-html, is-text-markdown, is-text-plain, is-text-troff, is-text-turtle, is-text-velocity, is-text-vnd-familysearch-gedcom, is-text-vnd-graphviz, is-text-x-adasrc, is-text-x-agda, is-text-x-apex, is-text-x-asm, is-text-x-awk, is-text-x-bc, is-text-x-c-src, is-text-x-chapel, is-text-x-checksums, is-text-x-chuck, is-text-x-clojure, is-text-x-common-lisp, is-text-x-coq, is-text-x-csharp, is-text-x-cython, is-text-x-dns-zone, is-text-x-dune, is-text-x-ebuild, is-text-x-editorconfig, is-text-x-eex, is-text-x-elm, is-text-x-erlang, is-text-x-fasta, is-text-x-forth, is-text-x-fortran, is-text-x-gap, is-text-x-gcode, is-text-x-gerber, is-text-x-gff, is-text-x-gitconfig, is-text-x-gitignore, is-text-x-haml, is-text-x-hcl, is-text-x-http, is-text-x-idris, is-text-x-igor, is-text-x-ini, is-text-x-java, is-text-x-jelly, is-text-x-jinja, is-text-x-julia, is-text-x-kaitai-struct, is-text-x-kotlin, is-text-x-lean, is-text-x-lua, is-text-x-makefile, is-text-x-matlab, is-text-x-mlir, is-text-x-moonscript, is-text-x-newick, is-text-x-nginx-conf, is-text-x-ninja, is-text-x-opencl-src, is-text-x-perl, is-text-x-php, is-text-x-pike, is-text-x-pod, is-text-x-python-as-row-py, is-text-x-qml, is-text-x-racket, is-text-x-razor, is-text-x-reject, is-text-x-rexx, is-text-x-ruby, is-text-x-scala, is-text-x-scilab, is-text-x-shell-config, is-text-x-shellscript, is-text-x-slim, is-text-x-stata, is-text-x-subviewer, is-text-x-supercollider, is-text-x-systemd-unit, is-text-x-textile, is-text-x-tsx, is-text-x-unity, is-text-x-vala, is-text-x-vim, is-text-x-xmi, is-text-x-yang, is-text-x-zig, is-video-mp4, is-video-mpeg, is-video-x-matroska}
+use Rattle.infer_named.specs.Sets.{any-lead, leads-10, no-rows, rows-3g2-3gp-f4v-m4a-m4b-m4v-mov, rows-aac, rows-aifc, rows-aiff, rows-alz, rows-ape, rows-apk-jar-zip, rows-application-x-ole-storage, rows-application-x-ole-storage-pptx-zip, rows-application-x-ole-storage-xlsm-xlsx-zip, rows-ar, rows-asar, rows-avif, rows-awk, rows-bc, rows-bookmarks, rows-clj, rows-dds, rows-dsf, rows-elf-so, rows-eps, rows-escript, rows-exe, rows-ext2, rows-fbx-fbxtext, rows-hdf4, rows-hdf5, rows-heic, rows-heif, rows-html, rows-html-json-php-svg-txt-xhtml-xml, rows-html-rss-txt-xml, rows-html-sh-svg-txt-xhtml-xml, rows-html-txt-xhtml-xml, rows-ilbm, rows-j2c, rows-jar-zip, rows-jks, rows-jl, rows-jp2, rows-jph-jpm-jpx-mj2, rows-json, rows-json-ndjson-txt, rows-json-plist-txt-xml, rows-kate-oga-ogm-ogv-ogx-opus-spx-vorbis, rows-ktx2, rows-lisp, rows-lua, rows-lz, rows-m4a, rows-m4b-m4v-mp4, rows-mach, rows-mbtiles, rows-meta4, rows-midi, rows-mk, rows-mkv, rows-mo, rows-mp3, rows-mp4, rows-mpg, rows-mtm, rows-odg-zip, rows-ogg, rows-otf, rows-otg, rows-p12, rows-parquet, rows-php, rows-php-svg-txt-xhtml-xml, rows-pl, rows-ps, rows-ps-sh-txt, rows-py, rows-pyc, rows-qml, rows-rar, rows-ras, rows-rb, rows-rkt, rows-scala, rows-sh, rows-sh-txt, rows-sqlite, rows-squashfs, rows-srt, rows-subviewer, rows-swf, rows-tar, rows-tres, rows-ttf, rows-txt, rows-txt-xml, rows-txt-yaml, rows-vsd, rows-webm, rows-wmf, rows-xls, rows-yaml, rows-z, rows-zip, text-rows}
+use Rattle.infer_named.specs.Types.{is-application-brotli, is-application-cbor, is-application-dita-xml, is-application-font-sfnt-as-row-otf, is-application-graphql, is-application-hta, is-application-metalink4-xml, is-application-pkcs12, is-application-rdf-xml, is-application-relax-ng-compact-syntax, is-application-sql, is-application-tei-xml, is-application-vnd-apache-parquet, is-application-vnd-coffeescript, is-application-vnd-mbtiles, is-application-vnd-microsoft-portable-executable, is-application-vnd-mozilla-webapp-json, is-application-vnd-ms-excel, is-application-vnd-ms-excel-addin-macroenabled-12, is-application-vnd-oasis-opendocument-graphics-template, is-application-vnd-openxmlformats-officedocument-presentationml-slideshow, is-application-vnd-osm-xml, is-application-vnd-rar, is-application-vnd-snap, is-application-vnd-visio, is-application-vnd-wordperfect, is-application-x-alz, is-application-x-android-archive, is-application-x-apkm, is-application-x-asar, is-application-x-asp, is-application-x-avro-schema-json, is-application-x-cbt, is-application-x-cmi, is-application-x-dbus-gvdb, is-application-x-desktop, is-application-x-eclipse-xml, is-application-x-erb, is-application-x-ext-filesystem, is-application-x-fbx, is-application-x-genesis-rom, is-application-x-gettext-translation, is-application-x-godot-resource, is-application-x-grib, is-application-x-gschema-xml, is-application-x-hdf, is-application-x-hdf5, is-application-x-hwpx, is-application-x-hxml, is-application-x-java-enterprise-archive, is-application-x-java-keystore, is-application-x-jsa, is-application-x-jsonc, is-application-x-llvm, is-application-x-lzip, is-application-x-mach-binary, is-application-x-maya-binary, is-application-x-ms-registry-hive, is-application-x-msbuild-xml, is-application-x-mswinurl, is-application-x-osm-pbf, is-application-x-python-bytecode, is-application-x-python-pickle, is-application-x-quake-pak, is-application-x-quattropro, is-application-x-rust-rlib, is-application-x-shapefile-index, is-application-x-shockwave-flash, is-application-x-sketch, is-application-x-sketchup, is-application-x-stata-dta, is-application-x-sublime-syntax, is-application-x-subrip, is-application-x-swiftmodule, is-application-x-tarz, is-application-x-terraform-state-json, is-application-x-tex-pk, is-application-x-tex-tfm, is-application-x-theme-xml, is-application-x-urdf-xml, is-application-xproc-xml, is-application-xslt-xml, is-application-yaml, is-audio-aac, is-audio-m4a, is-audio-midi, is-audio-mpeg, is-audio-ogg-as-row-ogg, is-audio-x-aifc, is-audio-x-ape, is-audio-x-dsf, is-audio-x-mod, is-image-heif, is-image-jp2, is-image-ktx2, is-image-vnd-dxf, is-image-vnd-ms-dds, is-image-wmf, is-image-x-cmu-raster, is-image-x-eps, is-image-x-ilbm, is-image-x-jp2-codestream, is-text-html, is-text-markdown, is-text-plain, is-text-troff, is-text-turtle, is-text-velocity, is-text-vnd-familysearch-gedcom, is-text-vnd-graphviz, is-text-x-adasrc, is-text-x-agda, is-text-x-apex, is-text-x-asm, is-text-x-awk, is-text-x-bc, is-text-x-c-src, is-text-x-chapel, is-text-x-checksums, is-text-x-chuck, is-text-x-clojure, is-text-x-common-lisp, is-text-x-coq, is-text-x-csharp, is-text-x-cython, is-text-x-dns-zone, is-text-x-dune, is-text-x-ebuild, is-text-x-editorconfig, is-text-x-eex, is-text-x-elm, is-text-x-erlang, is-text-x-fasta, is-text-x-forth, is-text-x-fortran, is-text-x-gap, is-text-x-gcode, is-text-x-gerber, is-text-x-gff, is-text-x-gitconfig, is-text-x-gitignore, is-text-x-haml, is-text-x-hcl, is-text-x-http, is-text-x-idris, is-text-x-igor, is-text-x-ini, is-text-x-java, is-text-x-jelly, is-text-x-jinja, is-text-x-julia, is-text-x-kaitai-struct, is-text-x-kotlin, is-text-x-lean, is-text-x-lua, is-text-x-makefile, is-text-x-matlab, is-text-x-mlir, is-text-x-moonscript, is-text-x-newick, is-text-x-nginx-conf, is-text-x-ninja, is-text-x-opencl-src, is-text-x-perl, is-text-x-php, is-text-x-pike, is-text-x-pod, is-text-x-python-as-row-py, is-text-x-qml, is-text-x-racket, is-text-x-razor, is-text-x-reject, is-text-x-rexx, is-text-x-ruby, is-text-x-scala, is-text-x-scilab, is-text-x-shell-config, is-text-x-shellscript, is-text-x-slim, is-text-x-stata, is-text-x-subviewer, is-text-x-supercollider, is-text-x-systemd-unit, is-text-x-textile, is-text-x-tsx, is-text-x-unity, is-text-x-vala, is-text-x-vim, is-text-x-xmi, is-text-x-yang, is-text-x-zig, is-video-mp4, is-video-mpeg, is-video-x-matroska}
 use Rattle.infer_named.specs.declared.table.Asks.TheVariants.{Bytes, Signature, Text}
 use Rattle.infer_named.specs.declared.table.Part.TheVariants.{Extension, Whole}
 
@@ -75,9 +75,9 @@ keys =
     ∷ key Extension (codes "parquet") false (reading is-application-vnd-apache-parquet Signature rows-parquet no-rows no-rows any-lead ∷ [])
     ∷ key Extension (codes "avpr") false (reading is-application-x-avro-schema-json Text no-rows rows-json no-rows any-lead ∷ [])
     ∷ key Whole (codes ".cproject") false (reading is-application-x-eclipse-xml Text no-rows rows-html-txt-xhtml-xml no-rows leads-10 ∷ [])
+    ∷ key Extension (codes "dds") false (reading is-image-vnd-ms-dds Bytes rows-dds no-rows no-rows any-lead ∷ [])
     ∷ key Extension (codes "html") false (reading is-text-html Text rows-html rows-php-svg-txt-xhtml-xml rows-bookmarks any-lead ∷ [])
     ∷ key Extension (codes "mpga") false (reading is-audio-mpeg Bytes rows-mp3 no-rows no-rows any-lead ∷ [])
-    ∷ key Extension (codes "dds") false (reading is-image-x-dds Bytes no-rows no-rows no-rows any-lead ∷ [])
     ∷ key Extension (codes "hta") false (reading is-application-hta Text no-rows rows-html-json-php-svg-txt-xhtml-xml no-rows any-lead ∷ [])
     ∷ key Extension (codes "vtl") false (reading is-text-velocity Text no-rows rows-html-json-php-svg-txt-xhtml-xml no-rows any-lead ∷ [])
     ∷ key Extension (codes "haml") false (reading is-text-x-haml Text no-rows rows-txt no-rows any-lead ∷ [])
@@ -118,10 +118,10 @@ keys =
     ∷ key Extension (codes "md") false (reading is-text-markdown Text no-rows rows-html-json-php-svg-txt-xhtml-xml no-rows any-lead ∷ [])
     ∷ key Extension (codes "br") false (reading is-application-brotli Bytes no-rows no-rows no-rows any-lead ∷ [])
     ∷ key Extension (codes "ms") true (reading is-text-plain Text rows-txt no-rows text-rows any-lead ∷ [])
+    ∷ key Extension (codes "fbx") false (reading is-application-x-fbx Bytes rows-fbx-fbxtext rows-txt no-rows any-lead ∷ [])
     ∷ key Extension (codes "dist") false (reading is-text-plain Text rows-txt no-rows text-rows any-lead ∷ [])
     ∷ key Extension (codes "rake") false (reading is-text-x-ruby Text rows-rb rows-sh-txt no-rows any-lead ∷ [])
     ∷ key Extension (codes "slim") false (reading is-text-x-slim Text no-rows rows-txt no-rows any-lead ∷ [])
-    ∷ key Extension (codes "fbx") false (reading is-application-x-fbx Bytes rows-fbxtext rows-txt no-rows any-lead ∷ [])
     ∷ key Extension (codes "gschema") false (reading is-application-x-gschema-xml Text no-rows rows-html-txt-xhtml-xml no-rows leads-10 ∷ [])
     ∷ key Extension (codes "rdfs") false (reading is-application-rdf-xml Text no-rows rows-html-rss-txt-xml no-rows leads-10 ∷ [])
     ∷ key Extension (codes "skp") false (reading is-application-x-sketchup Bytes no-rows no-rows no-rows any-lead ∷ [])
@@ -141,8 +141,8 @@ keys =
     ∷ key Extension (codes "fth") false (reading is-text-x-forth Text no-rows rows-sh-txt no-rows any-lead ∷ [])
     ∷ key Extension (codes "g") false (reading is-text-plain Text rows-txt no-rows text-rows any-lead ∷ [])
     ∷ key Extension (codes "dsf") false (reading is-audio-x-dsf Signature rows-dsf no-rows no-rows any-lead ∷ [])
+    ∷ key Extension (codes "wmf") false (reading is-image-wmf Bytes rows-wmf no-rows no-rows any-lead ∷ [])
     ∷ key Extension (codes "ged") false (reading is-text-vnd-familysearch-gedcom Text no-rows rows-txt no-rows any-lead ∷ [])
-    ∷ key Extension (codes "wmf") false (reading is-image-wmf Bytes no-rows no-rows no-rows any-lead ∷ [])
     ∷ key Extension (codes "a51") false (reading is-text-x-asm Text no-rows rows-txt no-rows any-lead ∷ [])
     ∷ key Extension (codes "hcl") false (reading is-text-x-hcl Text no-rows rows-txt no-rows any-lead ∷ [])
     ∷ key Extension (codes "hwpx") false (reading is-application-x-hwpx Bytes no-rows rows-zip no-rows any-lead ∷ [])

@@ -2,8 +2,8 @@
 use Rattle.std.specs.Prelude.{List, [], ◌∷◌, codes, false, true}
 use Rattle.infer_named.specs.Key.{Key, key}
 use Rattle.infer_named.specs.Listed.{reading}
-use Rattle.infer_named.specs.Sets.{any-lead, leads-10, leads-12, no-rows, rows-3mf-apk-application-vnd-apple-keynote-chrt-docx-epub-fbz-fcstd-flw-iwa-jar-karbon-kfo-kmz-kon-kpr-kra-ksp-kwd-mscz-odb-odc-odf-odg-odi-odp-ods-odt-ora-otg-otp-ots-ott-pkpass-pptx-qgz-sxc-sxd-sxi-sxm-sxw-vsdx-xap-xlsx, rows-aifc, rows-aiff, rows-application-x-ole-storage, rows-application-x-ole-storage-xlsx-zip, rows-ar, rows-arrow, rows-asc, rows-au, rows-bplist, rows-cer, rows-clj, rows-dcm, rows-deb, rows-der-application-x-pem-key-pem, rows-der-pem-txt, rows-dng, rows-docm, rows-docx-application-x-ole-storage-zip, rows-exe, rows-exr, rows-exs, rows-ext2, rows-fb2, rows-flac, rows-gjs-js, rows-gnuplot, rows-gtkbuilder, rows-gz, rows-hs, rows-html-json-php-svg-txt-xhtml-xml, rows-html-sh-svg-txt-xhtml-xml, rows-html-txt-xhtml-xml, rows-html-txt-xml, rows-icns, rows-jar, rows-jar-zip, rows-jks, rows-jls, rows-jpg, rows-json, rows-json-ndjson-txt, rows-json-plist-txt-xml, rows-json-sh-txt, rows-jxr, rows-lisp, rows-lwp, rows-lz4, rows-lzh, rows-lzma, rows-lzo, rows-mdb, rows-mk, rows-mkv, rows-mml, rows-mng, rows-mo, rows-mobi, rows-mp3, rows-msg, rows-mxf, rows-nft, rows-o, rows-obj, rows-odm, rows-otf, rows-p7b-p7c, rows-p8, rows-pem, rows-pfb, rows-pgp, rows-php, rows-pl, rows-plist-txt-xml, rows-pnm, rows-ppt, rows-ps-sh-txt, rows-ps-txt, rows-ps1, rows-py, rows-qml, rows-raf, rows-raku, rows-rb, rows-rm, rows-rss, rows-rw2, rows-sh-txt, rows-sig, rows-ssa, rows-tif, rows-tnef, rows-ttf, rows-txt, rows-txt-xml, rows-txt-yaml, rows-vsd, rows-wad, rows-webm, rows-wiiwad, rows-wim, rows-wmv, rows-xlsm, rows-xwd, rows-xz, rows-yaml, rows-zip, rows-zst, text-rows}
-use Rattle.infer_named.specs.Types.{is-application-ccxml-xml, is-application-dicom, is-application-font-sfnt-as-row-ttf, is-application-java-archive, is-application-mathml-xml, is-application-mxf, is-application-pgp-encrypted, is-application-pgp-keys-as-row-asc, is-application-pgp-signature, is-application-pkcs7-mime, is-application-pkcs8, is-application-pkix-cert, is-application-rss-xml, is-application-sarif-json, is-application-sql, is-application-srgs-xml, is-application-vnd-apache-arrow-file, is-application-vnd-debian-binary-package, is-application-vnd-las, is-application-vnd-lotus-wordpro, is-application-vnd-microsoft-portable-executable, is-application-vnd-ms-excel-sheet-macroenabled-12, is-application-vnd-ms-outlook, is-application-vnd-ms-powerpoint, is-application-vnd-ms-tnef, is-application-vnd-ms-word-document-macroenabled-12, is-application-vnd-ms-works, is-application-vnd-nintendo-snes-rom, is-application-vnd-oasis-opendocument-text-master, is-application-vnd-oasis-opendocument-text-web, is-application-vnd-recordare-musicxml-xml, is-application-vnd-rn-realmedia, is-application-vnd-visio, is-application-x-appdata-xml, is-application-x-avro-schema-json, is-application-x-bplist, is-application-x-designer, is-application-x-device-tree-blob, is-application-x-doom-wad, is-application-x-entitlements, is-application-x-executable-as-row-obj, is-application-x-ext-filesystem, is-application-x-fictionbook-xml, is-application-x-font-type1, is-application-x-gettext-translation, is-application-x-gnuplot, is-application-x-grib, is-application-x-gtk-builder, is-application-x-haskell-interface, is-application-x-java-keystore, is-application-x-java-web-archive, is-application-x-jsp, is-application-x-keepass2, is-application-x-lottie-json, is-application-x-lz4, is-application-x-lzh-compressed, is-application-x-lzma, is-application-x-lzop, is-application-x-magic-database, is-application-x-mobipocket-ebook, is-application-x-ms-wim, is-application-x-msaccess-as-row-mdb, is-application-x-msbuild-xml, is-application-x-mxml, is-application-x-nuspec-xml, is-application-x-object, is-application-x-perf-data, is-application-x-powershell, is-application-x-ps1xml, is-application-x-pytorch, is-application-x-qgis-project, is-application-x-setupscript, is-application-x-storyboard-xml, is-application-x-stuffit, is-application-x-theme, is-application-x-theme-xml, is-application-x-virtualbox-saved-state, is-application-x-wii-wad, is-application-x-xz-compressed-tar, is-application-x-zcml, is-application-x-zoo, is-application-xquery, is-application-yaml, is-application-zip, is-application-zstd, is-audio-basic, is-audio-mpeg, is-audio-x-aiff, is-audio-x-flac, is-audio-x-mod, is-chemical-x-cdx, is-image-geotiff, is-image-jpeg, is-image-svg-xml-compressed, is-image-vnd-ms-photo, is-image-x-adobe-dng, is-image-x-exr, is-image-x-fuji-raf, is-image-x-icns, is-image-x-nikon-nrw, is-image-x-olympus-orf, is-image-x-panasonic-rw2, is-image-x-portable-pixmap, is-image-x-sony-arw, is-image-x-sony-srf, is-image-x-xwindowdump, is-model-gltf-json, is-model-obj, is-model-x3d-xml, is-text-cache-manifest, is-text-javascript, is-text-markdown, is-text-plain, is-text-rust, is-text-troff, is-text-x-adasrc, is-text-x-apacheconf, is-text-x-asciidoc, is-text-x-c-hdr, is-text-x-c-src, is-text-x-cfm, is-text-x-checksums, is-text-x-clojure, is-text-x-common-lisp, is-text-x-component, is-text-x-creole, is-text-x-ebuild, is-text-x-elixir, is-text-x-fasta, is-text-x-fontforge-sfd, is-text-x-fsharp, is-text-x-gerber, is-text-x-gettext-translation-template, is-text-x-gff, is-text-x-gitattributes, is-text-x-gitignore, is-text-x-glsl, is-text-x-gomod, is-text-x-handlebars, is-text-x-haskell, is-text-x-haxe, is-text-x-hlsl, is-text-x-hunspell-affix, is-text-x-imagej, is-text-x-ini, is-text-x-innosetup, is-text-x-ipxe, is-text-x-jinja, is-text-x-just, is-text-x-latte, is-text-x-lex, is-text-x-logtalk, is-text-x-makefile, is-text-x-mediawiki, is-text-x-modelica, is-text-x-modula, is-text-x-mojo, is-text-x-nextflow, is-text-x-nftables, is-text-x-nushell, is-text-x-odin, is-text-x-opencl-src, is-text-x-patch, is-text-x-perl, is-text-x-php, is-text-x-pony, is-text-x-postcss, is-text-x-prolog, is-text-x-python-as-row-py, is-text-x-qml, is-text-x-r-doc, is-text-x-raku, is-text-x-readline, is-text-x-rego, is-text-x-ruby, is-text-x-scons, is-text-x-selinux, is-text-x-shell-config, is-text-x-smt, is-text-x-spin, is-text-x-squirrel, is-text-x-ssa, is-text-x-starlark, is-text-x-stata, is-text-x-systemd-unit, is-text-x-template-toolkit, is-text-x-tex, is-text-x-textproto, is-text-x-typescript, is-text-x-unity, is-text-x-vagrantfile, is-text-x-vala, is-text-x-vb, is-text-x-yacc, is-text-x-zig, is-text-x-zimpl, is-video-webm, is-video-x-mng, is-video-x-ms-wmv}
+use Rattle.infer_named.specs.Sets.{any-lead, leads-10, leads-12, no-rows, rows-3mf-apk-application-vnd-apple-keynote-chrt-docx-epub-fbz-fcstd-flw-iwa-jar-karbon-kfo-kmz-kon-kpr-kra-ksp-kwd-mscz-odb-odc-odf-odg-odi-odp-ods-odt-ora-otg-otp-ots-ott-pkpass-pptx-qgz-sxc-sxd-sxi-sxm-sxw-vsdx-xap-xlsx, rows-aifc, rows-aiff, rows-application-x-ole-storage, rows-application-x-ole-storage-xlsx-zip, rows-ar, rows-arrow, rows-asc, rows-au, rows-bplist, rows-cer, rows-clj, rows-dcm, rows-deb, rows-der-application-x-pem-key-pem, rows-der-pem-txt, rows-dng, rows-docm, rows-docx-application-x-ole-storage-zip, rows-exe, rows-exr, rows-exs, rows-ext2, rows-fb2, rows-flac, rows-gjs-js, rows-gnuplot, rows-gtkbuilder, rows-gz, rows-hs, rows-html-json-php-svg-txt-xhtml-xml, rows-html-sh-svg-txt-xhtml-xml, rows-html-txt-xhtml-xml, rows-html-txt-xml, rows-icns, rows-jar, rows-jar-zip, rows-jks, rows-jls, rows-jpg, rows-json, rows-json-ndjson-txt, rows-json-plist-txt-xml, rows-json-sh-txt, rows-jxr, rows-laz, rows-lisp, rows-lwp, rows-lz4, rows-lzh, rows-lzma, rows-lzo, rows-mdb, rows-mk, rows-mkv, rows-mml, rows-mng, rows-mo, rows-mobi, rows-mp3, rows-msg, rows-mxf, rows-nft, rows-nut, rows-o, rows-obj, rows-odm, rows-orf, rows-otf, rows-p7b-p7c, rows-p8, rows-pem, rows-pfb, rows-pgp, rows-php, rows-pl, rows-plist-txt-xml, rows-pnm, rows-ppt, rows-ps-sh-txt, rows-ps-txt, rows-ps1, rows-py, rows-qml, rows-raf, rows-raku, rows-rb, rows-rm, rows-rss, rows-rw2, rows-sh-txt, rows-sig, rows-spc, rows-ssa, rows-tif, rows-tnef, rows-ttf, rows-txt, rows-txt-xml, rows-txt-yaml, rows-ult, rows-vsd, rows-wad, rows-webm, rows-wiiwad, rows-wim, rows-wmv, rows-xlsm, rows-xwd, rows-xz, rows-yaml, rows-zip, rows-zst, text-rows}
+use Rattle.infer_named.specs.Types.{is-application-ccxml-xml, is-application-dicom, is-application-font-sfnt-as-row-ttf, is-application-java-archive, is-application-mathml-xml, is-application-mxf, is-application-pgp-encrypted, is-application-pgp-keys-as-row-asc, is-application-pgp-signature, is-application-pkcs7-mime, is-application-pkcs8, is-application-pkix-cert, is-application-rss-xml, is-application-sarif-json, is-application-sql, is-application-srgs-xml, is-application-vnd-apache-arrow-file, is-application-vnd-debian-binary-package, is-application-vnd-laszip, is-application-vnd-lotus-wordpro, is-application-vnd-microsoft-portable-executable, is-application-vnd-ms-excel-sheet-macroenabled-12, is-application-vnd-ms-outlook, is-application-vnd-ms-powerpoint, is-application-vnd-ms-tnef, is-application-vnd-ms-word-document-macroenabled-12, is-application-vnd-ms-works, is-application-vnd-nintendo-snes-rom, is-application-vnd-oasis-opendocument-text-master, is-application-vnd-oasis-opendocument-text-web, is-application-vnd-recordare-musicxml-xml, is-application-vnd-rn-realmedia, is-application-vnd-visio, is-application-x-appdata-xml, is-application-x-avro-schema-json, is-application-x-bplist, is-application-x-designer, is-application-x-device-tree-blob, is-application-x-doom-wad, is-application-x-entitlements, is-application-x-executable-as-row-obj, is-application-x-ext-filesystem, is-application-x-fictionbook-xml, is-application-x-font-type1, is-application-x-gettext-translation, is-application-x-gnuplot, is-application-x-grib, is-application-x-gtk-builder, is-application-x-haskell-interface, is-application-x-java-keystore, is-application-x-java-web-archive, is-application-x-jsp, is-application-x-keepass2, is-application-x-lottie-json, is-application-x-lz4, is-application-x-lzh-compressed, is-application-x-lzma, is-application-x-lzop, is-application-x-magic-database, is-application-x-mobipocket-ebook, is-application-x-ms-wim, is-application-x-msaccess-as-row-mdb, is-application-x-msbuild-xml, is-application-x-mxml, is-application-x-nuspec-xml, is-application-x-object, is-application-x-perf-data, is-application-x-powershell, is-application-x-ps1xml, is-application-x-pytorch, is-application-x-qgis-project, is-application-x-setupscript, is-application-x-storyboard-xml, is-application-x-stuffit, is-application-x-theme, is-application-x-theme-xml, is-application-x-virtualbox-saved-state, is-application-x-wii-wad, is-application-x-xz-compressed-tar, is-application-x-zcml, is-application-x-zoo, is-application-xquery, is-application-yaml, is-application-zip, is-application-zstd, is-audio-basic, is-audio-mpeg, is-audio-x-aiff, is-audio-x-flac, is-audio-x-spc, is-audio-x-ult, is-chemical-x-cdx, is-image-geotiff, is-image-jpeg, is-image-svg-xml-compressed, is-image-vnd-ms-photo, is-image-x-adobe-dng, is-image-x-exr, is-image-x-fuji-raf, is-image-x-icns, is-image-x-nikon-nrw, is-image-x-olympus-orf, is-image-x-panasonic-rw2, is-image-x-portable-pixmap, is-image-x-sony-arw, is-image-x-sony-srf, is-image-x-xwindowdump, is-model-gltf-json, is-model-obj, is-model-x3d-xml, is-text-cache-manifest, is-text-javascript, is-text-markdown, is-text-plain, is-text-rust, is-text-troff, is-text-x-adasrc, is-text-x-apacheconf, is-text-x-asciidoc, is-text-x-c-hdr, is-text-x-c-src, is-text-x-cfm, is-text-x-checksums, is-text-x-clojure, is-text-x-common-lisp, is-text-x-component, is-text-x-creole, is-text-x-ebuild, is-text-x-elixir, is-text-x-fasta, is-text-x-fontforge-sfd, is-text-x-fsharp, is-text-x-gerber, is-text-x-gettext-translation-template, is-text-x-gff, is-text-x-gitattributes, is-text-x-gitignore, is-text-x-glsl, is-text-x-gomod, is-text-x-handlebars, is-text-x-haskell, is-text-x-haxe, is-text-x-hlsl, is-text-x-hunspell-affix, is-text-x-imagej, is-text-x-ini, is-text-x-innosetup, is-text-x-ipxe, is-text-x-jinja, is-text-x-just, is-text-x-latte, is-text-x-lex, is-text-x-logtalk, is-text-x-makefile, is-text-x-mediawiki, is-text-x-modelica, is-text-x-modula, is-text-x-mojo, is-text-x-nextflow, is-text-x-nftables, is-text-x-nushell, is-text-x-odin, is-text-x-opencl-src, is-text-x-patch, is-text-x-perl, is-text-x-php, is-text-x-pony, is-text-x-postcss, is-text-x-prolog, is-text-x-python-as-row-py, is-text-x-qml, is-text-x-r-doc, is-text-x-raku, is-text-x-readline, is-text-x-rego, is-text-x-ruby, is-text-x-scons, is-text-x-selinux, is-text-x-shell-config, is-text-x-smt, is-text-x-spin, is-text-x-squirrel, is-text-x-ssa, is-text-x-starlark, is-text-x-stata, is-text-x-systemd-unit, is-text-x-template-toolkit, is-text-x-tex, is-text-x-textproto, is-text-x-typescript, is-text-x-unity, is-text-x-vagrantfile, is-text-x-vala, is-text-x-vb, is-text-x-yacc, is-text-x-zig, is-text-x-zimpl, is-video-webm, is-video-x-mng, is-video-x-ms-wmv, is-video-x-nut}
 use Rattle.infer_named.specs.declared.table.Asks.TheVariants.{Bytes, Signature, Text}
 use Rattle.infer_named.specs.declared.table.Part.TheVariants.{Extension, Whole}
 
@@ -15,7 +15,7 @@ keys =
     ∷ key Extension (codes "exr") false (reading is-image-x-exr Bytes rows-exr no-rows no-rows any-lead ∷ [])
     ∷ key Extension (codes "mde") false (reading is-application-x-msaccess-as-row-mdb Signature rows-mdb no-rows no-rows any-lead ∷ [])
     ∷ key Extension (codes "mxf") false (reading is-application-mxf Bytes rows-mxf no-rows no-rows any-lead ∷ [])
-    ∷ key Extension (codes "spc") false (reading is-application-pkcs7-mime Bytes rows-p7b-p7c rows-pem no-rows any-lead ∷ [])
+    ∷ key Extension (codes "spc") false (reading is-application-pkcs7-mime Bytes rows-p7b-p7c rows-pem no-rows any-lead ∷ reading is-audio-x-spc Bytes rows-spc no-rows no-rows any-lead ∷ [])
     ∷ key Extension (codes "vba") false (reading is-text-x-vb Text no-rows rows-txt no-rows any-lead ∷ [])
     ∷ key Extension (codes "spin") false (reading is-text-x-spin Text no-rows rows-txt no-rows any-lead ∷ [])
     ∷ key Extension (codes "nib") false (reading is-application-x-bplist Signature rows-bplist no-rows no-rows any-lead ∷ reading is-application-x-storyboard-xml Text no-rows rows-html-txt-xhtml-xml no-rows leads-10 ∷ [])
@@ -54,7 +54,7 @@ keys =
     ∷ key Extension (codes "odm") false (reading is-application-vnd-oasis-opendocument-text-master Signature rows-odm rows-zip no-rows any-lead ∷ [])
     ∷ key Extension (codes "adb") false (reading is-text-x-adasrc Text no-rows rows-txt no-rows any-lead ∷ [])
     ∷ key Extension (codes "cts") false (reading is-text-x-typescript Text no-rows rows-sh-txt no-rows any-lead ∷ [])
-    ∷ key Extension (codes "nut") false (reading is-text-x-squirrel Text no-rows rows-sh-txt no-rows any-lead ∷ [])
+    ∷ key Extension (codes "nut") false (reading is-text-x-squirrel Text no-rows rows-sh-txt no-rows any-lead ∷ reading is-video-x-nut Bytes rows-nut no-rows no-rows any-lead ∷ [])
     ∷ key Extension (codes "ttf") false (reading is-application-font-sfnt-as-row-ttf Bytes rows-ttf no-rows rows-otf any-lead ∷ [])
     ∷ key Extension (codes "ins") false (reading is-text-x-tex Text no-rows rows-ps-txt no-rows any-lead ∷ [])
     ∷ key Extension (codes "postcss") false (reading is-text-x-postcss Text no-rows rows-txt no-rows any-lead ∷ [])
@@ -113,8 +113,8 @@ keys =
     ∷ key Extension (codes "m3") false (reading is-text-x-modula Text no-rows rows-txt no-rows any-lead ∷ [])
     ∷ key Whole (codes "sconscript") false (reading is-text-x-scons Text no-rows rows-txt no-rows any-lead ∷ [])
     ∷ key Whole (codes "vagrantfile") false (reading is-text-x-vagrantfile Text no-rows rows-txt no-rows any-lead ∷ [])
+    ∷ key Extension (codes "laz") false (reading is-application-vnd-laszip Bytes rows-laz no-rows no-rows any-lead ∷ [])
     ∷ key Extension (codes "ext4") false (reading is-application-x-ext-filesystem Bytes rows-ext2 no-rows no-rows any-lead ∷ [])
-    ∷ key Extension (codes "laz") false (reading is-application-vnd-las Bytes no-rows no-rows no-rows any-lead ∷ [])
     ∷ key Extension (codes "fasta") false (reading is-text-x-fasta Text no-rows rows-txt no-rows any-lead ∷ [])
     ∷ key Extension (codes "cjs") false (reading is-text-javascript Text rows-gjs-js rows-json-sh-txt no-rows any-lead ∷ [])
     ∷ key Extension (codes "flac") false (reading is-audio-x-flac Signature rows-flac no-rows no-rows any-lead ∷ [])
@@ -138,7 +138,7 @@ keys =
     ∷ key Extension (codes "wmv") false (reading is-video-x-ms-wmv Signature rows-wmv no-rows no-rows any-lead ∷ [])
     ∷ key Extension (codes "vb") true (reading is-text-x-vb Text no-rows rows-txt no-rows any-lead ∷ [])
     ∷ key Extension (codes "exs") false (reading is-text-x-elixir Text rows-exs rows-sh-txt no-rows any-lead ∷ [])
-    ∷ key Extension (codes "ult") false (reading is-audio-x-mod Bytes no-rows no-rows no-rows any-lead ∷ [])
+    ∷ key Extension (codes "ult") false (reading is-audio-x-ult Bytes rows-ult no-rows no-rows any-lead ∷ [])
     ∷ key Extension (codes "fna") false (reading is-text-x-fasta Text no-rows rows-txt no-rows any-lead ∷ [])
     ∷ key Extension (codes "pyt") false (reading is-text-x-python-as-row-py Text rows-py rows-json-sh-txt no-rows any-lead ∷ [])
     ∷ key Whole (codes ".xsession") false (reading is-text-x-shell-config Text no-rows rows-sh-txt no-rows any-lead ∷ [])
@@ -161,9 +161,9 @@ keys =
     ∷ key Extension (codes "rd") false (reading is-text-x-r-doc Text no-rows rows-txt no-rows any-lead ∷ [])
     ∷ key Extension (codes "hlsli") false (reading is-text-x-hlsl Text no-rows rows-txt no-rows any-lead ∷ [])
     ∷ key Whole (codes ".htaccess") false (reading is-text-x-apacheconf Text no-rows rows-txt no-rows any-lead ∷ [])
+    ∷ key Extension (codes "orf") false (reading is-image-x-olympus-orf Bytes rows-orf no-rows no-rows any-lead ∷ [])
     ∷ key Extension (codes "tnef") false (reading is-application-vnd-ms-tnef Bytes rows-tnef no-rows no-rows any-lead ∷ [])
     ∷ key Extension (codes "rs") false (reading is-text-rust Text no-rows rows-sh-txt no-rows any-lead ∷ [])
-    ∷ key Extension (codes "orf") false (reading is-image-x-olympus-orf Bytes no-rows no-rows no-rows any-lead ∷ [])
     ∷ key Extension (codes "rss") false (reading is-application-rss-xml Text rows-rss rows-html-txt-xml no-rows leads-10 ∷ [])
     ∷ key Extension (codes "mathml") false (reading is-application-mathml-xml Text rows-mml rows-html-txt-xhtml-xml no-rows leads-10 ∷ [])
     ∷ key Extension (codes "kdbx") false (reading is-application-x-keepass2 Bytes no-rows no-rows no-rows any-lead ∷ [])

@@ -425,7 +425,7 @@ fn part_3(rt: HostRuntime) -> Result<(), Fail> {
         b"x.g" b"bell \x07 rings\n" NameAlone "text/plain";
         b".h.sjs" b"a\0b" Contradicts "";
         b".h.cuh" b"" NameAlone "text/x-cuda";
-        b"A.qoi" b"\xDE\xAD\0\xBE\xEF" NameAlone "image/qoi";
+        b"A.qoi" b"\xDE\xAD\0\xBE\xEF" NameAlone "image/x-qoi";
         b".h.npy" b"a\0b" Contradicts "";
         b"A.ttc" b"bell \x07 rings\n" Contradicts "";
         b"v1.0.zpl" b"\x01\x02\x03\x04\x05\x06\x07\x08\t\n\x0B\x0C\r\x0E\x0F\x10\x11\x12\x13\x14\x15\x16\x17\x18\x19\x1A\x1B\x1C\x1D" NameAlone "text/x-zimpl";

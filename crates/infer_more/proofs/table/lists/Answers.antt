@@ -35,6 +35,10 @@ returns-clause-listed c =
       c.rows-26.ensures.listed,
       c.rows-27.ensures.listed,
       c.rows-28.ensures.listed,
+      c.rows-29.ensures.listed,
+      c.rows-30.ensures.listed,
+      c.rows-31.ensures.listed,
+      c.rows-32.ensures.listed,
     )
     refl
 
@@ -69,4 +73,8 @@ returns-clause-ended c =
     more _ _ c.rows-26.ensures.ended (
     more _ _ c.rows-27.ensures.ended (
     more _ _ c.rows-28.ensures.ended (
-    none)))))))))))))))))))))))))))))
+    more _ _ c.rows-29.ensures.ended (
+    more _ _ c.rows-30.ensures.ended (
+    more _ _ c.rows-31.ensures.ended (
+    more _ _ c.rows-32.ensures.ended (
+    none)))))))))))))))))))))))))))))))))
