@@ -8,6 +8,7 @@ use Rattle.std.specs.Prelude.{nat_le, nat_lt}
 use Rattle.std.specs.Str.{chars, is_utf8}
 use Rattle.infer_label.specs.Names.{IsSeen, byte_shown, char_shown, code_shown, hex_digit, high_shown, is_mark, is_obeyed, name_shown}
 use Rattle.infer_label.specs.declared.options.Form.{Form}
+use Rattle.infer_label.specs.declared.options.Form.TheVariants.{Json, Text}
 
 abbrev AreSeen : List ℕ → Type 0
 AreSeen xs = AllByRecursion IsSeen xs
@@ -37,8 +38,9 @@ slash_seen = (omega arith, λ e. absurd (omega arith))
 code_seen : (c : ℕ) → AreSeen (code_shown c)
 code_seen c = (slash_seen, ((omega arith, λ e. absurd (omega arith)), (digit_seen (c / 4096), (digit_seen (c / 256), (digit_seen (c / 16), (digit_seen c, tt))))))
 
-high_seen : (x : ℕ) → AreSeen (high_shown x)
-high_seen x = (slash_seen, ((omega arith, λ e. absurd (omega arith)), (digit_seen (x / 16), (digit_seen x, tt))))
+high_seen : (form : Form) (x : ℕ) → AreSeen (high_shown form x)
+high_seen Text x = (slash_seen, ((omega arith, λ e. absurd (omega arith)), (digit_seen (x / 16), (digit_seen x, tt))))
+high_seen Json x = code_seen x
 
 large : (n : ℕ) → 128 ≤ n → IsSeen n
 large n high = (omega arith, λ e. absurd (omega arith))
@@ -75,7 +77,7 @@ char_seen : (form : Form) (c : ℕ) → AreSeen (char_shown form c)
 char_seen form c = char_by (is_obeyed c) (is_mark form c) c (not_obeyed c)
 
 byte_seen : (form : Form) (x : ℕ) → AreSeen (byte_shown form x)
-byte_seen form x = one_of (nat_le 0x80 x) (high_shown x) (char_shown form x) (high_seen x) (char_seen form x)
+byte_seen form x = one_of (nat_le 0x80 x) (high_shown form x) (char_shown form x) (high_seen form x) (char_seen form x)
 
 pub name_seen : (form : Form) (name : List ℕ) → AreSeen (name_shown form name)
 name_seen form name =

@@ -1,6 +1,6 @@
 -- What is told of an input.
-use Rattle.std.specs.Prelude.{◌≡◌, ◌==◌, ℕ, Bool, false, true, List, Option, None, Some, MatchOption, length, option_map}
-use Rattle.std.specs.Option.{option_and_then}
+use Rattle.std.specs.Prelude.{◌≡◌, ◌==◌, ◌↔◌, ℕ, Any, Bool, false, true, IsTrue, List, Option, None, Some, MatchOption, length, option_map}
+use Rattle.std.specs.Option.{option_and_then, option_or}
 use Rattle.infer.specs.First.{IsAnswer}
 use Rattle.infer.specs.Row.{Accepts}
 use Rattle.infer.specs.Table.{table}
@@ -15,7 +15,9 @@ use Rattle.infer_named.specs.Named.{IsNamed, answer_of, key_of}
 use Rattle.infer_named.specs.declared.join.Named.{Named}
 use Rattle.infer_named.specs.declared.join.Standing.{Standing}
 use Rattle.infer_named.specs.declared.join.Standing.TheVariants.{Agree, BytesAlone, BytesRefine, Contradicts, NameAlone, NameRefines, Nothing}
-use Rattle.mime_sniff.specs.Computed.{IsComputed, Supply}
+use Rattle.mime_sniff.specs.Computed.{IsComputed, Supply, apache_bugs}
+use Rattle.mime_types.specs.Mime.{Mime}
+use Rattle.mime_types.specs.Parse.{Parsed}
 use Rattle.infer_label.specs.Options.{Options, OwnTypes, no_types, types_at, types_of}
 use Rattle.infer_label.specs.declared.label.Label as code
 use Rattle.infer_label.specs.declared.options.Look.{Look}
@@ -79,43 +81,57 @@ by_built_in t = by_bytes t None false
 abbrev pub IsLabelOf : Named → List ℕ → Label → Type 0
 IsLabelOf n b label = (encoding : Option Encoding) × IsEncodingOf b encoding × (label ≡ by_both (answer_of n) (type_of_name (key_of n)) encoding (is_empty b))
 
--- what a browser knows that was told no type, and the label by what it computes of b
-abbrev pub untold : Bool → Supply
-untold no_sniff = record { kind = None; no_sniff = no_sniff; apache_bug = false }
+-- what a browser knows that was told a content type, or none: the MIME type that it says, if it says one, and whether it is
+-- one that old servers send of every file
+abbrev pub IsSaid : Option (List ℕ) → Option Mime → Type 0
+IsSaid None said = said ≡ None
+IsSaid (Some t) said = (m : Mime) → (said ≡ Some m) ↔ Parsed t m
 
+abbrev pub IsOfOldServer : Option (List ℕ) → Type 0
+IsOfOldServer content_type = MatchOption content_type ⊥ (λ t. Any (λ bug. t ≡ bug) apache_bugs)
+
+pub record IsSupply (no_sniff : Bool) (content_type : Option (List ℕ)) (s : Supply) : Type 0 where
+  pub said : Option Mime
+  pub is_said : IsSaid content_type said
+  pub kind : s.kind ≡ option_map (λ m. m.kind) said
+  pub forbidden : s.no_sniff ≡ no_sniff
+  pub of_old_server : IsTrue s.apache_bug ↔ IsOfOldServer content_type
+
+-- the label by what it computes of b. Where the type stays it is told as it was given
 abbrev pub by_browser : Option (List ℕ) → Label
 by_browser told = record { mime_type = told; extension = None; encoding = None; is_empty = false; standing = None; named = None }
 
-abbrev pub IsLabelOfBrowser : Bool → List ℕ → Label → Type 0
-IsLabelOfBrowser no_sniff b label = (told : Option (List ℕ)) × IsComputed (untold no_sniff) b told × (label ≡ by_browser told)
+abbrev pub IsLabelOfBrowser : Bool → Option (List ℕ) → List ℕ → Label → Type 0
+IsLabelOfBrowser no_sniff content_type b label =
+    (s : Supply) × (told : Option (List ℕ)) × IsSupply no_sniff content_type s × IsComputed s b told × (label ≡ by_browser (option_or told content_type))
 
 -- the label of an input with this name, of which b is looked at: by what the name and b tell; by the wider answer of b; by
--- its first built-in row; or by what a browser makes of b
-abbrev pub IsLabelBy : Look → List ℕ → List ℕ → Label → Type 0
-IsLabelBy looks.NameAndBytes name b label = (n : Named) × IsNamed name b n × IsLabelOf n b label
-IsLabelBy looks.Bytes name b label =
+-- its first built-in row; or by what a browser makes of b, with the content type that it was told
+abbrev pub IsLabelBy : Look → Option (List ℕ) → List ℕ → List ℕ → Label → Type 0
+IsLabelBy looks.NameAndBytes told name b label = (n : Named) × IsNamed name b n × IsLabelOf n b label
+IsLabelBy looks.Bytes told name b label =
     (t : Option Triple) × (encoding : Option Encoding) × IsWiderAnswer b t × IsEncodingOf b encoding × (label ≡ by_bytes t encoding (is_empty b))
-IsLabelBy looks.BuiltIn name b label = (t : Option Triple) × IsAnswer (Accepts b) table t × (label ≡ by_built_in t)
-IsLabelBy looks.Browser name b label = IsLabelOfBrowser false b label
-IsLabelBy looks.BrowserForbidden name b label = IsLabelOfBrowser true b label
+IsLabelBy looks.BuiltIn told name b label = (t : Option Triple) × IsAnswer (Accepts b) table t × (label ≡ by_built_in t)
+IsLabelBy looks.Browser told name b label = IsLabelOfBrowser false told b label
+IsLabelBy looks.BrowserForbidden told name b label = IsLabelOfBrowser true told b label
 
 -- the label by a type of one's own, by the bytes alone
 abbrev pub IsLabelOfType : Triple → List ℕ → Label → Type 0
 IsLabelOfType t b label = (encoding : Option Encoding) × IsEncodingOf b encoding × (label ≡ by_bytes (Some t) encoding (is_empty b))
 
 -- the label by the rows of a text: that of the first which accepts the bytes, and else by what is looked at
-abbrev pub IsOwnLabel : List Row → Look → List ℕ → List ℕ → Label → Type 0
-IsOwnLabel rows look name b label =
-    (own : Option Triple) × IsOwnAnswer rows b own × MatchOption own (IsLabelBy look name b label) (λ t. IsLabelOfType t b label)
+abbrev pub IsOwnLabel : List Row → Look → Option (List ℕ) → List ℕ → List ℕ → Label → Type 0
+IsOwnLabel rows look told name b label =
+    (own : Option Triple) × IsOwnAnswer rows b own × MatchOption own (IsLabelBy look told name b label) (λ t. IsLabelOfType t b label)
 
 -- the label by some options: types of one's own are asked first, if they are read
-abbrev pub IsLabelWith : OwnTypes → Look → List ℕ → List ℕ → Label → Type 0
-IsLabelWith no_types look name b label = IsLabelBy look name b label
-IsLabelWith (types_at path) look name b label = IsLabelBy look name b label
-IsLabelWith (types_of text) look name b label = (rows : List Row) → rows_of text ≡ Some rows → IsOwnLabel rows look name b label
+abbrev pub IsLabelWith : OwnTypes → Look → Option (List ℕ) → List ℕ → List ℕ → Label → Type 0
+IsLabelWith no_types look told name b label = IsLabelBy look told name b label
+IsLabelWith (types_at path) look told name b label = IsLabelBy look told name b label
+IsLabelWith (types_of text) look told name b label = (rows : List Row) → rows_of text ≡ Some rows → IsOwnLabel rows look told name b label
 
 abbrev pub IsLabel : Options → List ℕ → List ℕ → Label → Type 0
-IsLabel options name b label = IsLabelWith options.own options.look name b label
+IsLabel options name b label = IsLabelWith options.own options.look options.content_type name b label
 
 -- the label as the code has it
 abbrev pub label_listed : code.Label → Label

@@ -34,7 +34,7 @@ empty_text true = codes ", empty"
 empty_text false = []
 
 abbrev pub type_text : Option (List ℕ) → Option (List ℕ) → Bool → List ℕ
-type_text (Some mime_type) extension empty = mime_type ++ (extension_text extension ++ empty_text empty)
+type_text (Some mime_type) extension empty = name_shown Text mime_type ++ (extension_text extension ++ empty_text empty)
 type_text None extension true = codes "empty"
 type_text None extension false = codes "unknown"
 
@@ -75,7 +75,7 @@ extension_member None = []
 extension_member (Some extension) = codes ",\"extension\":\"" ++ (extension ++ codes "\"")
 
 abbrev pub type_members : Option (List ℕ) → Option (List ℕ) → List ℕ
-type_members (Some mime_type) extension = (codes ",\"mime_type\":\"" ++ (mime_type ++ codes "\"")) ++ extension_member extension
+type_members (Some mime_type) extension = codes ",\"mime_type\":\"" ++ (name_shown Json mime_type ++ (codes "\"" ++ extension_member extension))
 type_members None extension = codes ",\"mime_type\":null"
 
 abbrev pub empty_member : Bool → List ℕ

@@ -1,4 +1,4 @@
--- A name as it is printed.
+-- A name, or another text that was given, as it is printed.
 use Rattle.std.specs.Prelude.{◌≢◌, ◌≤◌, ◌+◌, ◌/◌, ◌%◌, ◌==◌, ◌&&◌, ◌||◌, ℕ, Bool, List, [], ◌∷◌, encode_utf8, if◌then◌else◌, nat_le, nat_lt, not}
 use Rattle.std.specs.Int.{is_in_range}
 use Rattle.std.specs.List.{flat_map}
@@ -28,12 +28,14 @@ hex_digit n = if nat_lt n 10 then 0x30 + n else 0x57 + n
 abbrev pub byte_hex : ℕ → List ℕ
 byte_hex x = hex_digit (x / 16 % 16) ∷ hex_digit (x % 16) ∷ []
 
--- \u and four digits, and \x and two
+-- \u and four digits
 abbrev pub code_shown : ℕ → List ℕ
 code_shown c = 0x5C ∷ 0x75 ∷ hex_digit (c / 4096 % 16) ∷ hex_digit (c / 256 % 16) ∷ hex_digit (c / 16 % 16) ∷ hex_digit (c % 16) ∷ []
 
-abbrev pub high_shown : ℕ → List ℕ
-high_shown x = 0x5C ∷ 0x78 ∷ byte_hex x
+-- a byte that is not of ASCII: \x and its two digits, and in JSON, which has no such escape, the character with its number
+abbrev pub high_shown : Form → ℕ → List ℕ
+high_shown Text x = 0x5C ∷ 0x78 ∷ byte_hex x
+high_shown Json x = code_shown x
 
 -- a character as it is printed
 abbrev pub char_shown : Form → ℕ → List ℕ
@@ -49,7 +51,7 @@ is_plain x = nat_lt x 0x80 && (not (is_obeyed x) && not (is_mark Json x))
 
 -- a byte of a name that is not UTF-8
 abbrev pub byte_shown : Form → ℕ → List ℕ
-byte_shown form x = if nat_le 0x80 x then high_shown x else char_shown form x
+byte_shown form x = if nat_le 0x80 x then high_shown form x else char_shown form x
 
 -- a name: character by character if it is UTF-8, and else byte by byte
 abbrev pub name_shown : Form → List ℕ → List ℕ

@@ -18,7 +18,7 @@ use Rattle.infer_label.specs.Report.{ReportsFile, ReportsInput}
 use Rattle.infer_label.specs.Words.{Asked, Refusal, help, labels, lacking, mistaken, no_limit, refused, unknown, unread, version}
 use Rattle.infer_label.specs.declared.options.Form.TheVariants.{Text}
 use Rattle.infer_label.specs.declared.options.Valued.{Valued}
-use Rattle.infer_label.specs.declared.options.Valued.TheVariants.{Front, Name, Types}
+use Rattle.infer_label.specs.declared.options.Valued.TheVariants.{ContentType, Front, Name, Types}
 use Rattle.infer_label.specs.declared.run.TheConstants.{HELP, VERSION}
 
 -- the path stands for standard input
@@ -30,6 +30,7 @@ abbrev pub valued_text : Valued → List ℕ
 valued_text Front = codes "--front"
 valued_text Name = codes "--name"
 valued_text Types = codes "--types"
+valued_text ContentType = codes "--content-type"
 
 -- where a mistake is, and what it is
 abbrev pub mistake_text : Mistake → List ℕ

@@ -8,7 +8,7 @@ use Rattle.infer_label.specs.Options.{Options, default_options, options_listed, 
 use Rattle.infer_label.specs.declared.options.Flag.{Flag}
 use Rattle.infer_label.specs.declared.options.Flag.TheVariants as flags
 use Rattle.infer_label.specs.declared.options.Valued.{Valued}
-use Rattle.infer_label.specs.declared.options.Valued.TheVariants.{Front, Name, Types}
+use Rattle.infer_label.specs.declared.options.Valued.TheVariants.{ContentType, Front, Name, Types}
 use Rattle.infer_label.specs.declared.words.Asked as asked_code
 use Rattle.infer_label.specs.declared.words.Asked.TheVariants as asks
 use Rattle.infer_label.specs.declared.words.Refusal as refusal_code
@@ -55,7 +55,8 @@ abbrev pub valued_in : List ℕ → Option Valued
 valued_in word =
     if bytes_eq word (codes "--front") then Some Front
     else (if bytes_eq word (codes "--name") then Some Name
-    else (if bytes_eq word (codes "--types") then Some Types else None))
+    else (if bytes_eq word (codes "--types") then Some Types
+    else (if bytes_eq word (codes "--content-type") then Some ContentType else None)))
 
 -- a dash stands first, and something behind it
 abbrev pub is_dashed : List ℕ → Bool

@@ -79,7 +79,7 @@ fn write_members<W: Write>(label: &Label<'_>, out: &mut WatchedWriter<'_, W>)
 }
 
 fn write_type_members<W: Write>(
-    mime_type: Option<&str>,
+    mime_type: Option<&[u8]>,
     extension: Option<&str>,
     out: &mut WatchedWriter<'_, W>,
 )
@@ -93,14 +93,16 @@ fn write_type_members<W: Write>(
 }
 
 fn write_known_type<W: Write>(
-    mime_type: &str,
+    mime_type: &[u8],
     extension: Option<&str>,
     out: &mut WatchedWriter<'_, W>,
 )
     ensures { Writes W.contents out.old out.new
         (type_members (Some mime_type.entry.now) (option_map (λ e. e.now) extension.entry)) }
 {
-    write!(out, ",\"mime_type\":\"{mime_type}\"");
+    out.write_all(b",\"mime_type\":\"");
+    write_name(mime_type, Form::Json, out);
+    out.write_all(b"\"");
     write_extension_member(extension, out);
 }
 

@@ -1,14 +1,14 @@
 //! What an input is.
-ghost use Rattle.std.specs.Prelude.{◌≡◌, ℕ, List, Some, option_map};
-ghost use Rattle.std.specs.Option.{option_and_then};
+ghost use Rattle.std.specs.Prelude.{◌≡◌, ℕ, List, Option, Some, option_map};
+ghost use Rattle.std.specs.Option.{option_and_then, option_or};
 ghost use Rattle.infer.specs.Triple.{triple_of};
 ghost use Rattle.infer_named.specs.Join.{extension_of, mime_type_of, type_of_name};
 ghost use Rattle.infer_named.specs.Named.{key_of, told_listed};
 ghost use Rattle.infer_more.specs.Line.{Row};
 ghost use Rattle.infer_more.specs.Text.{found_shows, rows_of};
 ghost use Rattle.infer_label.specs.Options.{options_listed};
-ghost use Rattle.infer_label.specs.Label.{IsLabel, IsLabelBy, IsLabelOf, IsLabelOfBrowser, IsLabelOfType, IsOwnLabel, contradicted, extension_in, label_listed, mime_type_in, untold};
-ghost use Rattle.mime_sniff.specs.Computed.{IsComputed};
+ghost use Rattle.infer_label.specs.Label.{IsLabel, IsLabelBy, IsLabelOf, IsLabelOfBrowser, IsLabelOfType, IsOwnLabel, IsSupply, contradicted, extension_in, label_listed, mime_type_in};
+ghost use Rattle.mime_sniff.specs.Computed.{IsComputed, supply_of};
 
 use crate::options::{Look, Options, OwnTypes};
 use infer::Type;
@@ -21,7 +21,7 @@ use mime_sniff::{Computed, Supplied};
 #[derive(Clone, Copy)]
 pub struct Label<'a> {
     /// The MIME type, if one is known.
-    pub mime_type: Option<&'a str>,
+    pub mime_type: Option<&'a [u8]>,
     /// The extension, if the type has one.
     pub extension: Option<&'a str>,
     /// How the text is encoded, if it is one.
@@ -39,28 +39,28 @@ pub fn label_of<'a>(options: Options<'a>, name: &[u8], buf: &[u8]) -> Label<'a>
     ensures { IsLabel (options_listed options.entry) name.now buf.now (label_listed result) }
 {
     match options.own {
-        OwnTypes::Text(text) => by_text(text, options.look, name, buf),
-        OwnTypes::None | OwnTypes::At(_) => by_look(options.look, name, buf),
+        OwnTypes::Text(text) => by_text(text, options, name, buf),
+        OwnTypes::None | OwnTypes::At(_) => by_look(options, name, buf),
     }
 }
 
 /// By the types of a text, and by what else the options say if none of them accepts the bytes.
-fn by_text<'a>(text: &'a [u8], look: Look, name: &[u8], buf: &[u8]) -> Label<'a>
+fn by_text<'a>(text: &'a [u8], options: Options<'a>, name: &[u8], buf: &[u8]) -> Label<'a>
     ensures { (rows : List Row) → rows_of text.entry.now ≡ Some rows
-        → IsOwnLabel rows look name.now buf.now (label_listed result) }
+        → IsOwnLabel rows (options_listed options.entry).look (options_listed options.entry).content_type name.now buf.now (label_listed result) }
 {
-    match look {
+    match options.look {
         Look::NameAndBytes => by_all(text, name, buf),
         Look::Bytes | Look::BuiltIn | Look::Browser | Look::BrowserForbidden => {
-            by_text_or_bytes(text, look, name, buf)
+            by_text_or_bytes(text, options, name, buf)
         }
     }
 }
 
 /// By the types of a text, and by the name and the bytes if none of them accepts the bytes.
 fn by_all<'a>(text: &'a [u8], name: &[u8], buf: &[u8]) -> Label<'a>
-    ensures { (rows : List Row) → rows_of text.entry.now ≡ Some rows
-        → IsOwnLabel rows Look.NameAndBytes name.now buf.now (label_listed result) }
+    ensures { (told : Option (List ℕ)) (rows : List Row) → rows_of text.entry.now ≡ Some rows
+        → IsOwnLabel rows Look.NameAndBytes told name.now buf.now (label_listed result) }
 {
     match named_by(text, name, buf) {
         NamedBy::Own(found) => of_own(found, buf),
@@ -69,13 +69,13 @@ fn by_all<'a>(text: &'a [u8], name: &[u8], buf: &[u8]) -> Label<'a>
 }
 
 /// By the types of a text, and by what is looked at if none of them accepts the bytes.
-fn by_text_or_bytes<'a>(text: &'a [u8], look: Look, name: &[u8], buf: &[u8]) -> Label<'a>
+fn by_text_or_bytes<'a>(text: &'a [u8], options: Options<'a>, name: &[u8], buf: &[u8]) -> Label<'a>
     ensures { (rows : List Row) → rows_of text.entry.now ≡ Some rows
-        → IsOwnLabel rows look name.now buf.now (label_listed result) }
+        → IsOwnLabel rows (options_listed options.entry).look (options_listed options.entry).content_type name.now buf.now (label_listed result) }
 {
     match types::own(text, buf) {
         Some(found) => of_own(found, buf),
-        None => by_look(look, name, buf),
+        None => by_look(options, name, buf),
     }
 }
 
@@ -84,7 +84,7 @@ fn of_own<'a>(found: Found<'a>, buf: &[u8]) -> Label<'a>
     ensures { IsLabelOfType (found_shows found.entry) buf.now (label_listed result) }
 {
     Label {
-        mime_type: Some(found.mime_type()),
+        mime_type: Some(found.mime_type().as_bytes()),
         extension: Some(found.extension()),
         encoding: infer_more::encoding(buf),
         is_empty: buf.is_empty(),
@@ -94,21 +94,21 @@ fn of_own<'a>(found: Found<'a>, buf: &[u8]) -> Label<'a>
 }
 
 /// By what is looked at.
-fn by_look(look: Look, name: &[u8], buf: &[u8]) -> Label<'static>
-    ensures { IsLabelBy look name.now buf.now (label_listed result) }
+fn by_look<'a>(options: Options<'a>, name: &[u8], buf: &[u8]) -> Label<'a>
+    ensures { IsLabelBy (options_listed options.entry).look (options_listed options.entry).content_type name.now buf.now (label_listed result) }
 {
-    match look {
+    match options.look {
         Look::NameAndBytes => by_both(name, buf),
         Look::Bytes => by_bytes(buf),
         Look::BuiltIn => by_built_in(buf),
-        Look::Browser => by_browser(false, buf),
-        Look::BrowserForbidden => by_browser(true, buf),
+        Look::Browser => by_browser(false, options.content_type, buf),
+        Look::BrowserForbidden => by_browser(true, options.content_type, buf),
     }
 }
 
 /// By the name and the bytes.
 fn by_both(name: &[u8], buf: &[u8]) -> Label<'static>
-    ensures { IsLabelBy Look.NameAndBytes name.now buf.now (label_listed result) }
+    ensures { (told : Option (List ℕ)) → IsLabelBy Look.NameAndBytes told name.now buf.now (label_listed result) }
 {
     of_named(infer_named::named(name, buf), buf)
 }
@@ -118,7 +118,7 @@ fn of_named(found: Named, buf: &[u8]) -> Label<'static>
     ensures { IsLabelOf found buf.now (label_listed result) }
 {
     Label {
-        mime_type: mime_type_told(found.told),
+        mime_type: bytes_of(mime_type_told(found.told)),
         extension: extension_told(found.told),
         encoding: infer_more::encoding(buf),
         is_empty: buf.is_empty(),
@@ -162,11 +162,11 @@ fn extension_told(told: Option<Told>) -> Option<&'static str>
 
 /// By the bytes alone.
 fn by_bytes(buf: &[u8]) -> Label<'static>
-    ensures { (name : List ℕ) → IsLabelBy Look.Bytes name buf.now (label_listed result) }
+    ensures { (told : Option (List ℕ)) (name : List ℕ) → IsLabelBy Look.Bytes told name buf.now (label_listed result) }
 {
     let found = infer_more::get(buf);
     Label {
-        mime_type: mime_type_of(found),
+        mime_type: bytes_of(mime_type_of(found)),
         extension: extension_of(found),
         encoding: infer_more::encoding(buf),
         is_empty: buf.is_empty(),
@@ -177,11 +177,11 @@ fn by_bytes(buf: &[u8]) -> Label<'static>
 
 /// By the built-in types alone.
 fn by_built_in(buf: &[u8]) -> Label<'static>
-    ensures { (name : List ℕ) → IsLabelBy Look.BuiltIn name buf.now (label_listed result) }
+    ensures { (told : Option (List ℕ)) (name : List ℕ) → IsLabelBy Look.BuiltIn told name buf.now (label_listed result) }
 {
     let found = infer::get(buf);
     Label {
-        mime_type: mime_type_of(found),
+        mime_type: bytes_of(mime_type_of(found)),
         extension: extension_of(found),
         encoding: None,
         is_empty: false,
@@ -190,12 +190,12 @@ fn by_built_in(buf: &[u8]) -> Label<'static>
     }
 }
 
-/// By what a browser makes of the bytes that was told no type.
-fn by_browser(no_sniff: bool, buf: &[u8]) -> Label<'static>
-    ensures { IsLabelOfBrowser no_sniff buf.now (label_listed result) }
+/// By what a browser makes of the bytes that was told a content type, or none.
+fn by_browser<'a>(no_sniff: bool, content_type: Option<&'a [u8]>, buf: &[u8]) -> Label<'a>
+    ensures { IsLabelOfBrowser no_sniff (option_map (λ t. t.now) content_type.entry) buf.now (label_listed result) }
 {
     Label {
-        mime_type: computed(no_sniff, buf),
+        mime_type: computed(&supplied(no_sniff, content_type), content_type, buf),
         extension: None,
         encoding: None,
         is_empty: false,
@@ -204,17 +204,51 @@ fn by_browser(no_sniff: bool, buf: &[u8]) -> Label<'static>
     }
 }
 
-fn computed(no_sniff: bool, buf: &[u8]) -> Option<&'static str>
-    ensures { IsComputed (untold no_sniff) buf.now (option_map (λ m. m.now) result) }
+/// The computed type, which is the content type as it was given where it stays.
+fn computed<'a>(
+    supplied: &Supplied<'_>,
+    content_type: Option<&'a [u8]>,
+    buf: &[u8],
+) -> Option<&'a [u8]>
+    ensures { (told : Option (List ℕ)) × IsComputed (supply_of supplied.now) buf.now told
+        × (option_map (λ m. m.now) result ≡ option_or told (option_map (λ t. t.now) content_type.entry)) }
 {
-    let supplied = Supplied {
-        mime_type: None,
+    match mime_sniff::compute(supplied, buf) {
+        Computed::Sniffed(mime_type) => Some(mime_type.as_bytes()),
+        Computed::Same => content_type,
+    }
+}
+
+/// What a browser knows that was told a content type, or none.
+fn supplied(no_sniff: bool, content_type: Option<&[u8]>) -> Supplied<'_>
+    ensures { IsSupply no_sniff (option_map (λ t. t.now) content_type.entry) (supply_of result) }
+{
+    match content_type {
+        Some(text) => supplied_by(no_sniff, text),
+        None => Supplied {
+            mime_type: None,
+            no_sniff,
+            check_for_apache_bug: false,
+        },
+    }
+}
+
+fn supplied_by(no_sniff: bool, content_type: &[u8]) -> Supplied<'_>
+    ensures { IsSupply no_sniff (Some content_type.now) (supply_of result) }
+{
+    Supplied {
+        mime_type: mime_types::parse(content_type),
         no_sniff,
-        check_for_apache_bug: false,
-    };
-    match mime_sniff::compute(&supplied, buf) {
-        Computed::Sniffed(mime_type) => Some(mime_type),
-        Computed::Same => None,
+        check_for_apache_bug: mime_sniff::is_apache_bug(content_type),
+    }
+}
+
+fn bytes_of(text: Option<&'static str>) -> Option<&'static [u8]>
+    ensures { option_map (λ m. m.now) result ≡ option_map (λ m. m.now) text.entry }
+{
+    match text {
+        Some(text) => Some(text.as_bytes()),
+        None => None,
     }
 }
 

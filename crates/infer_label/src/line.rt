@@ -66,7 +66,7 @@ fn write_label<W: Write>(label: &Label<'_>, out: &mut WatchedWriter<'_, W>)
 }
 
 fn write_type<W: Write>(
-    mime_type: Option<&str>,
+    mime_type: Option<&[u8]>,
     extension: Option<&str>,
     is_empty: bool,
     out: &mut WatchedWriter<'_, W>,
@@ -76,7 +76,7 @@ fn write_type<W: Write>(
 {
     match mime_type {
         Some(mime_type) => {
-            write!(out, "{mime_type}");
+            write_name(mime_type, Form::Text, out);
             write_extension(extension, out);
             write_empty(is_empty, out);
         }

@@ -1,9 +1,9 @@
-//! Names as they are printed, so that no name moves a cursor.
+//! Names and other given texts as they are printed, so that none of them moves a cursor.
 ghost use Rattle.std.specs.Prelude.{◌≡◌, ◌<◌};
 ghost use Rattle.std.specs.Int.{is_in_range};
 ghost use Rattle.std.specs.List.{flat_map, list_all};
 ghost use Rattle.std.specs.Str.{chars};
-ghost use Rattle.infer_label.specs.Names.{byte_shown, char_shown, code_shown, hex_digit, is_mark, is_obeyed, is_plain, name_shown};
+ghost use Rattle.infer_label.specs.Names.{byte_shown, char_shown, code_shown, hex_digit, high_shown, is_mark, is_obeyed, is_plain, name_shown};
 ghost use Rattle.infer_label.specs.Writes.{Writes};
 
 use crate::options::Form;
@@ -12,7 +12,7 @@ use std::io::Write;
 
 /// Writes a name so that nothing of it is obeyed. A control, an end of a line or a mark of direction is `\u` and its four
 /// digits; a backslash stands before a backslash, and in JSON before a quotation mark. Of a name that is not UTF-8 each byte
-/// that is not ASCII is `\x` and its two digits.
+/// that is not ASCII is `\x` and its two digits, and in JSON `\u` and four.
 pub fn write_name<W: Write>(name: &[u8], form: Form, out: &mut WatchedWriter<'_, W>)
     ensures { Writes W.contents out.old out.new (name_shown form name.now) }
 {
@@ -70,9 +70,21 @@ fn write_byte<W: Write>(byte: u8, form: Form, out: &mut WatchedWriter<'_, W>)
     ensures { Writes W.contents out.old out.new (byte_shown form byte) }
 {
     if byte >= 0x80 {
-        out.write_all(&[b'\\', b'x', hex_digit(byte / 16 % 16), hex_digit(byte % 16)]);
+        write_high(byte, form, out);
     } else {
         write_char(char::from(byte), form, out);
+    }
+}
+
+/// A byte that is not of ASCII.
+fn write_high<W: Write>(byte: u8, form: Form, out: &mut WatchedWriter<'_, W>)
+    ensures { Writes W.contents out.old out.new (high_shown form byte) }
+{
+    match form {
+        Form::Text => {
+            out.write_all(&[b'\\', b'x', hex_digit(byte / 16 % 16), hex_digit(byte % 16)]);
+        }
+        Form::Json => write_code(u32::from(byte), out),
     }
 }
 

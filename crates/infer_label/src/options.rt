@@ -1,6 +1,6 @@
 //! What a run may be asked for.
 ghost use Rattle.std.specs.Prelude.{◌≡◌, option_map};
-ghost use Rattle.infer_label.specs.Options.{default_options, options_listed, with_flag, with_front, with_types, with_value};
+ghost use Rattle.infer_label.specs.Options.{as_browser, default_options, options_listed, with_flag, with_front, with_types, with_value};
 
 use infer::FRONT;
 use infer_lines::limit_in;
@@ -14,7 +14,7 @@ pub enum Look {
     Bytes,
     /// The built-in types alone.
     BuiltIn,
-    /// What a browser makes of its bytes that was told no type.
+    /// What a browser makes of its bytes.
     Browser,
     /// The same where sniffing is forbidden.
     BrowserForbidden,
@@ -53,6 +53,8 @@ pub enum Valued {
     Name,
     /// `--types`
     Types,
+    /// `--content-type`
+    ContentType,
 }
 
 /// Types of one's own.
@@ -79,6 +81,8 @@ pub struct Options<'a> {
     pub input_name: &'a [u8],
     /// The types that are asked before all others.
     pub own: OwnTypes<'a>,
+    /// The content type that a browser was told, if it was told one.
+    pub content_type: Option<&'a [u8]>,
 }
 
 impl<'a> Options<'a> {
@@ -92,6 +96,7 @@ impl<'a> Options<'a> {
             front: FRONT,
             input_name: b"-",
             own: OwnTypes::None,
+            content_type: None,
         }
     }
 
@@ -137,6 +142,11 @@ impl<'a> Options<'a> {
                 own: OwnTypes::At(value),
                 ..self
             }),
+            Valued::ContentType => Some(Options {
+                look: as_browser(self.look),
+                content_type: Some(value),
+                ..self
+            }),
         }
     }
 
@@ -158,5 +168,15 @@ impl<'a> Options<'a> {
             Some(front) => Some(Options { front, ..self }),
             None => None,
         }
+    }
+}
+
+/// As a browser. Sniffing stays forbidden.
+fn as_browser(look: Look) -> Look
+    ensures { result ≡ as_browser look }
+{
+    match look {
+        Look::BrowserForbidden => Look::BrowserForbidden,
+        Look::NameAndBytes | Look::Bytes | Look::BuiltIn | Look::Browser => Look::Browser,
     }
 }

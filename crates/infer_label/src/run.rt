@@ -27,17 +27,18 @@ pub const HELP: &[u8] = b"usage: infer_label [OPTION ..] [PATH ..]
 Prints a line for each file: its path, its MIME type and its extension, by its name and its first bytes, the encoding of a
 text, and what the name did, where it did something. Without a PATH, or as -, it is standard input.
 
-  --bytes      by the bytes alone
-  --built-in   by the bytes alone, and the built-in types
-  --front N    by the first N bytes, from 1 to 65536, in place of 8192
-  --json       as a line of JSON
-  --name NAME  the name of standard input
-  --nosniff    as --sniff, where sniffing is forbidden
-  --sniff      as a browser that was told no type, by the first 1445 bytes
-  --types FILE the types of this text first, by the bytes alone
-  --           what follows are paths
-  --help       this text
-  --version    the version
+  --bytes           by the bytes alone
+  --built-in        by the bytes alone, and the built-in types
+  --content-type T  as --sniff, where the browser was told this type
+  --front N         by the first N bytes, from 1 to 65536, in place of 8192
+  --json            as a line of JSON
+  --name NAME       the name of standard input
+  --nosniff         as --sniff, where sniffing is forbidden
+  --sniff           as a browser that was told no type, by the first 1445 bytes
+  --types FILE      the types of this text first, by the bytes alone
+  --                what follows are paths
+  --help            this text
+  --version         the version
 
 Status: 0 if each type is known, 1 if some is not, 2 if a file could not be read, a line could not be written or a word is
 wrong.
@@ -148,6 +149,7 @@ fn text_of(option: Valued) -> &'static str
         Valued::Front => "--front",
         Valued::Name => "--name",
         Valued::Types => "--types",
+        Valued::ContentType => "--content-type",
     }
 }
 

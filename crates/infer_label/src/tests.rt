@@ -142,11 +142,14 @@ fn own_types_come_first(rt: HostRuntime) {
     let drawing = label_of(options, b"main.py", b"DRAW 1");
     assert_eq!(rt;
         (drawing.mime_type, drawing.standing),
-        (Some("image/x-drawing"), None)
+        (Some(b"image/x-drawing".as_slice()), None)
     );
     let script = label_of(options, b"main.py", b"import os\n");
     assert_eq!(rt;
         (script.mime_type, script.standing),
-        (Some("text/x-python"), Some(Standing::NameRefines))
+        (
+            Some(b"text/x-python".as_slice()),
+            Some(Standing::NameRefines)
+        )
     );
 }

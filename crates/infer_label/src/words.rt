@@ -226,5 +226,8 @@ fn valued_in(word: &[u8]) -> Option<Valued>
     if word == b"--types".as_slice() {
         return Some(Valued::Types);
     }
+    if word == b"--content-type".as_slice() {
+        return Some(Valued::ContentType);
+    }
     None
 }
