@@ -10,32 +10,47 @@ pub(crate) fn is_white(byte: u8) -> bool
     byte == b'\t' || byte == b'\n' || byte == b'\r' || byte == b' '
 }
 
+macro_rules! chart {
+    ($($mark:tt)*) => {
+        [$(marked!($mark)),*]
+    };
+}
+
+macro_rules! marked {
+    (X) => {
+        true
+    };
+    (_) => {
+        false
+    };
+}
+
+/// The bytes of tokens, sixteen a line: looked up, so that capital letters and digits cost no more than others.
+static TOKENS: [bool; 256] = chart![
+    _ _ _ _ _ _ _ _ _ _ _ _ _ _ _ _
+    _ _ _ _ _ _ _ _ _ _ _ _ _ _ _ _
+    _ X _ X X X X X _ _ X X _ X X _
+    X X X X X X X X X X _ _ _ _ _ _
+    _ X X X X X X X X X X X X X X X
+    X X X X X X X X X X X _ _ _ X X
+    X X X X X X X X X X X X X X X X
+    X X X X X X X X X X X _ X _ X _
+    _ _ _ _ _ _ _ _ _ _ _ _ _ _ _ _
+    _ _ _ _ _ _ _ _ _ _ _ _ _ _ _ _
+    _ _ _ _ _ _ _ _ _ _ _ _ _ _ _ _
+    _ _ _ _ _ _ _ _ _ _ _ _ _ _ _ _
+    _ _ _ _ _ _ _ _ _ _ _ _ _ _ _ _
+    _ _ _ _ _ _ _ _ _ _ _ _ _ _ _ _
+    _ _ _ _ _ _ _ _ _ _ _ _ _ _ _ _
+    _ _ _ _ _ _ _ _ _ _ _ _ _ _ _ _
+];
+
 /// Whether tokens have the byte.
 #[inline(always)]
 pub(crate) fn is_token(byte: u8) -> bool
     ensures { result ≡ is_token byte }
 {
-    byte >= b'^' && byte <= b'z'
-        || byte >= b'-' && byte <= b'9' && byte != b'/'
-        || is_other_token(byte)
-}
-
-/// [`is_token`] of bytes of which few are letters. Not inlined, or the compiler compares each letter with all of them.
-#[inline(never)]
-fn is_other_token(byte: u8) -> bool
-    ensures { result ≡ is_token byte }
-{
-    byte >= b'^' && byte <= b'z'
-        || byte >= b'0' && byte <= b'9'
-        || byte >= b'A' && byte <= b'Z'
-        || byte == b'!'
-        || byte >= b'#' && byte <= b'\''
-        || byte == b'*'
-        || byte == b'+'
-        || byte == b'-'
-        || byte == b'.'
-        || byte == b'|'
-        || byte == b'~'
+    TOKENS[usize::from(byte)]
 }
 
 /// Whether values have the byte.
