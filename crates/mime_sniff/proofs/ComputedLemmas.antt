@@ -6,7 +6,7 @@ use Rattle.std.specs.List.{list_all}
 use Rattle.std.specs.Option.{option_or}
 use Rattle.mime_types.specs.Groups.{IsAudioOrVideo, IsImage, essence}
 use Rattle.mime_types.specs.Mime.{Kind}
-use Rattle.mime_sniff.specs.Computed.{Answers, IsAsked, IsAskedOf, IsFinal, IsOther, IsScriptableText, IsSuppliedScriptable, IsUnknown, Supply, TellsScriptable, asked_of_unknown, otherwise, rules_of}
+use Rattle.mime_sniff.specs.Computed.{Answers, IsAsked, IsAskedOf, IsComputed, IsFinal, IsOther, IsScriptableText, IsSuppliedScriptable, IsUnknown, Supply, TellsScriptable, asked_of_unknown, otherwise, rules_of}
 use Rattle.mime_sniff.specs.Laws.{MayEscalate}
 use Rattle.mime_sniff.specs.Rule.{Accepts, Rule, TellsFirst}
 use Rattle.mime_sniff.specs.Standard.{archives, header, marks, media, octets, scriptable, text_or_binary_rules, texts, unscripted}
@@ -185,3 +185,23 @@ module _ (s : Supply) (b : List ℕ) (told : Option (List ℕ)) (is : TellsScrip
   pub escalates : (q : Question) → IsAsked s q → Answers q (header b) told → IsSuppliedScriptable s ⊎ MayEscalate s b
   escalates q (inl (unknown, e)) h = of_unknown s.no_sniff refl q unknown e h
   escalates q (inr (known, asked)) h = inl (of_some s.kind q known asked h)
+
+-- the type that is told is that of a rule
+any_told : (P : Rule → Type 0) (rules : List Rule) (t : List ℕ) → TellsFirst P rules (Some t) → Any (λ r. Some t ≡ Some r.mime_type) rules
+any_told P [] t h = let (rule, passes, is) = told_passes P (λ r. false) [] t refl h in absurd (false≢true passes)
+any_told P (x ∷ rules) t h =
+    elim (tells_cases P x rules (Some t) h) [
+      | inl (p, is) ↦ (0, x, omega arith, refl, is)
+      | inr (not, rest) ↦ let (n, y, within, at, is) = any_told P rules t rest in (suc n, y, omega (arith, within), at, is)
+    ]
+
+told_of : (q : Question) (b : List ℕ) (told : Option (List ℕ)) → Answers q b told
+    → (told ≡ otherwise q) ⊎ Any (λ r. told ≡ Some r.mime_type) (rules_of q)
+told_of q b told (None, h, e) = inl e
+told_of q b told (Some t, h, e) = inr (subst (λ o. Any (λ r. o ≡ Some r.mime_type) (rules_of q)) (sym e) (any_told (Accepts b) (rules_of q) t h))
+
+pub stays_of_kind : (s : Supply) (k : Kind) (q : Question) (b : List ℕ) (told : Option (List ℕ)) → s.kind ≡ Some k → (¬ IsUnknown s.kind) → IsAskedOf s k q
+    → IsComputed s b told → (told ≡ otherwise q) ⊎ Any (λ r. told ≡ Some r.mime_type) (rules_of q)
+stays_of_kind s k q b told is known asked (r, also, h) =
+    let this : IsAsked s q = inr (known, subst (λ kind. IfSome kind (λ k. IsAskedOf s k q)) (sym is) asked) in
+    told_of q (header b) told (subst (λ x. Answers x (header b) told) (one_question s r q also this) h)

@@ -1,10 +1,12 @@
 -- Laws of content types and of computed types.
-use Rattle.std.specs.Prelude.{◌≡◌, ◌↔◌, ◌⊎◌, Any, IsTrue, List, Option, ℕ}
-use Rattle.mime_sniff.specs.Computed.{IsComputed, IsSuppliedScriptable, IsUnknown, Supply, TellsScriptable}
+use Rattle.std.specs.Prelude.{◌≡◌, ◌↔◌, ◌⊎◌, Any, IsTrue, List, Option, None, Some, ℕ}
+use Rattle.mime_types.specs.Mime.{Kind}
+use Rattle.mime_sniff.specs.Computed.{IsAskedOf, IsComputed, IsSuppliedScriptable, IsUnknown, Supply, TellsScriptable, otherwise, rules_of}
 use Rattle.mime_sniff.specs.Go.{IsContentType}
 use Rattle.mime_sniff.specs.Go as go
 use Rattle.mime_sniff.specs.Rule.{Accepts}
 use Rattle.mime_sniff.specs.Standard.{header, scriptable}
+use Rattle.mime_sniff.specs.declared.question.Question.{Question}
 
 -- a buffer has one content type
 abbrev pub HasOneType : Type 0
@@ -29,3 +31,15 @@ MayEscalate s b = IsUnknown s.kind × (¬ IsTrue s.no_sniff) × Any (Accepts (he
 -- a computed type may run scripts only if the supplied one may, or so
 abbrev pub Escalates : Type 0
 Escalates = (s : Supply) (b : List ℕ) (told : Option (List ℕ)) → IsComputed s b told → TellsScriptable s told → IsSuppliedScriptable s ⊎ MayEscalate s b
+
+-- a supplied type that tells something stays, or becomes what one of the rules tells that are asked of it: an image another
+-- image, audio or video another of these, and a text of an old server a text or binary data
+abbrev pub StaysOfItsKind : Type 0
+StaysOfItsKind =
+    (s : Supply) (k : Kind) (q : Question) (b : List ℕ) (told : Option (List ℕ)) → s.kind ≡ Some k → (¬ IsUnknown s.kind) → IsAskedOf s k q → IsComputed s b told
+    → (told ≡ otherwise q) ⊎ Any (λ rule. told ≡ Some rule.mime_type) (rules_of q)
+
+-- where sniffing is forbidden it stays, whatever the bytes are
+abbrev pub StaysIfForbidden : Type 0
+StaysIfForbidden =
+    (s : Supply) (k : Kind) (b : List ℕ) (told : Option (List ℕ)) → s.kind ≡ Some k → (¬ IsUnknown s.kind) → IsTrue s.no_sniff → IsComputed s b told → told ≡ None

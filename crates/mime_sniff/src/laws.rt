@@ -1,5 +1,5 @@
 //! Facts about the definitions, each the contract of a function that does nothing beside. To use a law, call it.
-ghost use Rattle.mime_sniff.specs.Laws.{ComputesOne, Escalates, HasOneType, HeaderComputes, HeaderDecides};
+ghost use Rattle.mime_sniff.specs.Laws.{ComputesOne, Escalates, HasOneType, HeaderComputes, HeaderDecides, StaysIfForbidden, StaysOfItsKind};
 
 /// No buffer has two content types.
 pub fn one_type()
@@ -25,4 +25,15 @@ pub fn header_computes()
 /// not forbidden, and a rule of what may run scripts accepts the first bytes.
 pub fn escalation()
     ensures { Escalates }
+{}
+
+/// A supplied type that tells something stays, or becomes another of its kind: an image another image, audio or video another
+/// of these, and a text of an old server a text or binary data. No other type becomes another.
+pub fn of_its_kind()
+    ensures { StaysOfItsKind }
+{}
+
+/// Where sniffing is forbidden, a supplied type that tells something stays, whatever the bytes are.
+pub fn stays_if_forbidden()
+    ensures { StaysIfForbidden }
 {}
