@@ -51,7 +51,8 @@ WHITE = "\t\n\r "
 
 
 def told(text):
-    return literal(text.encode("latin-1"))
+    """The bytes of a text. A code point beyond a byte is in no token and no value, as 7F."""
+    return literal(bytes(code if code < 0x100 else 0x7F for code in map(ord, text)))
 
 
 def asked(name):

@@ -9,7 +9,7 @@ static struct tally texts = {.asks = "MIME types"}, cut = {.asks = "the same wit
                     computed = {.asks = "computed types"}, decided = {.asks = "decided types"}, scripts = {.asks = "what may run scripts"};
 static long due, told;
 
-/* Bytes that JSON writes: a code point is a byte. */
+/* Bytes that JSON writes: a code point is a byte. One beyond a byte is in no token and no value, as 7F. */
 static const char *read_byte(const char *at, struct buffer *to) {
     static const char names[] = "\"\\/bfnrt", bytes[] = "\"\\/\b\f\n\r\t";
     unsigned long code = (unsigned char)*at;
@@ -24,8 +24,7 @@ static const char *read_byte(const char *at, struct buffer *to) {
     } else {
         at++;
     }
-    if (code > 0xFF) refuse(at, "more than a byte");
-    *lengthen(to, 1) = (unsigned char)code;
+    *lengthen(to, 1) = (unsigned char)(code > 0xFF ? 0x7F : code);
     return at;
 }
 

@@ -334,7 +334,7 @@ test("MIME types are those of browsers' tests", () => {
         parse([text], wanted) {
             const found = MIMEType.parse(text);
             assert.equal(found && String(found), wanted, text);
-            assert.equal(String(MIMEType.parse(Uint8Array.from(text, (it) => it.charCodeAt(0)))), String(found));
+            assert.equal(String(MIMEType.parse(Uint8Array.from(text, (it) => (it > "\xff" ? 0x7f : it.charCodeAt(0))))), String(found));
             if (!found) return assert.throws(() => new MIMEType(text), SyntaxError);
             const again = [...found.parameters].map(([name, value]) => `;${name}="${value.replace(/["\\]/g, "\\$&")}"`).join("");
             return assert.equal(String(new MIMEType(`${found.type}/${found.subtype}${again}`)), wanted);

@@ -346,7 +346,8 @@ fn unescaped(text: &str) -> Vec<u8> {
                 other => u32::from(other),
             },
         };
-        bytes.push(u8::try_from(code).unwrap());
+        // One beyond a byte is in no token and no value, as 7F.
+        bytes.push(u8::try_from(code).unwrap_or(0x7F));
     }
     bytes
 }

@@ -144,10 +144,6 @@ pub(super) static PARSED_1: &[(&[u8], &[u8])] = cases![
     b"x/x;x=\x17;bonus=x" => b"x/x;bonus=x";
     b"x/x;x=\"\x17\";bonus=x" => b"x/x;bonus=x";
     b"x/x;\x18=x;bonus=x" => b"x/x;bonus=x";
-];
-
-/// A text, and that of the MIME type that it says, which is empty if it says none.
-pub(super) static PARSED_2: &[(&[u8], &[u8])] = cases![
     b"x/x;x=\x18;bonus=x" => b"x/x;bonus=x";
     b"x/x;x=\"\x18\";bonus=x" => b"x/x;bonus=x";
     b"\x19/x" => b"";
@@ -158,6 +154,10 @@ pub(super) static PARSED_2: &[(&[u8], &[u8])] = cases![
     b"x/x;x=\"\x1A\";bonus=x" => b"x/x;bonus=x";
     b"\x1B/x" => b"";
     b"x/\x1B" => b"";
+];
+
+/// A text, and that of the MIME type that it says, which is empty if it says none.
+pub(super) static PARSED_2: &[(&[u8], &[u8])] = cases![
     b"x/x;\x1B=x;bonus=x" => b"x/x;bonus=x";
     b"x/x;x=\x1B;bonus=x" => b"x/x;bonus=x";
     b"x/x;x=\"\x1B\";bonus=x" => b"x/x;bonus=x";
@@ -284,10 +284,6 @@ pub(super) static PARSED_2: &[(&[u8], &[u8])] = cases![
     b"x/x;\x91=x;bonus=x" => b"x/x;bonus=x";
     b"x/x;x=\x91;bonus=x" => b"x/x;x=\"\x91\";bonus=x";
     b"x/x;x=\"\x91\";bonus=x" => b"x/x;x=\"\x91\";bonus=x";
-];
-
-/// A text, and that of the MIME type that it says, which is empty if it says none.
-pub(super) static PARSED_3: &[(&[u8], &[u8])] = cases![
     b"\x92/x" => b"";
     b"x/\x92" => b"";
     b"x/x;\x92=x;bonus=x" => b"x/x;bonus=x";
@@ -308,6 +304,10 @@ pub(super) static PARSED_3: &[(&[u8], &[u8])] = cases![
     b"\x97/x" => b"";
     b"x/\x97" => b"";
     b"x/x;\x97=x;bonus=x" => b"x/x;bonus=x";
+];
+
+/// A text, and that of the MIME type that it says, which is empty if it says none.
+pub(super) static PARSED_3: &[(&[u8], &[u8])] = cases![
     b"x/x;x=\x97;bonus=x" => b"x/x;x=\"\x97\";bonus=x";
     b"x/x;x=\"\x97\";bonus=x" => b"x/x;x=\"\x97\";bonus=x";
     b"x/\x98" => b"";
@@ -424,10 +424,6 @@ pub(super) static PARSED_3: &[(&[u8], &[u8])] = cases![
     b"x/x;\xBE=x;bonus=x" => b"x/x;bonus=x";
     b"x/x;x=\xBE;bonus=x" => b"x/x;x=\"\xBE\";bonus=x";
     b"x/x;x=\"\xBE\";bonus=x" => b"x/x;x=\"\xBE\";bonus=x";
-];
-
-/// A text, and that of the MIME type that it says, which is empty if it says none.
-pub(super) static PARSED_4: &[(&[u8], &[u8])] = cases![
     b"x/x;\xBF=x;bonus=x" => b"x/x;bonus=x";
     b"x/x;x=\xBF;bonus=x" => b"x/x;x=\"\xBF\";bonus=x";
     b"\xC0/x" => b"";
@@ -458,6 +454,10 @@ pub(super) static PARSED_4: &[(&[u8], &[u8])] = cases![
     b"x/x;\xC7=x;bonus=x" => b"x/x;bonus=x";
     b"x/x;x=\xC7;bonus=x" => b"x/x;x=\"\xC7\";bonus=x";
     b"x/x;x=\"\xC7\";bonus=x" => b"x/x;x=\"\xC7\";bonus=x";
+];
+
+/// A text, and that of the MIME type that it says, which is empty if it says none.
+pub(super) static PARSED_4: &[(&[u8], &[u8])] = cases![
     b"x/\xC8" => b"";
     b"x/x;\xC8=x;bonus=x" => b"x/x;bonus=x";
     b"x/x;x=\xC8;bonus=x" => b"x/x;x=\"\xC8\";bonus=x";
@@ -564,10 +564,6 @@ pub(super) static PARSED_4: &[(&[u8], &[u8])] = cases![
     b"x/x;\xE5=x;bonus=x" => b"x/x;bonus=x";
     b"x/x;x=\xE5;bonus=x" => b"x/x;x=\"\xE5\";bonus=x";
     b"x/x;x=\"\xE5\";bonus=x" => b"x/x;x=\"\xE5\";bonus=x";
-];
-
-/// A text, and that of the MIME type that it says, which is empty if it says none.
-pub(super) static PARSED_5: &[(&[u8], &[u8])] = cases![
     b"\xE6/x" => b"";
     b"x/x;\xE6=x;bonus=x" => b"x/x;bonus=x";
     b"x/x;x=\"\xE6\";bonus=x" => b"x/x;x=\"\xE6\";bonus=x";
@@ -608,6 +604,10 @@ pub(super) static PARSED_5: &[(&[u8], &[u8])] = cases![
     b"\xF2/x" => b"";
     b"x/x;\xF2=x;bonus=x" => b"x/x;bonus=x";
     b"x/x;x=\xF2;bonus=x" => b"x/x;x=\"\xF2\";bonus=x";
+];
+
+/// A text, and that of the MIME type that it says, which is empty if it says none.
+pub(super) static PARSED_5: &[(&[u8], &[u8])] = cases![
     b"x/x;x=\"\xF2\";bonus=x" => b"x/x;x=\"\xF2\";bonus=x";
     b"x/\xF3" => b"";
     b"x/x;\xF3=x;bonus=x" => b"x/x;bonus=x";
@@ -666,23 +666,29 @@ pub(super) static PARSED_5: &[(&[u8], &[u8])] = cases![
     b"= { == \0x" => b"";
     b"text/html;B= \xE9\"\x0C+xml\t'" => b"text/html";
     b"image/svg+xml;=\x0Cutf-8\\xB\x7F\ttext; charset=\"g\\\"b=  " => b"image/svg+xml;charset=\"g\\\"b=\"";
+    b" A/B ;\t\"x\" y\x0C\x7Ftext\"\x7F;/" => b"a/b";
     b"x/x;c=d;htmlhtml =;;; charset=\"g\\\"b;a=b" => b"x/x;c=d;charset=\"g\\\"b;a=b\"";
     b"x/x;c=d;= " => b"x/x;c=d";
     b"\ttext/plain\n\t\"x\" y\x0B\0\\\\{charset;*x\x0C" => b"";
     b"\ttext/plain\"x\" y \n" => b"";
+    b"B\0+xml=\x7F;a=b\r\x7F\r" => b"";
     b" =" => b"";
     b"text/html;,; charset=\"g\\\"b\naa" => b"text/html";
     b"a+xmltext/\"utf-8html;a=b\\" => b"";
+    b" A/B ;\x7F,\x7F/\0html" => b"a/b";
     b"image/svg+xml;,\\;a=b+xml; charset=\"g\\\"bhtml" => b"image/svg+xml;a=b+xml;charset=\"g\\\"bhtml\"";
     b"image/svg+xml;/\\\n" => b"image/svg+xml";
     b"x" => b"";
+    b"\x7F;a=bhtml\0 \x7F+xml\x7F\x7Futf-8+xmlcharset" => b"";
     b"htmlhtmlB" => b"";
     b" A/B ;+xmla; charset=\"g\\\"b =\rx =a" => b"a/b";
     b"image/svg+xml;; charset=\"g\\\"b/textutf-8;;/charset =\t*\xE9charset" => b"image/svg+xml;charset=\"g\\\"b/textutf-8;;/charset =\t*\xE9charset\"";
     b"image/svg+xml;x\r=;a=b\xE9a \"html" => b"image/svg+xml;a=\"b\xE9a \\\"html\"";
+    b" A/B ; \x7F\x0Ctext;;\0" => b"a/b";
     b" A/B ;\"x\" yhtml\r" => b"a/b";
     b"image/svg+xml;\nhtml\\" => b"image/svg+xml";
     b"text/html\xE9" => b"";
+    b"\x7F" => b"";
     b"text/html;a=b\\\x7F;;= \\\"x\" yutf-8\x7F{\x7F=" => b"text/html";
     b";a=bacharset\n; charset=\"g\\\"b\0 =\\\\; charset=\"g\\\"b" => b"";
     b"x/x;c=d;\t' " => b"x/x;c=d";
@@ -704,10 +710,7 @@ pub(super) static PARSED_5: &[(&[u8], &[u8])] = cases![
     b"x/x;c=d;\n\\\r\x0B\0\x0C\0html\tB,\xE9" => b"x/x;c=d";
     b"\"x\" y{B\x7F=  \"\tcharset" => b"";
     b",x=x;\"x\" y" => b"";
-];
-
-/// A text, and that of the MIME type that it says, which is empty if it says none.
-pub(super) static PARSED_6: &[(&[u8], &[u8])] = cases![
+    b"a/b;\"\x7F{;;html\t; charset=\"g\\\"b html\"*=" => b"a/b;charset=\"g\\\"b html\"";
     b"\ttext/plainhtmlx;\"x\" y\\\\\\" => b"text/plainhtmlx";
     b";;utf-8; charset=\"g\\\"b{utf-8*" => b"";
     b"utf-8\"x\" y; charset=\"g\\\"bB\0html" => b"";
@@ -722,10 +725,13 @@ pub(super) static PARSED_6: &[(&[u8], &[u8])] = cases![
     b"\ttext/plain'" => b"text/plain'";
     b"image/svg+xml;\nutf-8\n" => b"image/svg+xml";
     b"image/svg+xml;; charset=\"g\\\"b\r= " => b"image/svg+xml";
+    b"text\x7F=" => b"";
     b"x/x;c=d;+xml\\\\ =\x7F=htmlautf-8\\" => b"x/x;c=d";
     b"\r;a=btexthtml\\\\\r" => b"";
     b"text/html\"utf-8;;\n =;;\\; " => b"";
+    b"text/html;a=b\t+xmlahtml',\t\x7Ftext'\\" => b"text/html";
     b"a/b;a'+xml;;,; charset=\"g\\\"b" => b"a/b;charset=\"g\\\"b\"";
+    b" A/B ;\x0C;a=b\n\0 '\x7F= /;a=bx =" => b"a/b;a=\"bx =\"";
     b" =\x0C\xE9html=\"\\\x0B*" => b"";
     b"\x7F\"x\" y\"+xmlutf-8; charset=\"g\\\"b;a=btext\"" => b"";
     b"text/html\\\\\r\\=\x7Futf-8\t'{" => b"";
@@ -733,8 +739,10 @@ pub(super) static PARSED_6: &[(&[u8], &[u8])] = cases![
     b";+xml=a; charset=\"g\\\"b\0" => b"";
     b" A/B ;\x0B'\n\x7F\"x\" y;a=b" => b"a/b;a=b";
     b"text/htmlutf-8" => b"text/htmlutf-8";
+    b"\\\\; charset=\"g\\\"b\\\\\\*\0{\x7F\"\xE9\0'" => b"";
     b"x/x;c=d;\xE9" => b"x/x;c=d";
     b"/\xE9{" => b"";
+    b"\"x\" y/, \"+xmlcharset\\;\";\x7F" => b"";
     b"'html," => b"";
     b"a/b;\n*/;{+xml;;'\ttext,\"" => b"a/b";
     b"image/svg+xml;=;a=b\\;charset{" => b"image/svg+xml;a=\"b\\\\\"";
@@ -745,6 +753,11 @@ pub(super) static PARSED_6: &[(&[u8], &[u8])] = cases![
     b"B\x0B{" => b"";
     b"text/html\\" => b"";
     b"x/x;c=d;;;\x7F\r* \x0C;a=b\r;a=b\0,\0" => b"x/x;c=d;a=b";
+    b"\ttext/plain\x0C=*\x7F\xE9\x0B= a; charset=\"g\\\"b" => b"";
+];
+
+/// A text, and that of the MIME type that it says, which is empty if it says none.
+pub(super) static PARSED_6: &[(&[u8], &[u8])] = cases![
     b"=\x0CB\r={" => b"";
     b"x/x;c=d;xB,=xB{\\\\;" => b"x/x;c=d";
     b"image/svg+xml;\0; charset=\"g\\\"b+xml=\\B\\/\"x\" y utf-8; charset=\"g\\\"b" => b"image/svg+xml;charset=\"g\\\"b+xml=B/\"";
@@ -763,6 +776,7 @@ pub(super) static PARSED_6: &[(&[u8], &[u8])] = cases![
     b"\\ \",= html" => b"";
     b" A/B ;;;\\\\; charset=\"g\\\"ba; charset=\"g\\\"b/\0*charset" => b"a/b;charset=\"g\\\"ba; charset=\"";
     b"= +xml\"x\" y\t; charset=\"g\\\"b{\x0Ca=" => b"";
+    b"\\{\n\x7Facharset" => b"";
     b"\ttext/plain*\t\"x\" y\nhtml\rtext\"x\" y " => b"";
     b"image/svg+xml;\\" => b"image/svg+xml";
     b" A/B ;'text;a=b\\; charset=\"g\\\"b\\{/\"charsetcharset\t" => b"a/b;a=\"b\\\\\";charset=\"g\\\"b{/\"";
@@ -771,11 +785,14 @@ pub(super) static PARSED_6: &[(&[u8], &[u8])] = cases![
     b"text/html*\\\\\x0Bacharset = ,*; charset=\"g\\\"b; charset=\"g\\\"bx" => b"";
     b"\\//\0\x0C= " => b"";
     b";\\\nBcharsetutf-8\xE9;+xml" => b"";
+    b"a/b;\xE9x+xmlhtml\"; charset=\"g\\\"ba\x0B\"\x7F;x" => b"a/b";
     b"text/htmltext\xE9\\" => b"";
     b"x/x;c=d; a\\ =\x0B,\\html\"x\" y \x0B =" => b"x/x;c=d";
+    b"\x0B\"x\" y\x7F" => b"";
     b"{= *x,text\xE9;a=b\n" => b"";
     b"\ttext/plain= ;a=ba" => b"";
     b"\ttext/plain**xB{=charsetcharset*" => b"";
+    b"\rhtml; charset=\"g\\\"b+xmlutf-8 +xml\x7Ftext" => b"";
     b"image/svg+xml;/= \"x\" y\rxutf-8\0\n\rx'+xml" => b"image/svg+xml";
     b"text/html= =\\" => b"";
     b"x/x;c=d;\tBB\x0B;{'B\0" => b"x/x;c=d";
@@ -789,13 +806,19 @@ pub(super) static PARSED_6: &[(&[u8], &[u8])] = cases![
     b" A/B ;,+xmlx\0\xE9," => b"a/b";
     b"x/x;c=d;html" => b"x/x;c=d";
     b";\xE9\0" => b"";
+    b" A/B ;+xml;text;/\\\\\\,a;a=b\x7F;" => b"a/b";
     b"= \x7Futf-8 ;/" => b"";
     b"\ttext/plain\x7F,x" => b"";
     b" A/B ;; =/" => b"a/b";
     b"text/html; charset=\"g\\\"b,\tB{;a=ba =text\\\\B =" => b"text/html;charset=\"g\\\"b,\tB{;a=ba =text\\\\B =\"";
     b"x/x;c=d;ahtml\x7F" => b"x/x;c=d";
     b"\xE9= \xE9" => b"";
+    b",\n+xml\x7F\\;a=b\x0Butf-8;" => b"";
+    b"\ttext/plain=Bcharsethtml= B{''\x7F\x0C\"x\" y" => b"";
     b" A/B ;\0charset\"B\x0C\xE9" => b"a/b";
+    b"a/b;\\ =/'\x7F\x7F'\\= " => b"a/b";
+    b"text/html\x7F*,;\n\t" => b"";
+    b"B\\\\ \\\\html\n\xE9{';= \x7F" => b"";
     b"x/x;c=d;=  =a*\\= {\x7F; charset=\"g\\\"b= \\\\+xml" => b"x/x;c=d;charset=\"g\\\"b= \\\\+xml\"";
     b"\xE9,\"x\" y\x0C+xml= " => b"";
     b"text/htmla\"x\" y\x0C+xmlBx\x0C text" => b"";
@@ -809,6 +832,7 @@ pub(super) static PARSED_6: &[(&[u8], &[u8])] = cases![
     b"\xE9 = ;;\\charset" => b"";
     b"Batext,charsetx+xmlB\r" => b"";
     b" A/B ;;a=b\x0B\\" => b"a/b";
+    b"\",\\\\;;,,;; charset=\"g\\\"b\x7F*\n;;" => b"";
     b"\ttext/plain\\\\utf-8\x7F/\r;;;/\xE9\t*\x7F" => b"";
     b"x/x;c=d;;a=b" => b"x/x;c=d;a=b";
     b"a/b;charset/\n\t*\\\\ax\"x\" y\"x\" y\ncharset" => b"a/b";
@@ -819,24 +843,33 @@ pub(super) static PARSED_6: &[(&[u8], &[u8])] = cases![
     b"\ttext/plain; charset=\"g\\\"b" => b"text/plain;charset=\"g\\\"b\"";
     b"\x0B;;*\\\t\\\\utf-8\r\\\\;;; charset=\"g\\\"butf-8" => b"";
     b"a/b;;;" => b"a/b";
+    b"text/\x7F\n'{charset +xmlBB; charset=\"g\\\"b" => b"";
     b",charset+xmltextB\x0B\\x," => b"";
     b"\ttext/plainB" => b"text/plainb";
     b" A/B ;\n\\\\\"" => b"a/b";
     b"*" => b"";
     b"text/html;;*'\x7F\t+xml" => b"text/html";
     b"image/svg+xml;=\"x\" y =\x7F\x0C\"x\" ycharset\nhtml';;x" => b"image/svg+xml";
+    b"text/html\x7F" => b"";
+    b"\x7F;;\x7F;a=bB'' =utf-8" => b"";
     b"a/b; =\\{{\0/\x0C, " => b"a/b";
+    b"x/x;c=d;+xml\x7Fx\r\0utf-8" => b"x/x;c=d";
     b"x/x;c=d;{B\"\\\\,= " => b"x/x;c=d";
     b"\r/; charset=\"g\\\"b;a=btext;a=b\\\xE9\x0B" => b"";
     b"+xml" => b"";
     b" A/B ;;;html{ =,a\x0C={charset+xml;;" => b"a/b";
     b"= \n\xE9" => b"";
     b"a/b;\0; charset=\"g\\\"b\\';a=b= " => b"a/b;charset=\"g\\\"b';a=b=\"";
+    b"x/x;c=d;x/= /\r\x7F\x7F\r" => b"x/x;c=d";
+    b"image/svg+xml;\x0B+xml'\0*\0;;;\x7F" => b"image/svg+xml";
     b"\ttext/plain\x0C;\0B\" =Bhtml\x0B" => b"";
+    b"image/svg+xml;{,\x7F\n ;a=b\x7Ftextxa'\\" => b"image/svg+xml";
     b"text/htmlhtml= \n+xml\x7F\x7Fx;a=b\x0B= a;a=b" => b"";
     b"\0; charset=\"g\\\"b\x0B\x7F\\x,;;/\"x\" y'+xml" => b"";
     b";;\\\\x" => b"";
+    b"x/x;c=d;= \"*\n \x7F\r,\r\\'html" => b"x/x;c=d";
     b"\x0C,\x0B='\t" => b"";
+    b"\x0C\\\\\x7F =\"\0\r;html" => b"";
     b"text/html\\/utf-8; charset=\"g\\\"b\r,;; ='\xE9\x0Cx" => b"";
     b"\ttext/plain\r" => b"text/plain";
     b"text/html{\xE9';a=b =;;=x;" => b"";
@@ -844,11 +877,9 @@ pub(super) static PARSED_6: &[(&[u8], &[u8])] = cases![
     b"x\x0B/" => b"";
     b"image/svg+xml;utf-8\x0C;*\\\"x\" y" => b"image/svg+xml";
     b";a=b\x0C\x0C'*html" => b"";
-];
-
-/// A text, and that of the MIME type that it says, which is empty if it says none.
-pub(super) static PARSED_7: &[(&[u8], &[u8])] = cases![
+    b"/\x7F\x7F" => b"";
     b"x/x;c=d;\\\\charset\t \\\\html" => b"x/x;c=d";
+    b"=\x0C\"\\B\x7F" => b"";
     b"a/b;\r,;a=b\n\\B" => b"a/b";
     b"; charset=\"g\\\"b;;;;" => b"";
     b"text" => b"";
@@ -856,38 +887,54 @@ pub(super) static PARSED_7: &[(&[u8], &[u8])] = cases![
     b"\ttext/plain\x0C/\\\\\xE9\t\\" => b"";
     b"x/x;c=d;,\x7F\x7Fa;\\\\" => b"x/x;c=d";
     b"\x0CBhtmlcharset;a=bcharset;a=b;\"text= html" => b"";
+    b"text/html;\"x\" yhtml\x7Fcharset\\\\x;\"\x7F; charset=\"g\\\"b\t" => b"text/html;charset=\"g\\\"b\"";
     b",*\"x\" y" => b"";
     b"a/b;,\"\xE9 ;a=b;;{html\\\\" => b"a/b;a=b";
+    b"\\\\\x7F\t//\\\"html'" => b"";
     b"\ttext/plainx= text" => b"";
     b"text/html= \"text" => b"";
     b"a/b;;;\\{" => b"a/b";
     b"; charset=\"g\\\"b,/B\xE9\t" => b"";
     b"\ttext/plaintext" => b"text/plaintext";
     b"text/html\0BB" => b"";
+    b" A/B ;\\\"x\" y\0\\\\\x0B*x\x7F*\\\x0B\r" => b"a/b";
     b"a/b;\x7F+xml= \xE9\"{B\0," => b"a/b";
     b"text/html ; charset=\"g\\\"b= ; charset=\"g\\\"b\xE9x/xutf-8" => b"text/html;charset=\"g\\\"b= ; charset=\"";
     b" A/B ;BBhtml" => b"a/b";
     b"\x0B =\"\\\\*B" => b"";
     b"image/svg+xml;x;;\\\\\"\n\t" => b"image/svg+xml";
     b"\ttext/plain\"x\" y" => b"";
+];
+
+/// A text, and that of the MIME type that it says, which is empty if it says none.
+pub(super) static PARSED_7: &[(&[u8], &[u8])] = cases![
+    b"\ttext/plain/utf-8\x7Futf-8,\xE9,\0\t" => b"";
     b"x/x;c=d;\\\\{ \\\x0B/\xE9\"\0\\+xml{" => b"x/x;c=d";
     b"\ttext/plain\\\\" => b"";
     b"\\\\='/charsetutf-8\0*\x7F" => b"";
     b"*;a=b \x0C;;\0\"x\" y\\\\\x0B, = " => b"";
     b"a/b;*x\x0Ba+xmlx" => b"a/b";
+    b"\t\x7F;utf-8\";;; charset=\"g\\\"b= ;" => b"";
     b"\na\\ =B= " => b"";
     b"image/svg+xml;\\\\\n \"x\" y\\\\\x0C" => b"image/svg+xml";
+    b"image/svg+xml; =\x0C\r \x7F\x0B\"/\\\\\";'" => b"image/svg+xml";
     b"B" => b"";
+    b"\ttext/plain\\\\\"x\" y\x7F" => b"";
     b"a/b;; charset=\"g\\\"btext{;\x0B\xE9" => b"a/b";
+    b"\ttext/plainutf-8\x7F*charset*{" => b"";
     b"x/x;c=d;/" => b"x/x;c=d";
     b"a/b;{" => b"a/b";
+    b"\ttext/plain\0;a=b =\x7F\t\x7F" => b"";
     b" A/B ;;;;=\"htmltext" => b"a/b";
     b"x/x;c=d;Bhtmlx" => b"x/x;c=d";
     b"utf-8html\r,=texttext;a=b/; charset=\"g\\\"b= ," => b"";
+    b" A/B ;\"x\" y\x7Fhtml= =\x7F" => b"a/b";
     b"\ttext/plaintext;\\ ; charset=\"g\\\"b\"\\\\;;{" => b"text/plaintext;charset=\"g\\\"b\"";
+    b"\ttext/plaina =\x7Fa/\r*;;\\+xmla=" => b"";
     b"text/html\xE9\0htmlcharsetx{B === \\\\=" => b"";
     b"x/x;c=d;=\x7F= \x0Ca\"x\" y\"\x0C\t" => b"x/x;c=d";
     b"x/x;c=d;\x0C\\\n*utf-8B" => b"x/x;c=d";
+    b" A/B ;\x7FhtmlB/\\a =+xml=\rB;" => b"a/b";
     b"text/htmlutf-8\"x\" yx\x0B\r= " => b"";
     b" A/B ; =charsetB\\xutf-8\r= =\t;;\n" => b"a/b";
     b"\"x\" y*\"x\" y" => b"";
@@ -907,15 +954,18 @@ pub(super) static PARSED_7: &[(&[u8], &[u8])] = cases![
     b"\n =," => b"";
     b"image/svg+xml;/{\x0Bhtmla\0; charset=\"g\\\"b\ncharsetx\x0C\\\\" => b"image/svg+xml";
     b"a/b;\"\0;a=b;a=b;\x0B" => b"a/b;a=b";
+    b"\0\xE9utf-8\x7Fa*/,\"x\" y" => b"";
     b"\x0B\";" => b"";
     b"\x7Fa;a=b; charset=\"g\\\"b= \"" => b"";
     b" A/B ;\0" => b"a/b";
     b" A/B ;\n =," => b"a/b";
     b"\t\x7F/" => b"";
+    b"\"x\" yutf-8\t\x7Futf-8\x0C*{*" => b"";
     b" A/B ; =\\html\n\x0Bcharset" => b"a/b";
     b"a/b;+xml" => b"a/b";
     b"a/b;,\0aB\x0C\x0C" => b"a/b";
     b"text/htmlcharsethtmlutf-8/a;a=b" => b"";
+    b"text/html\x7F\n= " => b"";
     b"text/html;a=b=; charset=\"g\\\"b\x7F\x0C+xml\x0C\\\\;a=b\r\0;a=b" => b"text/html;a=\"b=\"";
     b" A/B ;=html\"x\" y utf-8\t" => b"a/b";
     b"\ttext/plainutf-8; charset=\"g\\\"b,\\;a=b+xml" => b"text/plainutf-8;charset=\"g\\\"b,;a=b+xml\"";
@@ -937,21 +987,29 @@ pub(super) static PARSED_7: &[(&[u8], &[u8])] = cases![
     b" A/B ;\t; charset=\"g\\\"b'\r\x7F\"x\" y" => b"a/b";
     b"x/x;c=d;\n" => b"x/x;c=d";
     b" A/B ;utf-8 a\\\\\"\xE9" => b"a/b";
+    b" A/B ;/B\x7Fa\r= '\x7F\\" => b"a/b";
     b";;B;;\r;;{\"x\" y\x7Fcharset\t\t+xml" => b"";
     b"x/x;c=d;\\charset\x7Fhtml\"x\" y;a=b" => b"x/x;c=d;a=b";
     b" A/B ;\xE9\x7Fcharset" => b"a/b";
     b"x/x;c=d;\\\\x\r  = " => b"x/x;c=d";
+    b"a/b;'\x7F\\\\*\xE9\xE9,{\n" => b"a/b";
     b"image/svg+xml;\0{ =\"x\" y'" => b"image/svg+xml";
     b"text/htmlhtml; \xE9/\t\x0C\x0C; charset=\"g\\\"b" => b"text/htmlhtml;charset=\"g\\\"b\"";
+    b"image/svg+xml;\x7F',\xE9\x7F\\\\html/=" => b"image/svg+xml";
+    b"\ttext/plain;;\x7F=" => b"text/plain";
     b"\ttext/plain=" => b"";
     b"{\x0B=" => b"";
     b"x/x;c=d;utf-8\"\\\x0Bx\xE9" => b"x/x;c=d";
     b"'\nx" => b"";
     b"text/html'\t\x0B= \x0Butf-8" => b"";
     b" A/B ;," => b"a/b";
+    b"x/x;c=d;\xE9\0\"x\" y =\xE9B= /\x7F" => b"x/x;c=d";
     b"\ttext/plainhtml\x7F{*a\\x/\x0C;a=b{\0" => b"";
+    b"; charset=\"g\\\"b'\r\\\x7F\t,\x0C+xml" => b"";
     b"image/svg+xml;\x0B" => b"image/svg+xml";
+    b"\ttext/plain\ta\x7F\x0C{\0;;utf-8'" => b"";
     b"a/b;\x0Bhtmla\n;;;;" => b"a/b";
+    b"\x7F\x7F =utf-8 = " => b"";
     b"text;=\t\xE9xtext\0\x7Futf-8html " => b"";
     b"a/b; \\\"\xE9\t*" => b"a/b";
     b"text/html\nutf-8\"/*B" => b"";
@@ -959,12 +1017,15 @@ pub(super) static PARSED_7: &[(&[u8], &[u8])] = cases![
     b"x/x;c=d;'" => b"x/x;c=d";
     b"\ttext/plain\xE9\r\xE9x\0\"= *B" => b"";
     b"x/x;c=d;a+xml\\\\charsetcharset= \x7F  text;;'" => b"x/x;c=d";
+    b"a/b;utf-8\x7Ftext'\x0C\x7F;a=b\r=" => b"a/b";
+    b"x\x0B\x0Butf-8 charset;\x7F;;x;;B" => b"";
     b"image/svg+xml;\"" => b"image/svg+xml";
     b"\ttext/plaincharset,/\0html;*B{" => b"";
     b"text/html\"x\" y;;html" => b"";
     b"text/html\x0B{a;utf-8;;" => b"";
     b"utf-8utf-8\r" => b"";
     b"\ttext/plain = ; charset=\"g\\\"b\"x\" y=a;;\"x\" ycharset,\t\x7F" => b"";
+    b"x/x;c=d;'\x7F\xE9\x0B\\\\x\x0B\x7F;" => b"x/x;c=d";
     b" {xax\t" => b"";
     b"text/htmla\\\\;a=b\\;a=b\x7F" => b"";
     b"\x0B\r\0*'\xE9{= utf-8{\\\\" => b"";
@@ -977,6 +1038,7 @@ pub(super) static PARSED_7: &[(&[u8], &[u8])] = cases![
     b"text/html\n\"\"x\" y,\x0B =+xml;\xE9" => b"";
     b"x/x;c=d;\"' \\,\0\xE9,/" => b"x/x;c=d";
     b";" => b"";
+    b"x/x;c=d;B\0charset; charset=\"g\\\"b\x7F\xE9\x7F\\\\," => b"x/x;c=d";
     b" A/B ;\r" => b"a/b";
     b" A/B ; =+xml \xE9\t," => b"a/b";
     b"x/x;c=d;\n\\a" => b"x/x;c=d";
@@ -984,10 +1046,6 @@ pub(super) static PARSED_7: &[(&[u8], &[u8])] = cases![
     b"=" => b"";
     b"\0" => b"";
     b"+xml\"x\" y\"\x0C+xmlB" => b"";
-];
-
-/// A text, and that of the MIME type that it says, which is empty if it says none.
-pub(super) static PARSED_8: &[(&[u8], &[u8])] = cases![
     b",x=" => b"";
     b"\ttext/plaintext\xE9/=;+xml" => b"";
     b" A/B ;utf-8\\\\Btext\xE9text\t; charset=\"g\\\"b ; charset=\"g\\\"b*; charset=\"g\\\"b" => b"a/b;charset=\"g\\\"b ; charset=\"";
@@ -996,15 +1054,23 @@ pub(super) static PARSED_8: &[(&[u8], &[u8])] = cases![
     b"x/x;c=d;\ncharset\x0B \x7F*" => b"x/x;c=d";
     b"a" => b"";
     b"a/b;=html\x7F" => b"a/b";
+];
+
+/// A text, and that of the MIME type that it says, which is empty if it says none.
+pub(super) static PARSED_8: &[(&[u8], &[u8])] = cases![
     b"\ttext/plain{" => b"";
     b"x/x;c=d;\"x\" ya\"x\" y" => b"x/x;c=d";
+    b"\"x\" y\x7Ftext\x7F //\t," => b"";
     b"\ttext/plain;;\\;a=b" => b"text/plain;a=b";
     b" =\t= ; charset=\"g\\\"b;\n" => b"";
     b" A/B ;\n\"/" => b"a/b";
+    b" A/B ;'\"x\" yhtml\x7F'utf-8\x7F\x7F'htmltext\x0B" => b"a/b";
     b"\ttext/plain\"x;; \xE9text\\=;" => b"";
     b"utf-8='charset\r\"\x0B;a=ba" => b"";
     b"\ttext/plain \t\t*\x7F;a=b\x0Ca;" => b"";
+    b"text/html\"\x0Ctext\x7F\x0C+xml\n;;;;" => b"";
     b"textB,\";a=btextutf-8\\\\\r" => b"";
+    b"\r\x7F\xE9\x0B\0\x7F" => b"";
     b"\ttext/plain/\\';text\x7F" => b"";
     b" A/B ;*\t= " => b"a/b";
     b"image/svg+xml;*utf-8B\0\n,html\"\"x\" y" => b"image/svg+xml";
@@ -1016,6 +1082,8 @@ pub(super) static PARSED_8: &[(&[u8], &[u8])] = cases![
     b"\x0Btextcharsethtml=charset" => b"";
     b"html{charset\x0B\0/" => b"";
     b" \xE9charset" => b"";
+    b"x/x;c=d;\xE9;;{\x0Butf-8\x7F\x7F\\;; ={+xml" => b"x/x;c=d";
+    b"a/b;htmla\x7F; charset=\"g\\\"b =" => b"a/b;charset=\"g\\\"b =\"";
     b"\x7F;B\x7F \\\n+xml " => b"";
     b"a/b;\x0C\xE9;*html\tutf-8charsetcharset" => b"a/b";
     b"/utf-8 = x{" => b"";
@@ -1023,6 +1091,7 @@ pub(super) static PARSED_8: &[(&[u8], &[u8])] = cases![
     b"\ttext/plainutf-8" => b"text/plainutf-8";
     b"\"x\" y" => b"";
     b",\\\\'" => b"";
+    b"text/html\x7F\0\xE9 ='B" => b"";
     b"image/svg+xml;B{a/\nhtml\"x\" y;a=butf-8" => b"image/svg+xml;a=butf-8";
     b"image/svg+xml;\t; charset=\"g\\\"b\"" => b"image/svg+xml;charset=\"g\\\"b\"";
     b"\t\0\\html\x0B,;;;\t html{" => b"";
@@ -1032,18 +1101,24 @@ pub(super) static PARSED_8: &[(&[u8], &[u8])] = cases![
     b"; charset=\"g\\\"b'; charset=\"g\\\"b\x7F*html" => b"";
     b" A/B ;\x7FB\" =\r/;\t',charset\xE9" => b"a/b";
     b"x/x;c=d;*" => b"x/x;c=d";
+    b"html;\r; charset=\"g\\\"b\\;;;\nutf-8\xE9=\x7F" => b"";
     b"a/b;+xmlcharset\x0C\0\\\\x*\\charset" => b"a/b";
     b"\ttext/plain \x0B{,*{*\xE9;" => b"";
+    b"x/x;c=d;\x7F\x7F+xml" => b"x/x;c=d";
     b"\ttext/plain= / +xml\t{\n';a=b\xE9x;a=b" => b"";
     b" A/B ;\x7F\x7F\xE9/+xmlB\x7Ftext\x0C\"x\" y\x7F\t" => b"a/b";
     b"a/b;\\\\;a=b\n\x0B\\\\\\" => b"a/b";
     b"\"x\" y\x0C\thtml\\\\\\{\xE9\xE9" => b"";
     b"\nhtml," => b"";
     b" A/B ;\x0B* text\x0Chtml" => b"a/b";
+    b"\x0C; charset=\"g\\\"b';;\\\\\\\x7F*\n" => b"";
+    b"text/html\x7F\x0Bcharsettext\n text == a{/" => b"";
+    b"text/html\"x\" y\r\x7F" => b"";
     b"\ttext/plaintext+xmlB\x0C= \x0B\x7F+xml charset; charset=\"g\\\"b\x0B" => b"";
     b"\x7F a\"\x7F\\\\" => b"";
     b"text/html\x7Fcharset{;a=bx'=\"x\" yhtml/\0\r" => b"";
     b"a/b;utf-8a\x7Futf-8B+xml" => b"a/b";
+    b"\\; charset=\"g\\\"b\\\\\\text= ;a=b;;\x7F 'text" => b"";
     b" A/B ;\x0B;'" => b"a/b";
     b"a/b;\x0C" => b"a/b";
     b"image/svg+xml; =,\x0B" => b"image/svg+xml";
@@ -1061,7 +1136,9 @@ pub(super) static PARSED_8: &[(&[u8], &[u8])] = cases![
     b"\ttext/plain,x=Btext'charset{\t'\\\\; charset=\"g\\\"b" => b"";
     b" A/B ;\xE9; charset=\"g\\\"b\"x\" y =,\x7F" => b"a/b;charset=\"g\\\"b\"";
     b" A/B ;\t{utf-8; charset=\"g\\\"b'\x0B;a=b ;;" => b"a/b";
+    b"a/b;; charset=\"g\\\"b\"= == \x7F=,\nhtmla+xml" => b"a/b;charset=\"g\\\"b\"";
     b"a/b;{\x7F\\" => b"a/b";
+    b"a/b;x\r\x7FB\"\\\\" => b"a/b";
     b"x\x7F;a=b" => b"";
     b"a/b;\\" => b"a/b";
     b"*autf-8\n+xml'" => b"";
@@ -1074,6 +1151,7 @@ pub(super) static PARSED_8: &[(&[u8], &[u8])] = cases![
     b"a/b; =;;;B\"\\\\\"x\" y\"\",+xml\r" => b"a/b";
     b"\ttext/plain=/; , =\\\\htmlcharset" => b"";
     b"\ttext/plain\"charset;a=b= \0utf-8" => b"";
+    b"x/x;c=d;\x7Futf-8=\rtextutf-8;aB" => b"x/x;c=d";
     b"image/svg+xml;\x7Fcharset; \xE9{" => b"image/svg+xml";
     b"x/x;c=d;*\x7F =" => b"x/x;c=d";
     b"\ttext/plain,\\\\= ;\\=; charset=\"g\\\"b= \"x\" y" => b"";
@@ -1081,6 +1159,7 @@ pub(super) static PARSED_8: &[(&[u8], &[u8])] = cases![
     b"x/x;c=d;= utf-8 " => b"x/x;c=d";
     b"text/html;a=b" => b"text/html;a=b";
     b"+xml=\rcharset \0\\\\utf-8\x0C,\xE9\x7F" => b"";
+    b"; charset=\"g\\\"b{\ttext\x7F htmlcharset\x0C\n\"x\" y\0" => b"";
     b"text/html\\\\" => b"";
     b"/\nx\\\\\x7F\\" => b"";
     b"a/b;;'html ,/" => b"a/b";
@@ -1088,6 +1167,8 @@ pub(super) static PARSED_8: &[(&[u8], &[u8])] = cases![
     b"\ttext/plain\x7F'\0;/; charset=\"g\\\"b" => b"";
     b"text/html\rtext*a\txutf-8\"," => b"";
     b"\";\xE9\t;a=b\";a=b\0 =" => b"";
+    b"\ttext/plain\"\xE9\x7F" => b"";
+    b" A/B ;{\x0C ;\x7F\x0B" => b"a/b";
     b"text/html *+xmlx\n\x0B\\{\n" => b"";
     b"\ttext/plain\n;a=bcharset\r\x7F {utf-8\x7F" => b"text/plain";
     b"TEXT/HTML;CHARSET=\"GBK\"" => b"text/html;charset=GBK";
@@ -1101,6 +1182,7 @@ pub(super) static PARSED_8: &[(&[u8], &[u8])] = cases![
     b"text/html;a= b" => b"text/html;a=\" b\"";
     b"text/html;a=;a=b" => b"text/html;a=b";
     b"text/html;a=\"\";a=b" => b"text/html;a=\"\"";
+    b"text/html;a=\x7F;a=b" => b"text/html;a=b";
     b"text/html;a=\"b;c=d" => b"text/html;a=\"b;c=d\"";
     b"text/html;a=\"b\"c;d=e" => b"text/html;a=b;d=e";
     b"text/html;a=\"\\b\\\"\\\\\"" => b"text/html;a=\"b\\\"\\\\\"";
