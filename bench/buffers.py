@@ -88,6 +88,31 @@ def headers():
     ]
 
 
+def told():
+    """Buffers of 512 bytes, and the type that a browser was told."""
+    named = dict(headers())
+    png, text = named["a PNG image"], named["512 bytes of English-like text"]
+    return [
+        ("a PNG image, told as one", "image/png", png),
+        ("a PNG image, told as a JPEG image", "image/jpeg", png),
+        ("a text, told as an image", "image/png", text),
+        ("a text, told as HTML", "text/html", text),
+        ("a text, told as PDF", "application/pdf", text),
+        ("a text, told as nothing that says more", "*/*", text),
+    ]
+
+
+def mime_types():
+    """Texts of MIME types."""
+    long = b"x" * 1000
+    return [
+        ("`text/html`", b"text/html"), ("`text/html; charset=utf-8`", b"text/html; charset=utf-8"),
+        ("that of a document of Word", b"application/vnd.openxmlformats-officedocument.wordprocessingml.document"),
+        ("2001 small letters", long + b"/" + long), ("2001 capital letters", (long + b"/" + long).upper()),
+        ("1000 parameters", b"a/b" + b";c=d" * 1000),
+    ]
+
+
 def growing():
     """The kinds of buffers that grow, each with its buffers of every length."""
     kinds = [(name, [unit * (length // len(unit)) for _, length in LENGTHS]) for name, unit in UNITS]
