@@ -9,6 +9,7 @@ use Rattle.std.specs.Option.{option_or}
 use Rattle.std.specs.Prelude.{nat_le}
 use Rattle.std.specs.Str.{bytes_eq}
 use Rattle.memchr.specs.Find.{IsLastByte, is_byte}
+use Rattle.infer_named.proofs.EdgeLemmas.{last_before}
 use Rattle.infer_named.proofs.TableLemmas.{all_right}
 use Rattle.infer_named.specs.Dots.{IsNear}
 use Rattle.infer_named.specs.Key.{Key}
@@ -31,7 +32,7 @@ first_right k keys e = elim (cases_Bool (is_key_right k && not (list_any (is_key
   | inr off ↦ (let some : k.text ∷ wrong_keys keys ≡ [] = rw off at e in absurd (cc))
 ]
 
-none_long : (part : Part) (text : List ℕ) → 27 < length text → (keys : List Key) → wrong_keys keys ≡ [] → find (is_key part text) keys ≡ None
+pub none_long : (part : Part) (text : List ℕ) → 27 < length text → (keys : List Key) → wrong_keys keys ≡ [] → find (is_key part text) keys ≡ None
 none_long part text long [] e = refl
 none_long part text long (k ∷ keys) e =
     let (short, later) = first_right k keys e in elim (cases_Bool (is_key part text k)) [
@@ -42,7 +43,7 @@ none_long part text long (k ∷ keys) e =
     ]
 
 module _ (stem : List ℕ) where
-  far_none : (dot : ℕ) → dot + 28 < length stem → entry keys Extension (drop (dot + 1) stem) ≡ None
+  pub far_none : (dot : ℕ) → dot + 28 < length stem → entry keys Extension (drop (dot + 1) stem) ≡ None
   far_none dot far =
       let text = drop (dot + 1) stem in
       let left : length text ≡ length stem - (dot + 1) = length-drop (dot + 1) stem in
@@ -57,33 +58,8 @@ module _ (stem : List ℕ) where
   near_alike dot near (inl same) = ap (extension_at keys stem) same
   near_alike dot near (inr (none, far)) = ap (extension_at keys stem) none ∙ sym (far_at dot far)
 
-  -- each stem has a last dot before a place, or none
-  longer : (n : ℕ) → is_byte 0x2E (get_or stem n 0) ≡ false → (dot : Option ℕ) → IsLastDot stem n dot → IsLastDot stem (suc n) dot
-  longer n off None none = λ k low lt is. elim (cases_lt k n) [
-    | inl before ↦ none k low before is
-    | inr here ↦ (let same : k ≡ n = omega arith in let on = subst (λ i. is_byte 0x2E (get_or stem i 0) ≡ true) same is in absurd (cc))
-  ]
-  longer n off (Some dot) (there, passes) = (
-    record {
-      low = there.low;
-      high = (let high : dot < n = there.high in omega arith);
-      after = λ k low lt is. elim (cases_lt k n) [
-        | inl before ↦ there.after k low before is
-        | inr here ↦ (let same : k ≡ n = omega arith in let on = subst (λ i. is_byte 0x2E (get_or stem i 0) ≡ true) same is in absurd (cc))
-      ];
-    },
-    passes,
-  )
-
   pub dot_before : (n : ℕ) → (dot : Option ℕ) × IsLastDot stem n dot
-  dot_before zero = (None, λ k low lt is. absurd (omega arith))
-  dot_before (suc n) = elim (cases_Bool (is_byte 0x2E (get_or stem n 0))) [
-    | inl on ↦ elim (cases_lt n 1) [
-      | inl first ↦ (None, λ k low lt is. absurd (omega arith))
-      | inr later ↦ (Some n, (record { low = later; high = omega arith; after = λ k low lt is. absurd (omega arith) }, on))
-    ]
-    | inr off ↦ (let before = dot_before n in (before.0, longer n off before.0 before.1))
-  ]
+  dot_before = last_before (is_byte 0x2E) stem 1
 
   -- what a search from a place on tells
   module _ (start before : ℕ) (first : start ≤ before) (last : before ≤ length stem) (near : start ≤ length stem - 28) where

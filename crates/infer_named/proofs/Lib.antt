@@ -7,10 +7,11 @@ pub mod MarkLemmas
 pub mod Placed
 pub mod PlacedLemmas
 pub mod TableLemmas
+pub mod EdgeLemmas
 pub mod DotLemmas
+pub mod EndLemmas
 pub mod KindLemmas
 pub mod CopyLemmas
-pub mod EdgeLemmas
 pub mod MakerLemmas
 pub mod RowLemmas
 pub mod SetLemmas

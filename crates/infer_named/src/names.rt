@@ -1,10 +1,10 @@
 //! The key of a name.
-ghost use Rattle.std.specs.Prelude.{◌≡◌, ◌<◌, ◌≤◌, ◌==◌, ℕ, IfSome, Option, IsTrue, None, Some, false, if◌then◌else◌, length, map, not, option_map, true};
+ghost use Rattle.std.specs.Prelude.{◌≡◌, ◌-◌, ◌<◌, ◌≤◌, ◌==◌, ℕ, IfSome, Option, IsTrue, None, Some, drop, false, if◌then◌else◌, is_some, length, map, not, option_map, true};
 ghost use Rattle.std.specs.Char.{to_ascii_lowercase};
 ghost use Rattle.std.specs.List.{find, list_any};
 ghost use Rattle.std.specs.Str.{bytes_eq};
-ghost use Rattle.memchr.specs.Find.{IsLastByte, is_byte3};
-ghost use Rattle.infer_named.specs.Dots.{IsNear};
+ghost use Rattle.memchr.specs.Find.{IsFirstByte, IsLastByte, is_byte, is_byte3};
+ghost use Rattle.infer_named.specs.Dots.{HasEdge, IsNear, IsSettled};
 ghost use Rattle.infer_named.specs.Listed.{key_listed};
 ghost use Rattle.infer_named.specs.Marks.{mark_of};
 ghost use Rattle.infer_named.specs.Names.{IsBase, IsDottedKey, IsExtensionKey, IsKey, IsLastDot, IsMakerKey, IsStemKey, IsVersioned, are_parts, copy_length, ends_copy, ends_in, entry, extension_at, is_digit, is_key, is_version, is_version_byte, makers, same_part, slot_of, small, stem_of};
@@ -15,7 +15,7 @@ use crate::marks::{is_marked, mark};
 use crate::table::{Key, Part, key_text, slot, whole_marks};
 use memchr::{memchr, memrchr, memrchr2, memrchr3};
 
-/// How many bytes at the end of a name are searched first: one less than a vector has.
+/// How many bytes at the end of a name are searched first: one less than a vector has, and more than a key.
 const NEAR: usize = 31;
 
 /// A dot so far from the end has more behind it than a key has.
@@ -24,28 +24,88 @@ const FAR: usize = 28;
 /// A first dot that does not stand among so many bytes has more before it than a maker has.
 const MAKER_FRONT: usize = 14;
 
-/// The key of the name, and `None` exactly if it has none.
+/// The key of the name, and `None` exactly if it has none. Most bases are short, so its last bytes are searched by themselves.
 pub fn key(name: &[u8]) -> Option<&'static Key>
     ensures { IsKey keys name.now (option_map (λ k. key_listed k.now) result) }
 {
-    match last_edge(name) {
+    let near = name.len().saturating_sub(NEAR);
+    match memrchr3(0, b'/', b'\\', &name[near..]) {
+        Some(place) => key_behind(name, near + place),
+        None => key_without_edge(name, near),
+    }
+}
+
+/// The key of a name none of whose bytes from this place on is 00, "/" or "\".
+fn key_without_edge(name: &[u8], near: usize) -> Option<&'static Key>
+    requires place { near ≤ length name.now }
+    requires none { IsLastByte (is_byte3 0 0x2F 0x5C) (drop near name.now) None }
+    ensures { IsKey keys name.now (option_map (λ k. key_listed k.now) result) }
+{
+    if near == 0 {
+        return key_of_stem(stem(name));
+    }
+    long_key(name, near)
+}
+
+/// The same of a long name. If those bytes settle its extension, where its base begins does not matter. It is not inlined,
+/// so that short names, which most are, pay nothing for it.
+#[inline(never)]
+fn long_key(name: &[u8], near: usize) -> Option<&'static Key>
+    requires place { near ≤ length name.now }
+    requires none { IsLastByte (is_byte3 0 0x2F 0x5C) (drop near name.now) None }
+    ensures { IsKey keys name.now (option_map (λ k. key_listed k.now) result) }
+{
+    match settled_key(&name[near..]) {
+        Some(found) => without_zero(&name[..near], found),
+        None => far_key(name, near),
+    }
+}
+
+/// The extension of each base that ends in these bytes, if they settle that: there are more of them than a key has, they are
+/// no copy's, and before the version that they may end in stands as much as ".so".
+fn settled_key(end: &[u8]) -> Option<&'static Key>
+    ensures { IfSome (option_map (λ k. key_listed k.now) result) (λ key. IsSettled end.now × IsExtensionKey keys end.now (Some key)) }
+{
+    if FAR < end.len() && copy_length(end) == 0 && has_edge(end) {
+        extension_key(end)
+    } else {
+        None
+    }
+}
+
+fn has_edge(end: &[u8]) -> bool
+    ensures { IsTrue result → HasEdge end.now }
+{
+    match version_edge(end) {
+        Some(edge) => b".so".len() <= edge,
+        None => false,
+    }
+}
+
+/// The key, if the bytes before have no 00.
+fn without_zero(before: &[u8], found: &'static Key) -> Option<&'static Key>
+    ensures { (zero_byte : Option ℕ) × IsFirstByte (is_byte 0) before.now zero_byte
+        × (option_map (λ k. key_listed k.now) result ≡ (if is_some zero_byte then None else Some (key_listed found.now))) }
+{
+    match memchr(0, before) {
+        Some(_) => None,
+        None => Some(found),
+    }
+}
+
+/// The key of a name none of whose bytes from this place on is 00, "/" or "\".
+fn far_key(name: &[u8], near: usize) -> Option<&'static Key>
+    requires place { near ≤ length name.now }
+    requires none { IsLastByte (is_byte3 0 0x2F 0x5C) (drop near name.now) None }
+    ensures { IsKey keys name.now (option_map (λ k. key_listed k.now) result) }
+{
+    match memrchr3(0, b'/', b'\\', &name[..near]) {
         Some(place) => key_behind(name, place),
         None => key_of_stem(stem(name)),
     }
 }
 
-/// Where the last byte 00, "/" or "\" stands. Most bases are short, so the last bytes are searched by themselves.
-fn last_edge(name: &[u8]) -> Option<usize>
-    ensures { IsLastByte (is_byte3 0 0x2F 0x5C) name.now result }
-{
-    let near = name.len().saturating_sub(NEAR);
-    match memrchr3(0, b'/', b'\\', &name[near..]) {
-        Some(place) => Some(near + place),
-        None => memrchr3(0, b'/', b'\\', &name[..near]),
-    }
-}
-
-/// The key of a name of which the last such byte stands here.
+/// The key of a name of which the last byte 00, "/" or "\" stands here.
 fn key_behind(name: &[u8], place: usize) -> Option<&'static Key>
     requires { IsLastByte (is_byte3 0 0x2F 0x5C) name.now (Some place) }
     ensures { IsKey keys name.now (option_map (λ k. key_listed k.now) result) }
