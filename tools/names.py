@@ -13,6 +13,8 @@ NAMES = f"{CRATE}/names.txt"
 SLOTS, GROUP = 512, 64
 LONGEST = 27
 COPIES = ("~", ".bak", ".orig", ".old")
+# Bytes without a row of which kinds a type admits, by what it asks.
+KINDS = {"Signature": set(), "Text": {"empty", "marked"}, "Bytes": {"marked", "binary"}, "Nothing": {"empty", "marked", "binary"}}
 # Who names a type, from those whose types more files have.
 ORIGINS = ("Row", "Known", "Own")
 LINE = re.compile(r"(?P<loose>loose )?(?P<part>extension|whole) (?P<text>\S+): (?P<readings>.*)")
@@ -301,6 +303,14 @@ def reading(text):
     return Reading(found["mime_type"], origin, found["asks"].title(), *kinds, leads)
 
 
+def is_hidden(it, before):
+    """Whether those before that fit all bytes take its rows, and admit each kind of bytes without a row that it admits."""
+    all_fit = [other for other in before if not other.leads]
+    rows = {row for other in all_fit for row in (*other.agrees, *other.begins, *other.finer)}
+    kinds = {kind for other in all_fit for kind in KINDS[other.asks]}
+    return rows.issuperset({*it.agrees, *it.begins, *it.finer}) and kinds.issuperset(KINDS[it.asks])
+
+
 def name(line):
     found = LINE.fullmatch(line)
     if not found:
@@ -310,7 +320,13 @@ def name(line):
         raise Wrong(f"a key has 1 to {LONGEST} small letters, digits and marks")
     if any(text.endswith(it) and text != it for it in COPIES):
         raise Wrong("a name loses the ending of a copy")
-    return Name(text, found["part"].title(), bool(found["loose"]), tuple(map(reading, found["readings"].split(" | "))))
+    if found["part"] == "extension" and (text.count(".") > 1 or text.startswith("so.") or f".{text}" in COPIES):
+        raise Wrong("no name has this extension")
+    readings = tuple(map(reading, found["readings"].split(" | ")))
+    for number, it in enumerate(readings):
+        if is_hidden(it, readings[:number]):
+            raise Wrong(f"no bytes are left to {it.mime_type}")
+    return Name(text, found["part"].title(), bool(found["loose"]), readings)
 
 
 @kept

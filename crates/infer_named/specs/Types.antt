@@ -62,3050 +62,3278 @@ is-application-geopackage-sqlite3 = 18
 abbrev pub is-application-gml-xml : ℕ
 is-application-gml-xml = 19
 
+abbrev pub is-application-gnunet-directory : ℕ
+is-application-gnunet-directory = 20
+
 abbrev pub is-application-gpx-xml : ℕ
-is-application-gpx-xml = 20
+is-application-gpx-xml = 21
 
 abbrev pub is-application-graphql : ℕ
-is-application-graphql = 21
+is-application-graphql = 22
 
 abbrev pub is-application-gzip : ℕ
-is-application-gzip = 22
+is-application-gzip = 23
 
 abbrev pub is-application-hjson : ℕ
-is-application-hjson = 23
+is-application-hjson = 24
 
 abbrev pub is-application-hta : ℕ
-is-application-hta = 24
+is-application-hta = 25
 
 abbrev pub is-application-illustrator : ℕ
-is-application-illustrator = 25
+is-application-illustrator = 26
 
 abbrev pub is-application-its-xml : ℕ
-is-application-its-xml = 26
+is-application-its-xml = 27
 
 abbrev pub is-application-java : ℕ
-is-application-java = 27
+is-application-java = 28
 
 abbrev pub is-application-java-archive : ℕ
-is-application-java-archive = 28
+is-application-java-archive = 29
 
 abbrev pub is-application-json : ℕ
-is-application-json = 29
+is-application-json = 30
 
 abbrev pub is-application-json5 : ℕ
-is-application-json5 = 30
+is-application-json5 = 31
 
 abbrev pub is-application-jsonnet : ℕ
-is-application-jsonnet = 31
+is-application-jsonnet = 32
 
 abbrev pub is-application-ld-json : ℕ
-is-application-ld-json = 32
+is-application-ld-json = 33
 
 abbrev pub is-application-lrc : ℕ
-is-application-lrc = 33
+is-application-lrc = 34
 
 abbrev pub is-application-manifest-json : ℕ
-is-application-manifest-json = 34
+is-application-manifest-json = 35
 
 abbrev pub is-application-mathml-xml : ℕ
-is-application-mathml-xml = 35
+is-application-mathml-xml = 36
 
 abbrev pub is-application-mbox : ℕ
-is-application-mbox = 36
+is-application-mbox = 37
 
 abbrev pub is-application-metalink-xml : ℕ
-is-application-metalink-xml = 37
+is-application-metalink-xml = 38
 
 abbrev pub is-application-metalink4-xml : ℕ
-is-application-metalink4-xml = 38
+is-application-metalink4-xml = 39
 
 abbrev pub is-application-msgpack : ℕ
-is-application-msgpack = 39
+is-application-msgpack = 40
 
 abbrev pub is-application-msix : ℕ
-is-application-msix = 40
+is-application-msix = 41
 
 abbrev pub is-application-msword : ℕ
-is-application-msword = 41
+is-application-msword = 42
 
 abbrev pub is-application-msword-template : ℕ
-is-application-msword-template = 42
+is-application-msword-template = 43
 
 abbrev pub is-application-mxf : ℕ
-is-application-mxf = 43
+is-application-mxf = 44
 
 abbrev pub is-application-n-quads : ℕ
-is-application-n-quads = 44
+is-application-n-quads = 45
 
 abbrev pub is-application-n-triples : ℕ
-is-application-n-triples = 45
+is-application-n-triples = 46
 
 abbrev pub is-application-octet-stream : ℕ
-is-application-octet-stream = 46
+is-application-octet-stream = 47
 
 abbrev pub is-application-oebps-package-xml : ℕ
-is-application-oebps-package-xml = 47
+is-application-oebps-package-xml = 48
 
 abbrev pub is-application-onenote : ℕ
-is-application-onenote = 48
+is-application-onenote = 49
 
 abbrev pub is-application-onnx : ℕ
-is-application-onnx = 49
+is-application-onnx = 50
 
 abbrev pub is-application-owl-xml : ℕ
-is-application-owl-xml = 50
+is-application-owl-xml = 51
 
 abbrev pub is-application-oxps : ℕ
-is-application-oxps = 51
+is-application-oxps = 52
 
 abbrev pub is-application-pdf : ℕ
-is-application-pdf = 52
+is-application-pdf = 53
 
 abbrev pub is-application-pgp-encrypted : ℕ
-is-application-pgp-encrypted = 53
+is-application-pgp-encrypted = 54
 
 abbrev pub is-application-pgp-keys-as-row-asc : ℕ
-is-application-pgp-keys-as-row-asc = 54
+is-application-pgp-keys-as-row-asc = 55
 
 abbrev pub is-application-pgp-keys-as-row-gpg : ℕ
-is-application-pgp-keys-as-row-gpg = 55
+is-application-pgp-keys-as-row-gpg = 56
 
 abbrev pub is-application-pgp-signature : ℕ
-is-application-pgp-signature = 56
+is-application-pgp-signature = 57
 
 abbrev pub is-application-pkcs10 : ℕ
-is-application-pkcs10 = 57
+is-application-pkcs10 = 58
 
 abbrev pub is-application-pkcs12 : ℕ
-is-application-pkcs12 = 58
+is-application-pkcs12 = 59
 
 abbrev pub is-application-pkcs7-mime : ℕ
-is-application-pkcs7-mime = 59
+is-application-pkcs7-mime = 60
 
 abbrev pub is-application-pkcs7-signature : ℕ
-is-application-pkcs7-signature = 60
+is-application-pkcs7-signature = 61
 
 abbrev pub is-application-pkcs8 : ℕ
-is-application-pkcs8 = 61
+is-application-pkcs8 = 62
 
 abbrev pub is-application-pkix-cert : ℕ
-is-application-pkix-cert = 62
+is-application-pkix-cert = 63
 
 abbrev pub is-application-pkix-crl : ℕ
-is-application-pkix-crl = 63
+is-application-pkix-crl = 64
 
 abbrev pub is-application-postscript : ℕ
-is-application-postscript = 64
+is-application-postscript = 65
 
 abbrev pub is-application-protobuf : ℕ
-is-application-protobuf = 65
+is-application-protobuf = 66
 
 abbrev pub is-application-raml-yaml : ℕ
-is-application-raml-yaml = 66
+is-application-raml-yaml = 67
 
 abbrev pub is-application-rdf-xml : ℕ
-is-application-rdf-xml = 67
+is-application-rdf-xml = 68
 
 abbrev pub is-application-relax-ng-compact-syntax : ℕ
-is-application-relax-ng-compact-syntax = 68
+is-application-relax-ng-compact-syntax = 69
 
 abbrev pub is-application-rss-xml : ℕ
-is-application-rss-xml = 69
+is-application-rss-xml = 70
 
 abbrev pub is-application-rtf : ℕ
-is-application-rtf = 70
+is-application-rtf = 71
 
 abbrev pub is-application-sarif-json : ℕ
-is-application-sarif-json = 71
+is-application-sarif-json = 72
 
 abbrev pub is-application-sbml-xml : ℕ
-is-application-sbml-xml = 72
+is-application-sbml-xml = 73
 
 abbrev pub is-application-schema-json : ℕ
-is-application-schema-json = 73
+is-application-schema-json = 74
 
 abbrev pub is-application-smil-xml : ℕ
-is-application-smil-xml = 74
+is-application-smil-xml = 75
 
 abbrev pub is-application-sourcemap-json : ℕ
-is-application-sourcemap-json = 75
+is-application-sourcemap-json = 76
 
 abbrev pub is-application-sparql-query : ℕ
-is-application-sparql-query = 76
+is-application-sparql-query = 77
+
+abbrev pub is-application-sparql-results-xml : ℕ
+is-application-sparql-results-xml = 78
 
 abbrev pub is-application-sql : ℕ
-is-application-sql = 77
+is-application-sql = 79
 
 abbrev pub is-application-srgs-xml : ℕ
-is-application-srgs-xml = 78
+is-application-srgs-xml = 80
 
 abbrev pub is-application-tei-xml : ℕ
-is-application-tei-xml = 79
+is-application-tei-xml = 81
 
 abbrev pub is-application-timestamp-query : ℕ
-is-application-timestamp-query = 80
+is-application-timestamp-query = 82
 
 abbrev pub is-application-timestamp-reply : ℕ
-is-application-timestamp-reply = 81
+is-application-timestamp-reply = 83
 
 abbrev pub is-application-toml : ℕ
-is-application-toml = 82
+is-application-toml = 84
 
 abbrev pub is-application-topo-json : ℕ
-is-application-topo-json = 83
+is-application-topo-json = 85
 
 abbrev pub is-application-trig : ℕ
-is-application-trig = 84
+is-application-trig = 86
 
 abbrev pub is-application-ttml-xml : ℕ
-is-application-ttml-xml = 85
+is-application-ttml-xml = 87
 
 abbrev pub is-application-tzif : ℕ
-is-application-tzif = 86
+is-application-tzif = 88
 
 abbrev pub is-application-vnd-adobe-xfdf : ℕ
-is-application-vnd-adobe-xfdf = 87
+is-application-vnd-adobe-xfdf = 89
 
 abbrev pub is-application-vnd-amazon-mobi8-ebook : ℕ
-is-application-vnd-amazon-mobi8-ebook = 88
+is-application-vnd-amazon-mobi8-ebook = 90
 
 abbrev pub is-application-vnd-android-dex : ℕ
-is-application-vnd-android-dex = 89
+is-application-vnd-android-dex = 91
 
 abbrev pub is-application-vnd-android-dey : ℕ
-is-application-vnd-android-dey = 90
+is-application-vnd-android-dey = 92
 
 abbrev pub is-application-vnd-android-package-archive : ℕ
-is-application-vnd-android-package-archive = 91
+is-application-vnd-android-package-archive = 93
 
 abbrev pub is-application-vnd-apache-arrow-file : ℕ
-is-application-vnd-apache-arrow-file = 92
+is-application-vnd-apache-arrow-file = 94
 
 abbrev pub is-application-vnd-apache-parquet : ℕ
-is-application-vnd-apache-parquet = 93
+is-application-vnd-apache-parquet = 95
 
 abbrev pub is-application-vnd-appimage : ℕ
-is-application-vnd-appimage = 94
+is-application-vnd-appimage = 96
 
 abbrev pub is-application-vnd-apple-keynote : ℕ
-is-application-vnd-apple-keynote = 95
+is-application-vnd-apple-keynote = 97
 
 abbrev pub is-application-vnd-apple-mpegurl : ℕ
-is-application-vnd-apple-mpegurl = 96
+is-application-vnd-apple-mpegurl = 98
 
 abbrev pub is-application-vnd-apple-numbers : ℕ
-is-application-vnd-apple-numbers = 97
+is-application-vnd-apple-numbers = 99
 
 abbrev pub is-application-vnd-apple-pages : ℕ
-is-application-vnd-apple-pages = 98
+is-application-vnd-apple-pages = 100
+
+abbrev pub is-application-vnd-apple-pkpass : ℕ
+is-application-vnd-apple-pkpass = 101
 
 abbrev pub is-application-vnd-bzip3 : ℕ
-is-application-vnd-bzip3 = 99
+is-application-vnd-bzip3 = 102
 
 abbrev pub is-application-vnd-chess-pgn : ℕ
-is-application-vnd-chess-pgn = 100
+is-application-vnd-chess-pgn = 103
 
 abbrev pub is-application-vnd-coffeescript : ℕ
-is-application-vnd-coffeescript = 101
+is-application-vnd-coffeescript = 104
 
 abbrev pub is-application-vnd-comicbook-zip : ℕ
-is-application-vnd-comicbook-zip = 102
+is-application-vnd-comicbook-zip = 105
 
 abbrev pub is-application-vnd-comicbook-rar : ℕ
-is-application-vnd-comicbook-rar = 103
+is-application-vnd-comicbook-rar = 106
 
 abbrev pub is-application-vnd-corel-draw : ℕ
-is-application-vnd-corel-draw = 104
+is-application-vnd-corel-draw = 107
 
 abbrev pub is-application-vnd-dbf : ℕ
-is-application-vnd-dbf = 105
+is-application-vnd-dbf = 108
 
 abbrev pub is-application-vnd-debian-binary-package : ℕ
-is-application-vnd-debian-binary-package = 106
+is-application-vnd-debian-binary-package = 109
 
 abbrev pub is-application-vnd-etsi-asic-e-zip : ℕ
-is-application-vnd-etsi-asic-e-zip = 107
+is-application-vnd-etsi-asic-e-zip = 110
 
 abbrev pub is-application-vnd-flatpak : ℕ
-is-application-vnd-flatpak = 108
+is-application-vnd-flatpak = 111
 
 abbrev pub is-application-vnd-garmin-tcx-xml : ℕ
-is-application-vnd-garmin-tcx-xml = 109
+is-application-vnd-garmin-tcx-xml = 112
 
 abbrev pub is-application-vnd-geogebra-file : ℕ
-is-application-vnd-geogebra-file = 110
+is-application-vnd-geogebra-file = 113
 
 abbrev pub is-application-vnd-google-earth-kml-xml : ℕ
-is-application-vnd-google-earth-kml-xml = 111
+is-application-vnd-google-earth-kml-xml = 114
 
 abbrev pub is-application-vnd-google-earth-kmz : ℕ
-is-application-vnd-google-earth-kmz = 112
+is-application-vnd-google-earth-kmz = 115
 
 abbrev pub is-application-vnd-hp-pcl : ℕ
-is-application-vnd-hp-pcl = 113
+is-application-vnd-hp-pcl = 116
 
 abbrev pub is-application-vnd-iccprofile : ℕ
-is-application-vnd-iccprofile = 114
+is-application-vnd-iccprofile = 117
 
 abbrev pub is-application-vnd-laszip : ℕ
-is-application-vnd-laszip = 115
+is-application-vnd-laszip = 118
 
 abbrev pub is-application-vnd-lotus-1-2-3 : ℕ
-is-application-vnd-lotus-1-2-3 = 116
+is-application-vnd-lotus-1-2-3 = 119
 
 abbrev pub is-application-vnd-lotus-wordpro : ℕ
-is-application-vnd-lotus-wordpro = 117
+is-application-vnd-lotus-wordpro = 120
 
 abbrev pub is-application-vnd-mbtiles : ℕ
-is-application-vnd-mbtiles = 118
+is-application-vnd-mbtiles = 121
 
 abbrev pub is-application-vnd-microsoft-portable-executable : ℕ
-is-application-vnd-microsoft-portable-executable = 119
+is-application-vnd-microsoft-portable-executable = 122
 
 abbrev pub is-application-vnd-mozilla-webapp-json : ℕ
-is-application-vnd-mozilla-webapp-json = 120
+is-application-vnd-mozilla-webapp-json = 123
 
 abbrev pub is-application-vnd-mozilla-xul-xml : ℕ
-is-application-vnd-mozilla-xul-xml = 121
+is-application-vnd-mozilla-xul-xml = 124
 
 abbrev pub is-application-vnd-ms-asf : ℕ
-is-application-vnd-ms-asf = 122
+is-application-vnd-ms-asf = 125
 
 abbrev pub is-application-vnd-ms-cab-compressed : ℕ
-is-application-vnd-ms-cab-compressed = 123
+is-application-vnd-ms-cab-compressed = 126
 
 abbrev pub is-application-vnd-ms-excel : ℕ
-is-application-vnd-ms-excel = 124
+is-application-vnd-ms-excel = 127
 
 abbrev pub is-application-vnd-ms-excel-addin-macroenabled-12 : ℕ
-is-application-vnd-ms-excel-addin-macroenabled-12 = 125
+is-application-vnd-ms-excel-addin-macroenabled-12 = 128
 
 abbrev pub is-application-vnd-ms-excel-sheet-binary-macroenabled-12 : ℕ
-is-application-vnd-ms-excel-sheet-binary-macroenabled-12 = 126
+is-application-vnd-ms-excel-sheet-binary-macroenabled-12 = 129
 
 abbrev pub is-application-vnd-ms-excel-sheet-macroenabled-12 : ℕ
-is-application-vnd-ms-excel-sheet-macroenabled-12 = 127
+is-application-vnd-ms-excel-sheet-macroenabled-12 = 130
 
 abbrev pub is-application-vnd-ms-excel-template-macroenabled-12 : ℕ
-is-application-vnd-ms-excel-template-macroenabled-12 = 128
+is-application-vnd-ms-excel-template-macroenabled-12 = 131
 
 abbrev pub is-application-vnd-ms-htmlhelp : ℕ
-is-application-vnd-ms-htmlhelp = 129
+is-application-vnd-ms-htmlhelp = 132
 
 abbrev pub is-application-vnd-ms-outlook : ℕ
-is-application-vnd-ms-outlook = 130
+is-application-vnd-ms-outlook = 133
 
 abbrev pub is-application-vnd-ms-outlook-pst : ℕ
-is-application-vnd-ms-outlook-pst = 131
+is-application-vnd-ms-outlook-pst = 134
 
 abbrev pub is-application-vnd-ms-powerpoint : ℕ
-is-application-vnd-ms-powerpoint = 132
+is-application-vnd-ms-powerpoint = 135
 
 abbrev pub is-application-vnd-ms-powerpoint-presentation-macroenabled-12 : ℕ
-is-application-vnd-ms-powerpoint-presentation-macroenabled-12 = 133
+is-application-vnd-ms-powerpoint-presentation-macroenabled-12 = 136
 
 abbrev pub is-application-vnd-ms-powerpoint-slideshow-macroenabled-12 : ℕ
-is-application-vnd-ms-powerpoint-slideshow-macroenabled-12 = 134
+is-application-vnd-ms-powerpoint-slideshow-macroenabled-12 = 137
 
 abbrev pub is-application-vnd-ms-powerpoint-template-macroenabled-12 : ℕ
-is-application-vnd-ms-powerpoint-template-macroenabled-12 = 135
+is-application-vnd-ms-powerpoint-template-macroenabled-12 = 138
 
 abbrev pub is-application-vnd-ms-project : ℕ
-is-application-vnd-ms-project = 136
+is-application-vnd-ms-project = 139
 
 abbrev pub is-application-vnd-ms-publisher : ℕ
-is-application-vnd-ms-publisher = 137
+is-application-vnd-ms-publisher = 140
 
 abbrev pub is-application-vnd-ms-tnef : ℕ
-is-application-vnd-ms-tnef = 138
+is-application-vnd-ms-tnef = 141
 
 abbrev pub is-application-vnd-ms-visio-drawing-macroenabled-main-xml : ℕ
-is-application-vnd-ms-visio-drawing-macroenabled-main-xml = 139
+is-application-vnd-ms-visio-drawing-macroenabled-main-xml = 142
 
 abbrev pub is-application-vnd-ms-visio-drawing-main-xml : ℕ
-is-application-vnd-ms-visio-drawing-main-xml = 140
+is-application-vnd-ms-visio-drawing-main-xml = 143
 
 abbrev pub is-application-vnd-ms-visio-stencil-main-xml : ℕ
-is-application-vnd-ms-visio-stencil-main-xml = 141
+is-application-vnd-ms-visio-stencil-main-xml = 144
 
 abbrev pub is-application-vnd-ms-visio-template-main-xml : ℕ
-is-application-vnd-ms-visio-template-main-xml = 142
+is-application-vnd-ms-visio-template-main-xml = 145
 
 abbrev pub is-application-vnd-ms-word-document-macroenabled-12 : ℕ
-is-application-vnd-ms-word-document-macroenabled-12 = 143
+is-application-vnd-ms-word-document-macroenabled-12 = 146
 
 abbrev pub is-application-vnd-ms-word-template-macroenabled-12 : ℕ
-is-application-vnd-ms-word-template-macroenabled-12 = 144
+is-application-vnd-ms-word-template-macroenabled-12 = 147
 
 abbrev pub is-application-vnd-ms-works : ℕ
-is-application-vnd-ms-works = 145
+is-application-vnd-ms-works = 148
+
+abbrev pub is-application-vnd-ms-wpl : ℕ
+is-application-vnd-ms-wpl = 149
 
 abbrev pub is-application-vnd-ms-xpsdocument : ℕ
-is-application-vnd-ms-xpsdocument = 146
+is-application-vnd-ms-xpsdocument = 150
 
 abbrev pub is-application-vnd-nintendo-nitro-rom : ℕ
-is-application-vnd-nintendo-nitro-rom = 147
+is-application-vnd-nintendo-nitro-rom = 151
 
 abbrev pub is-application-vnd-nintendo-snes-rom : ℕ
-is-application-vnd-nintendo-snes-rom = 148
+is-application-vnd-nintendo-snes-rom = 152
 
 abbrev pub is-application-vnd-oasis-opendocument-base : ℕ
-is-application-vnd-oasis-opendocument-base = 149
+is-application-vnd-oasis-opendocument-base = 153
 
 abbrev pub is-application-vnd-oasis-opendocument-chart : ℕ
-is-application-vnd-oasis-opendocument-chart = 150
+is-application-vnd-oasis-opendocument-chart = 154
 
 abbrev pub is-application-vnd-oasis-opendocument-formula : ℕ
-is-application-vnd-oasis-opendocument-formula = 151
+is-application-vnd-oasis-opendocument-formula = 155
 
 abbrev pub is-application-vnd-oasis-opendocument-graphics : ℕ
-is-application-vnd-oasis-opendocument-graphics = 152
+is-application-vnd-oasis-opendocument-graphics = 156
 
 abbrev pub is-application-vnd-oasis-opendocument-graphics-flat-xml : ℕ
-is-application-vnd-oasis-opendocument-graphics-flat-xml = 153
+is-application-vnd-oasis-opendocument-graphics-flat-xml = 157
 
 abbrev pub is-application-vnd-oasis-opendocument-graphics-template : ℕ
-is-application-vnd-oasis-opendocument-graphics-template = 154
+is-application-vnd-oasis-opendocument-graphics-template = 158
 
 abbrev pub is-application-vnd-oasis-opendocument-image : ℕ
-is-application-vnd-oasis-opendocument-image = 155
+is-application-vnd-oasis-opendocument-image = 159
 
 abbrev pub is-application-vnd-oasis-opendocument-presentation : ℕ
-is-application-vnd-oasis-opendocument-presentation = 156
+is-application-vnd-oasis-opendocument-presentation = 160
 
 abbrev pub is-application-vnd-oasis-opendocument-presentation-flat-xml : ℕ
-is-application-vnd-oasis-opendocument-presentation-flat-xml = 157
+is-application-vnd-oasis-opendocument-presentation-flat-xml = 161
 
 abbrev pub is-application-vnd-oasis-opendocument-presentation-template : ℕ
-is-application-vnd-oasis-opendocument-presentation-template = 158
+is-application-vnd-oasis-opendocument-presentation-template = 162
 
 abbrev pub is-application-vnd-oasis-opendocument-spreadsheet : ℕ
-is-application-vnd-oasis-opendocument-spreadsheet = 159
+is-application-vnd-oasis-opendocument-spreadsheet = 163
 
 abbrev pub is-application-vnd-oasis-opendocument-spreadsheet-flat-xml : ℕ
-is-application-vnd-oasis-opendocument-spreadsheet-flat-xml = 160
+is-application-vnd-oasis-opendocument-spreadsheet-flat-xml = 164
 
 abbrev pub is-application-vnd-oasis-opendocument-spreadsheet-template : ℕ
-is-application-vnd-oasis-opendocument-spreadsheet-template = 161
+is-application-vnd-oasis-opendocument-spreadsheet-template = 165
 
 abbrev pub is-application-vnd-oasis-opendocument-text : ℕ
-is-application-vnd-oasis-opendocument-text = 162
+is-application-vnd-oasis-opendocument-text = 166
 
 abbrev pub is-application-vnd-oasis-opendocument-text-flat-xml : ℕ
-is-application-vnd-oasis-opendocument-text-flat-xml = 163
+is-application-vnd-oasis-opendocument-text-flat-xml = 167
 
 abbrev pub is-application-vnd-oasis-opendocument-text-master : ℕ
-is-application-vnd-oasis-opendocument-text-master = 164
+is-application-vnd-oasis-opendocument-text-master = 168
 
 abbrev pub is-application-vnd-oasis-opendocument-text-template : ℕ
-is-application-vnd-oasis-opendocument-text-template = 165
+is-application-vnd-oasis-opendocument-text-template = 169
 
 abbrev pub is-application-vnd-oasis-opendocument-text-web : ℕ
-is-application-vnd-oasis-opendocument-text-web = 166
+is-application-vnd-oasis-opendocument-text-web = 170
 
 abbrev pub is-application-vnd-openxmlformats-officedocument-presentationml-presentation : ℕ
-is-application-vnd-openxmlformats-officedocument-presentationml-presentation = 167
+is-application-vnd-openxmlformats-officedocument-presentationml-presentation = 171
 
 abbrev pub is-application-vnd-openxmlformats-officedocument-presentationml-slideshow : ℕ
-is-application-vnd-openxmlformats-officedocument-presentationml-slideshow = 168
+is-application-vnd-openxmlformats-officedocument-presentationml-slideshow = 172
 
 abbrev pub is-application-vnd-openxmlformats-officedocument-presentationml-template : ℕ
-is-application-vnd-openxmlformats-officedocument-presentationml-template = 169
+is-application-vnd-openxmlformats-officedocument-presentationml-template = 173
 
 abbrev pub is-application-vnd-openxmlformats-officedocument-spreadsheetml-sheet : ℕ
-is-application-vnd-openxmlformats-officedocument-spreadsheetml-sheet = 170
+is-application-vnd-openxmlformats-officedocument-spreadsheetml-sheet = 174
 
 abbrev pub is-application-vnd-openxmlformats-officedocument-spreadsheetml-template : ℕ
-is-application-vnd-openxmlformats-officedocument-spreadsheetml-template = 171
+is-application-vnd-openxmlformats-officedocument-spreadsheetml-template = 175
 
 abbrev pub is-application-vnd-openxmlformats-officedocument-wordprocessingml-document : ℕ
-is-application-vnd-openxmlformats-officedocument-wordprocessingml-document = 172
+is-application-vnd-openxmlformats-officedocument-wordprocessingml-document = 176
 
 abbrev pub is-application-vnd-openxmlformats-officedocument-wordprocessingml-template : ℕ
-is-application-vnd-openxmlformats-officedocument-wordprocessingml-template = 173
+is-application-vnd-openxmlformats-officedocument-wordprocessingml-template = 177
 
 abbrev pub is-application-vnd-osm-xml : ℕ
-is-application-vnd-osm-xml = 174
+is-application-vnd-osm-xml = 178
 
 abbrev pub is-application-vnd-rar : ℕ
-is-application-vnd-rar = 175
+is-application-vnd-rar = 179
 
 abbrev pub is-application-vnd-recordare-musicxml : ℕ
-is-application-vnd-recordare-musicxml = 176
+is-application-vnd-recordare-musicxml = 180
 
 abbrev pub is-application-vnd-recordare-musicxml-xml : ℕ
-is-application-vnd-recordare-musicxml-xml = 177
+is-application-vnd-recordare-musicxml-xml = 181
 
 abbrev pub is-application-vnd-rn-realmedia : ℕ
-is-application-vnd-rn-realmedia = 178
+is-application-vnd-rn-realmedia = 182
 
 abbrev pub is-application-vnd-shp : ℕ
-is-application-vnd-shp = 179
+is-application-vnd-shp = 183
 
 abbrev pub is-application-vnd-shx : ℕ
-is-application-vnd-shx = 180
+is-application-vnd-shx = 184
 
 abbrev pub is-application-vnd-smaf : ℕ
-is-application-vnd-smaf = 181
+is-application-vnd-smaf = 185
 
 abbrev pub is-application-vnd-snap : ℕ
-is-application-vnd-snap = 182
+is-application-vnd-snap = 186
 
 abbrev pub is-application-vnd-sqlite3 : ℕ
-is-application-vnd-sqlite3 = 183
+is-application-vnd-sqlite3 = 187
 
 abbrev pub is-application-vnd-squashfs : ℕ
-is-application-vnd-squashfs = 184
+is-application-vnd-squashfs = 188
+
+abbrev pub is-application-vnd-stardivision-writer : ℕ
+is-application-vnd-stardivision-writer = 189
 
 abbrev pub is-application-vnd-sun-xml-calc : ℕ
-is-application-vnd-sun-xml-calc = 185
+is-application-vnd-sun-xml-calc = 190
 
 abbrev pub is-application-vnd-sun-xml-draw : ℕ
-is-application-vnd-sun-xml-draw = 186
+is-application-vnd-sun-xml-draw = 191
 
 abbrev pub is-application-vnd-sun-xml-impress : ℕ
-is-application-vnd-sun-xml-impress = 187
+is-application-vnd-sun-xml-impress = 192
+
+abbrev pub is-application-vnd-sun-xml-math : ℕ
+is-application-vnd-sun-xml-math = 193
 
 abbrev pub is-application-vnd-sun-xml-writer : ℕ
-is-application-vnd-sun-xml-writer = 188
+is-application-vnd-sun-xml-writer = 194
 
 abbrev pub is-application-vnd-tcpdump-pcap : ℕ
-is-application-vnd-tcpdump-pcap = 189
+is-application-vnd-tcpdump-pcap = 195
 
 abbrev pub is-application-vnd-visio : ℕ
-is-application-vnd-visio = 190
+is-application-vnd-visio = 196
 
 abbrev pub is-application-vnd-wolfram-mathematica : ℕ
-is-application-vnd-wolfram-mathematica = 191
+is-application-vnd-wolfram-mathematica = 197
 
 abbrev pub is-application-vnd-wordperfect : ℕ
-is-application-vnd-wordperfect = 192
+is-application-vnd-wordperfect = 198
 
 abbrev pub is-application-voicexml-xml : ℕ
-is-application-voicexml-xml = 193
+is-application-voicexml-xml = 199
 
 abbrev pub is-application-vsix : ℕ
-is-application-vsix = 194
+is-application-vsix = 200
 
 abbrev pub is-application-warc : ℕ
-is-application-warc = 195
+is-application-warc = 201
 
 abbrev pub is-application-wasm : ℕ
-is-application-wasm = 196
+is-application-wasm = 202
 
 abbrev pub is-application-winhlp : ℕ
-is-application-winhlp = 197
+is-application-winhlp = 203
 
 abbrev pub is-application-wsdl-xml : ℕ
-is-application-wsdl-xml = 198
+is-application-wsdl-xml = 204
 
 abbrev pub is-application-x-7z-compressed : ℕ
-is-application-x-7z-compressed = 199
+is-application-x-7z-compressed = 205
 
 abbrev pub is-application-x-ableton-live-set : ℕ
-is-application-x-ableton-live-set = 200
+is-application-x-ableton-live-set = 206
 
 abbrev pub is-application-x-ace : ℕ
-is-application-x-ace = 201
+is-application-x-ace = 207
 
 abbrev pub is-application-x-admx : ℕ
-is-application-x-admx = 202
+is-application-x-admx = 208
 
 abbrev pub is-application-x-age-encryption : ℕ
-is-application-x-age-encryption = 203
+is-application-x-age-encryption = 209
 
 abbrev pub is-application-x-alz : ℕ
-is-application-x-alz = 204
+is-application-x-alz = 210
 
 abbrev pub is-application-x-amiga-disk-format : ℕ
-is-application-x-amiga-disk-format = 205
+is-application-x-amiga-disk-format = 211
 
 abbrev pub is-application-x-android-archive : ℕ
-is-application-x-android-archive = 206
+is-application-x-android-archive = 212
 
 abbrev pub is-application-x-ant-xml : ℕ
-is-application-x-ant-xml = 207
+is-application-x-ant-xml = 213
 
 abbrev pub is-application-x-apkm : ℕ
-is-application-x-apkm = 208
+is-application-x-apkm = 214
 
 abbrev pub is-application-x-appdata-xml : ℕ
-is-application-x-appdata-xml = 209
+is-application-x-appdata-xml = 215
 
 abbrev pub is-application-x-apple-diskimage : ℕ
-is-application-x-apple-diskimage = 210
+is-application-x-apple-diskimage = 216
 
 abbrev pub is-application-x-arb-json : ℕ
-is-application-x-arb-json = 211
+is-application-x-arb-json = 217
 
 abbrev pub is-application-x-arc : ℕ
-is-application-x-arc = 212
+is-application-x-arc = 218
 
 abbrev pub is-application-x-archive-dar : ℕ
-is-application-x-archive-dar = 213
+is-application-x-archive-dar = 219
 
 abbrev pub is-application-x-arj : ℕ
-is-application-x-arj = 214
+is-application-x-arj = 220
 
 abbrev pub is-application-x-asar : ℕ
-is-application-x-asar = 215
+is-application-x-asar = 221
 
 abbrev pub is-application-x-asp : ℕ
-is-application-x-asp = 216
+is-application-x-asp = 222
 
 abbrev pub is-application-x-aspx : ℕ
-is-application-x-aspx = 217
+is-application-x-aspx = 223
+
+abbrev pub is-application-x-atari-7800-rom : ℕ
+is-application-x-atari-7800-rom = 224
+
+abbrev pub is-application-x-atari-lynx-rom : ℕ
+is-application-x-atari-lynx-rom = 225
+
+abbrev pub is-application-x-audacity-project-sqlite3 : ℕ
+is-application-x-audacity-project-sqlite3 = 226
 
 abbrev pub is-application-x-autodesk-max : ℕ
-is-application-x-autodesk-max = 218
+is-application-x-autodesk-max = 227
 
 abbrev pub is-application-x-avro : ℕ
-is-application-x-avro = 219
+is-application-x-avro = 228
 
 abbrev pub is-application-x-avro-schema-json : ℕ
-is-application-x-avro-schema-json = 220
+is-application-x-avro-schema-json = 229
 
 abbrev pub is-application-x-bash : ℕ
-is-application-x-bash = 221
+is-application-x-bash = 230
 
 abbrev pub is-application-x-bittorrent : ℕ
-is-application-x-bittorrent = 222
+is-application-x-bittorrent = 231
 
 abbrev pub is-application-x-blender : ℕ
-is-application-x-blender = 223
+is-application-x-blender = 232
 
 abbrev pub is-application-x-bplist : ℕ
-is-application-x-bplist = 224
+is-application-x-bplist = 233
+
+abbrev pub is-application-x-bps-patch : ℕ
+is-application-x-bps-patch = 234
+
+abbrev pub is-application-x-bsdiff : ℕ
+is-application-x-bsdiff = 235
 
 abbrev pub is-application-x-bsp : ℕ
-is-application-x-bsp = 225
+is-application-x-bsp = 236
 
 abbrev pub is-application-x-bufr : ℕ
-is-application-x-bufr = 226
+is-application-x-bufr = 237
 
 abbrev pub is-application-x-bzip-compressed-tar : ℕ
-is-application-x-bzip-compressed-tar = 227
+is-application-x-bzip-compressed-tar = 238
 
 abbrev pub is-application-x-bzip2 : ℕ
-is-application-x-bzip2 = 228
+is-application-x-bzip2 = 239
 
 abbrev pub is-application-x-cb7 : ℕ
-is-application-x-cb7 = 229
+is-application-x-cb7 = 240
 
 abbrev pub is-application-x-cbt : ℕ
-is-application-x-cbt = 230
+is-application-x-cbt = 241
+
+abbrev pub is-application-x-ccmx : ℕ
+is-application-x-ccmx = 242
 
 abbrev pub is-application-x-cd-image : ℕ
-is-application-x-cd-image = 231
+is-application-x-cd-image = 243
 
 abbrev pub is-application-x-cmi : ℕ
-is-application-x-cmi = 232
+is-application-x-cmi = 244
 
 abbrev pub is-application-x-cml-xml : ℕ
-is-application-x-cml-xml = 233
+is-application-x-cml-xml = 245
 
 abbrev pub is-application-x-com-executable : ℕ
-is-application-x-com-executable = 234
+is-application-x-com-executable = 246
 
 abbrev pub is-application-x-compress : ℕ
-is-application-x-compress = 235
+is-application-x-compress = 247
 
 abbrev pub is-application-x-compressed-tar : ℕ
-is-application-x-compressed-tar = 236
+is-application-x-compressed-tar = 248
 
 abbrev pub is-application-x-core : ℕ
-is-application-x-core = 237
+is-application-x-core = 249
+
+abbrev pub is-application-x-corelpresentations : ℕ
+is-application-x-corelpresentations = 250
 
 abbrev pub is-application-x-cpio : ℕ
-is-application-x-cpio = 238
+is-application-x-cpio = 251
 
 abbrev pub is-application-x-csh : ℕ
-is-application-x-csh = 239
+is-application-x-csh = 252
+
+abbrev pub is-application-x-cubin : ℕ
+is-application-x-cubin = 253
 
 abbrev pub is-application-x-cue : ℕ
-is-application-x-cue = 240
+is-application-x-cue = 254
 
 abbrev pub is-application-x-dbm : ℕ
-is-application-x-dbm = 241
+is-application-x-dbm = 255
 
 abbrev pub is-application-x-dbus-gvdb : ℕ
-is-application-x-dbus-gvdb = 242
+is-application-x-dbus-gvdb = 256
 
 abbrev pub is-application-x-designer : ℕ
-is-application-x-designer = 243
+is-application-x-designer = 257
 
 abbrev pub is-application-x-desktop : ℕ
-is-application-x-desktop = 244
+is-application-x-desktop = 258
 
 abbrev pub is-application-x-devhelp-xml : ℕ
-is-application-x-devhelp-xml = 245
+is-application-x-devhelp-xml = 259
 
 abbrev pub is-application-x-device-tree-blob : ℕ
-is-application-x-device-tree-blob = 246
+is-application-x-device-tree-blob = 260
 
 abbrev pub is-application-x-dia-diagram : ℕ
-is-application-x-dia-diagram = 247
+is-application-x-dia-diagram = 261
+
+abbrev pub is-application-x-dia-shape : ℕ
+is-application-x-dia-shape = 262
 
 abbrev pub is-application-x-dictzip : ℕ
-is-application-x-dictzip = 248
+is-application-x-dictzip = 263
 
 abbrev pub is-application-x-director : ℕ
-is-application-x-director = 249
+is-application-x-director = 264
 
 abbrev pub is-application-x-docbook-xml : ℕ
-is-application-x-docbook-xml = 250
+is-application-x-docbook-xml = 265
 
 abbrev pub is-application-x-doom-wad : ℕ
-is-application-x-doom-wad = 251
+is-application-x-doom-wad = 266
 
 abbrev pub is-application-x-drawio-xml : ℕ
-is-application-x-drawio-xml = 252
+is-application-x-drawio-xml = 267
 
 abbrev pub is-application-x-dtbncx-xml : ℕ
-is-application-x-dtbncx-xml = 253
+is-application-x-dtbncx-xml = 268
 
 abbrev pub is-application-x-dvi : ℕ
-is-application-x-dvi = 254
+is-application-x-dvi = 269
 
 abbrev pub is-application-x-eclipse-xml : ℕ
-is-application-x-eclipse-xml = 255
+is-application-x-eclipse-xml = 270
 
 abbrev pub is-application-x-egg-zip : ℕ
-is-application-x-egg-zip = 256
+is-application-x-egg-zip = 271
 
 abbrev pub is-application-x-elc : ℕ
-is-application-x-elc = 257
+is-application-x-elc = 272
 
 abbrev pub is-application-x-emz : ℕ
-is-application-x-emz = 258
+is-application-x-emz = 273
 
 abbrev pub is-application-x-entitlements : ℕ
-is-application-x-entitlements = 259
+is-application-x-entitlements = 274
 
 abbrev pub is-application-x-erb : ℕ
-is-application-x-erb = 260
+is-application-x-erb = 275
 
 abbrev pub is-application-x-erlang-beam : ℕ
-is-application-x-erlang-beam = 261
+is-application-x-erlang-beam = 276
 
 abbrev pub is-application-x-executable-as-row-elf : ℕ
-is-application-x-executable-as-row-elf = 262
+is-application-x-executable-as-row-elf = 277
 
 abbrev pub is-application-x-executable-as-row-obj : ℕ
-is-application-x-executable-as-row-obj = 263
+is-application-x-executable-as-row-obj = 278
 
 abbrev pub is-application-x-ext-filesystem : ℕ
-is-application-x-ext-filesystem = 264
+is-application-x-ext-filesystem = 279
 
 abbrev pub is-application-x-fbx : ℕ
-is-application-x-fbx = 265
+is-application-x-fbx = 280
+
+abbrev pub is-application-x-fds-disk : ℕ
+is-application-x-fds-disk = 281
 
 abbrev pub is-application-x-fictionbook-xml : ℕ
-is-application-x-fictionbook-xml = 266
+is-application-x-fictionbook-xml = 282
 
 abbrev pub is-application-x-fishscript : ℕ
-is-application-x-fishscript = 267
+is-application-x-fishscript = 283
 
 abbrev pub is-application-x-flash-authoring : ℕ
-is-application-x-flash-authoring = 268
+is-application-x-flash-authoring = 284
+
+abbrev pub is-application-x-fluid : ℕ
+is-application-x-fluid = 285
 
 abbrev pub is-application-x-font-afm : ℕ
-is-application-x-font-afm = 269
+is-application-x-font-afm = 286
 
 abbrev pub is-application-x-font-bdf : ℕ
-is-application-x-font-bdf = 270
+is-application-x-font-bdf = 287
 
 abbrev pub is-application-x-font-pcf : ℕ
-is-application-x-font-pcf = 271
+is-application-x-font-pcf = 288
+
+abbrev pub is-application-x-font-ttx : ℕ
+is-application-x-font-ttx = 289
 
 abbrev pub is-application-x-font-type1 : ℕ
-is-application-x-font-type1 = 272
+is-application-x-font-type1 = 290
 
 abbrev pub is-application-x-freecad : ℕ
-is-application-x-freecad = 273
+is-application-x-freecad = 291
 
 abbrev pub is-application-x-gameboy-rom : ℕ
-is-application-x-gameboy-rom = 274
+is-application-x-gameboy-rom = 292
 
 abbrev pub is-application-x-gba-rom : ℕ
-is-application-x-gba-rom = 275
+is-application-x-gba-rom = 293
 
 abbrev pub is-application-x-gcov-data : ℕ
-is-application-x-gcov-data = 276
+is-application-x-gcov-data = 294
 
 abbrev pub is-application-x-gdbm : ℕ
-is-application-x-gdbm = 277
+is-application-x-gdbm = 295
 
 abbrev pub is-application-x-gds : ℕ
-is-application-x-gds = 278
+is-application-x-gds = 296
 
 abbrev pub is-application-x-gdscript : ℕ
-is-application-x-gdscript = 279
+is-application-x-gdscript = 297
 
 abbrev pub is-application-x-genesis-rom : ℕ
-is-application-x-genesis-rom = 280
+is-application-x-genesis-rom = 298
 
 abbrev pub is-application-x-gettext-translation : ℕ
-is-application-x-gettext-translation = 281
+is-application-x-gettext-translation = 299
 
 abbrev pub is-application-x-gguf : ℕ
-is-application-x-gguf = 282
+is-application-x-gguf = 300
 
 abbrev pub is-application-x-gir-xml : ℕ
-is-application-x-gir-xml = 283
+is-application-x-gir-xml = 301
 
 abbrev pub is-application-x-glade : ℕ
-is-application-x-glade = 284
+is-application-x-glade = 302
 
 abbrev pub is-application-x-glib-typelib : ℕ
-is-application-x-glib-typelib = 285
+is-application-x-glib-typelib = 303
 
 abbrev pub is-application-x-gnucash : ℕ
-is-application-x-gnucash = 286
+is-application-x-gnucash = 304
 
 abbrev pub is-application-x-gnuplot : ℕ
-is-application-x-gnuplot = 287
+is-application-x-gnuplot = 305
 
 abbrev pub is-application-x-go-sgf : ℕ
-is-application-x-go-sgf = 288
+is-application-x-go-sgf = 306
 
 abbrev pub is-application-x-godot-package : ℕ
-is-application-x-godot-package = 289
+is-application-x-godot-package = 307
 
 abbrev pub is-application-x-godot-resource : ℕ
-is-application-x-godot-resource = 290
+is-application-x-godot-resource = 308
 
 abbrev pub is-application-x-godot-scene : ℕ
-is-application-x-godot-scene = 291
+is-application-x-godot-scene = 309
 
 abbrev pub is-application-x-google-chrome-extension : ℕ
-is-application-x-google-chrome-extension = 292
+is-application-x-google-chrome-extension = 310
 
 abbrev pub is-application-x-grib : ℕ
-is-application-x-grib = 293
+is-application-x-grib = 311
 
 abbrev pub is-application-x-gschema-xml : ℕ
-is-application-x-gschema-xml = 294
+is-application-x-gschema-xml = 312
 
 abbrev pub is-application-x-gschema-compiled : ℕ
-is-application-x-gschema-compiled = 295
+is-application-x-gschema-compiled = 313
 
 abbrev pub is-application-x-gtk-builder : ℕ
-is-application-x-gtk-builder = 296
+is-application-x-gtk-builder = 314
 
 abbrev pub is-application-x-har-json : ℕ
-is-application-x-har-json = 297
+is-application-x-har-json = 315
 
 abbrev pub is-application-x-haskell-interface : ℕ
-is-application-x-haskell-interface = 298
+is-application-x-haskell-interface = 316
 
 abbrev pub is-application-x-hdf : ℕ
-is-application-x-hdf = 299
+is-application-x-hdf = 317
 
 abbrev pub is-application-x-hdf5 : ℕ
-is-application-x-hdf5 = 300
+is-application-x-hdf5 = 318
+
+abbrev pub is-application-x-hfe-floppy-image : ℕ
+is-application-x-hfe-floppy-image = 319
 
 abbrev pub is-application-x-hprof : ℕ
-is-application-x-hprof = 301
+is-application-x-hprof = 320
 
 abbrev pub is-application-x-hwp : ℕ
-is-application-x-hwp = 302
+is-application-x-hwp = 321
 
 abbrev pub is-application-x-hwpx : ℕ
-is-application-x-hwpx = 303
+is-application-x-hwpx = 322
 
 abbrev pub is-application-x-hxml : ℕ
-is-application-x-hxml = 304
+is-application-x-hxml = 323
+
+abbrev pub is-application-x-indesign : ℕ
+is-application-x-indesign = 324
 
 abbrev pub is-application-x-innodb : ℕ
-is-application-x-innodb = 305
+is-application-x-innodb = 325
 
 abbrev pub is-application-x-intellij-xml : ℕ
-is-application-x-intellij-xml = 306
+is-application-x-intellij-xml = 326
 
 abbrev pub is-application-x-ios-app : ℕ
-is-application-x-ios-app = 307
+is-application-x-ios-app = 327
+
+abbrev pub is-application-x-ips-patch : ℕ
+is-application-x-ips-patch = 328
 
 abbrev pub is-application-x-ipynb-json : ℕ
-is-application-x-ipynb-json = 308
+is-application-x-ipynb-json = 329
+
+abbrev pub is-application-x-it87 : ℕ
+is-application-x-it87 = 330
 
 abbrev pub is-application-x-jasper-xml : ℕ
-is-application-x-jasper-xml = 309
+is-application-x-jasper-xml = 331
 
 abbrev pub is-application-x-java-enterprise-archive : ℕ
-is-application-x-java-enterprise-archive = 310
+is-application-x-java-enterprise-archive = 332
 
 abbrev pub is-application-x-java-jce-keystore : ℕ
-is-application-x-java-jce-keystore = 311
+is-application-x-java-jce-keystore = 333
 
 abbrev pub is-application-x-java-jimage : ℕ
-is-application-x-java-jimage = 312
+is-application-x-java-jimage = 334
 
 abbrev pub is-application-x-java-jmod : ℕ
-is-application-x-java-jmod = 313
+is-application-x-java-jmod = 335
 
 abbrev pub is-application-x-java-jnlp-file : ℕ
-is-application-x-java-jnlp-file = 314
+is-application-x-java-jnlp-file = 336
 
 abbrev pub is-application-x-java-keystore : ℕ
-is-application-x-java-keystore = 315
+is-application-x-java-keystore = 337
+
+abbrev pub is-application-x-java-pack200 : ℕ
+is-application-x-java-pack200 = 338
 
 abbrev pub is-application-x-java-serialized-object : ℕ
-is-application-x-java-serialized-object = 316
+is-application-x-java-serialized-object = 339
 
 abbrev pub is-application-x-java-web-archive : ℕ
-is-application-x-java-web-archive = 317
+is-application-x-java-web-archive = 340
 
 abbrev pub is-application-x-jmeter-xml : ℕ
-is-application-x-jmeter-xml = 318
+is-application-x-jmeter-xml = 341
 
 abbrev pub is-application-x-jsa : ℕ
-is-application-x-jsa = 319
+is-application-x-jsa = 342
 
 abbrev pub is-application-x-jsonc : ℕ
-is-application-x-jsonc = 320
+is-application-x-jsonc = 343
 
 abbrev pub is-application-x-jsp : ℕ
-is-application-x-jsp = 321
+is-application-x-jsp = 344
+
+abbrev pub is-application-x-karbon : ℕ
+is-application-x-karbon = 345
+
+abbrev pub is-application-x-kchart : ℕ
+is-application-x-kchart = 346
 
 abbrev pub is-application-x-kdenlive : ℕ
-is-application-x-kdenlive = 322
+is-application-x-kdenlive = 347
 
 abbrev pub is-application-x-keepass2 : ℕ
-is-application-x-keepass2 = 323
+is-application-x-keepass2 = 348
 
 abbrev pub is-application-x-kerberos-keytab : ℕ
-is-application-x-kerberos-keytab = 324
+is-application-x-kerberos-keytab = 349
+
+abbrev pub is-application-x-kformula : ℕ
+is-application-x-kformula = 350
+
+abbrev pub is-application-x-killustrator : ℕ
+is-application-x-killustrator = 351
+
+abbrev pub is-application-x-kivio : ℕ
+is-application-x-kivio = 352
+
+abbrev pub is-application-x-kontour : ℕ
+is-application-x-kontour = 353
+
+abbrev pub is-application-x-kpresenter : ℕ
+is-application-x-kpresenter = 354
 
 abbrev pub is-application-x-krita : ℕ
-is-application-x-krita = 325
+is-application-x-krita = 355
 
 abbrev pub is-application-x-ksh : ℕ
-is-application-x-ksh = 326
+is-application-x-ksh = 356
+
+abbrev pub is-application-x-kspread : ℕ
+is-application-x-kspread = 357
+
+abbrev pub is-application-x-kword : ℕ
+is-application-x-kword = 358
 
 abbrev pub is-application-x-leveldb-table : ℕ
-is-application-x-leveldb-table = 327
+is-application-x-leveldb-table = 359
 
 abbrev pub is-application-x-llvm : ℕ
-is-application-x-llvm = 328
+is-application-x-llvm = 360
 
 abbrev pub is-application-x-locale-archive : ℕ
-is-application-x-locale-archive = 329
+is-application-x-locale-archive = 361
 
 abbrev pub is-application-x-lottie-json : ℕ
-is-application-x-lottie-json = 330
+is-application-x-lottie-json = 362
 
 abbrev pub is-application-x-lrzip : ℕ
-is-application-x-lrzip = 331
+is-application-x-lrzip = 363
 
 abbrev pub is-application-x-lua-bytecode : ℕ
-is-application-x-lua-bytecode = 332
+is-application-x-lua-bytecode = 364
 
 abbrev pub is-application-x-luks : ℕ
-is-application-x-luks = 333
+is-application-x-luks = 365
+
+abbrev pub is-application-x-lyx : ℕ
+is-application-x-lyx = 366
 
 abbrev pub is-application-x-lz4 : ℕ
-is-application-x-lz4 = 334
+is-application-x-lz4 = 367
 
 abbrev pub is-application-x-lz4-compressed-tar : ℕ
-is-application-x-lz4-compressed-tar = 335
+is-application-x-lz4-compressed-tar = 368
 
 abbrev pub is-application-x-lzh-compressed : ℕ
-is-application-x-lzh-compressed = 336
+is-application-x-lzh-compressed = 369
 
 abbrev pub is-application-x-lzip : ℕ
-is-application-x-lzip = 337
+is-application-x-lzip = 370
 
 abbrev pub is-application-x-lzip-compressed-tar : ℕ
-is-application-x-lzip-compressed-tar = 338
+is-application-x-lzip-compressed-tar = 371
 
 abbrev pub is-application-x-lzma : ℕ
-is-application-x-lzma = 339
+is-application-x-lzma = 372
 
 abbrev pub is-application-x-lzma-compressed-tar : ℕ
-is-application-x-lzma-compressed-tar = 340
+is-application-x-lzma-compressed-tar = 373
 
 abbrev pub is-application-x-lzop : ℕ
-is-application-x-lzop = 341
+is-application-x-lzop = 374
 
 abbrev pub is-application-x-m4 : ℕ
-is-application-x-m4 = 342
+is-application-x-m4 = 375
 
 abbrev pub is-application-x-mach-binary : ℕ
-is-application-x-mach-binary = 343
+is-application-x-mach-binary = 376
 
 abbrev pub is-application-x-magic-database : ℕ
-is-application-x-magic-database = 344
+is-application-x-magic-database = 377
 
 abbrev pub is-application-x-mame-chd : ℕ
-is-application-x-mame-chd = 345
+is-application-x-mame-chd = 378
 
 abbrev pub is-application-x-matlab-data : ℕ
-is-application-x-matlab-data = 346
+is-application-x-matlab-data = 379
 
 abbrev pub is-application-x-maya-binary : ℕ
-is-application-x-maya-binary = 347
+is-application-x-maya-binary = 380
 
 abbrev pub is-application-x-mimecache : ℕ
-is-application-x-mimecache = 348
+is-application-x-mimecache = 381
 
 abbrev pub is-application-x-minecraft-world : ℕ
-is-application-x-minecraft-world = 349
+is-application-x-minecraft-world = 382
 
 abbrev pub is-application-x-mobipocket-ebook : ℕ
-is-application-x-mobipocket-ebook = 350
+is-application-x-mobipocket-ebook = 383
+
+abbrev pub is-application-x-monotone-database : ℕ
+is-application-x-monotone-database = 384
 
 abbrev pub is-application-x-ms-evtx : ℕ
-is-application-x-ms-evtx = 351
+is-application-x-ms-evtx = 385
 
 abbrev pub is-application-x-ms-pdb : ℕ
-is-application-x-ms-pdb = 352
+is-application-x-ms-pdb = 386
 
 abbrev pub is-application-x-ms-registry-hive : ℕ
-is-application-x-ms-registry-hive = 353
+is-application-x-ms-registry-hive = 387
 
 abbrev pub is-application-x-ms-shortcut : ℕ
-is-application-x-ms-shortcut = 354
+is-application-x-ms-shortcut = 388
 
 abbrev pub is-application-x-ms-wim : ℕ
-is-application-x-ms-wim = 355
+is-application-x-ms-wim = 389
 
 abbrev pub is-application-x-msaccess-as-row-accdb : ℕ
-is-application-x-msaccess-as-row-accdb = 356
+is-application-x-msaccess-as-row-accdb = 390
 
 abbrev pub is-application-x-msaccess-as-row-mdb : ℕ
-is-application-x-msaccess-as-row-mdb = 357
+is-application-x-msaccess-as-row-mdb = 391
 
 abbrev pub is-application-x-msbuild-xml : ℕ
-is-application-x-msbuild-xml = 358
+is-application-x-msbuild-xml = 392
 
 abbrev pub is-application-x-msi : ℕ
-is-application-x-msi = 359
+is-application-x-msi = 393
 
 abbrev pub is-application-x-mswinurl : ℕ
-is-application-x-mswinurl = 360
+is-application-x-mswinurl = 394
+
+abbrev pub is-application-x-musescore : ℕ
+is-application-x-musescore = 395
 
 abbrev pub is-application-x-mxml : ℕ
-is-application-x-mxml = 361
+is-application-x-mxml = 396
 
 abbrev pub is-application-x-mysql-myisam : ℕ
-is-application-x-mysql-myisam = 362
+is-application-x-mysql-myisam = 397
 
 abbrev pub is-application-x-n64-rom : ℕ
-is-application-x-n64-rom = 363
+is-application-x-n64-rom = 398
 
 abbrev pub is-application-x-natvis-xml : ℕ
-is-application-x-natvis-xml = 364
+is-application-x-natvis-xml = 399
 
 abbrev pub is-application-x-navi-animation : ℕ
-is-application-x-navi-animation = 365
+is-application-x-navi-animation = 400
 
 abbrev pub is-application-x-ndjson : ℕ
-is-application-x-ndjson = 366
+is-application-x-ndjson = 401
 
 abbrev pub is-application-x-netcdf : ℕ
-is-application-x-netcdf = 367
+is-application-x-netcdf = 402
+
+abbrev pub is-application-x-netshow-channel : ℕ
+is-application-x-netshow-channel = 403
 
 abbrev pub is-application-x-nintendo-nes-rom : ℕ
-is-application-x-nintendo-nes-rom = 368
+is-application-x-nintendo-nes-rom = 404
 
 abbrev pub is-application-x-npy : ℕ
-is-application-x-npy = 369
+is-application-x-npy = 405
 
 abbrev pub is-application-x-npz : ℕ
-is-application-x-npz = 370
+is-application-x-npz = 406
 
 abbrev pub is-application-x-nuget-package : ℕ
-is-application-x-nuget-package = 371
+is-application-x-nuget-package = 407
 
 abbrev pub is-application-x-nuspec-xml : ℕ
-is-application-x-nuspec-xml = 372
+is-application-x-nuspec-xml = 408
+
+abbrev pub is-application-x-nzb : ℕ
+is-application-x-nzb = 409
 
 abbrev pub is-application-x-object : ℕ
-is-application-x-object = 373
+is-application-x-object = 410
 
 abbrev pub is-application-x-openssh-private-key : ℕ
-is-application-x-openssh-private-key = 374
+is-application-x-openssh-private-key = 411
 
 abbrev pub is-application-x-openzim : ℕ
-is-application-x-openzim = 375
+is-application-x-openzim = 412
 
 abbrev pub is-application-x-orc : ℕ
-is-application-x-orc = 376
+is-application-x-orc = 413
 
 abbrev pub is-application-x-osm-pbf : ℕ
-is-application-x-osm-pbf = 377
+is-application-x-osm-pbf = 414
 
 abbrev pub is-application-x-ova : ℕ
-is-application-x-ova = 378
+is-application-x-ova = 415
 
 abbrev pub is-application-x-par2 : ℕ
-is-application-x-par2 = 379
+is-application-x-par2 = 416
 
 abbrev pub is-application-x-pascal-resource-strings-json : ℕ
-is-application-x-pascal-resource-strings-json = 380
+is-application-x-pascal-resource-strings-json = 417
 
 abbrev pub is-application-x-pascal-unit : ℕ
-is-application-x-pascal-unit = 381
+is-application-x-pascal-unit = 418
 
 abbrev pub is-application-x-pcapng : ℕ
-is-application-x-pcapng = 382
+is-application-x-pcapng = 419
 
 abbrev pub is-application-x-pem-key : ℕ
-is-application-x-pem-key = 383
+is-application-x-pem-key = 420
 
 abbrev pub is-application-x-perf-data : ℕ
-is-application-x-perf-data = 384
+is-application-x-perf-data = 421
 
 abbrev pub is-application-x-phylip : ℕ
-is-application-x-phylip = 385
+is-application-x-phylip = 422
 
 abbrev pub is-application-x-plist : ℕ
-is-application-x-plist = 386
+is-application-x-plist = 423
 
 abbrev pub is-application-x-ply : ℕ
-is-application-x-ply = 387
+is-application-x-ply = 424
+
+abbrev pub is-application-x-pocket-word : ℕ
+is-application-x-pocket-word = 425
 
 abbrev pub is-application-x-pov : ℕ
-is-application-x-pov = 388
+is-application-x-pov = 426
 
 abbrev pub is-application-x-powershell : ℕ
-is-application-x-powershell = 389
+is-application-x-powershell = 427
 
 abbrev pub is-application-x-precompiled-header : ℕ
-is-application-x-precompiled-header = 390
+is-application-x-precompiled-header = 428
 
 abbrev pub is-application-x-profraw : ℕ
-is-application-x-profraw = 391
+is-application-x-profraw = 429
 
 abbrev pub is-application-x-ps1xml : ℕ
-is-application-x-ps1xml = 392
+is-application-x-ps1xml = 430
+
+abbrev pub is-application-x-pyspread-spreadsheet : ℕ
+is-application-x-pyspread-spreadsheet = 431
 
 abbrev pub is-application-x-python-bytecode : ℕ
-is-application-x-python-bytecode = 393
+is-application-x-python-bytecode = 432
 
 abbrev pub is-application-x-python-pickle : ℕ
-is-application-x-python-pickle = 394
+is-application-x-python-pickle = 433
 
 abbrev pub is-application-x-python-zipapp : ℕ
-is-application-x-python-zipapp = 395
+is-application-x-python-zipapp = 434
 
 abbrev pub is-application-x-pytorch : ℕ
-is-application-x-pytorch = 396
+is-application-x-pytorch = 435
+
+abbrev pub is-application-x-qed-disk : ℕ
+is-application-x-qed-disk = 436
 
 abbrev pub is-application-x-qemu-disk : ℕ
-is-application-x-qemu-disk = 397
+is-application-x-qemu-disk = 437
 
-abbrev pub is-application-x-qgis-project : ℕ
-is-application-x-qgis-project = 398
+abbrev pub is-application-x-qgis-project-as-own : ℕ
+is-application-x-qgis-project-as-own = 438
+
+abbrev pub is-application-x-qgis-project-as-row-qgz : ℕ
+is-application-x-qgis-project-as-row-qgz = 439
+
+abbrev pub is-application-x-qpress : ℕ
+is-application-x-qpress = 440
 
 abbrev pub is-application-x-qrc-xml : ℕ
-is-application-x-qrc-xml = 399
+is-application-x-qrc-xml = 441
+
+abbrev pub is-application-x-qtiplot : ℕ
+is-application-x-qtiplot = 442
 
 abbrev pub is-application-x-quake-pak : ℕ
-is-application-x-quake-pak = 400
+is-application-x-quake-pak = 443
 
 abbrev pub is-application-x-quattropro : ℕ
-is-application-x-quattropro = 401
+is-application-x-quattropro = 444
+
+abbrev pub is-application-x-quicktime-media-link : ℕ
+is-application-x-quicktime-media-link = 445
 
 abbrev pub is-application-x-r-data : ℕ
-is-application-x-r-data = 402
+is-application-x-r-data = 446
 
 abbrev pub is-application-x-resx-xml : ℕ
-is-application-x-resx-xml = 403
+is-application-x-resx-xml = 447
 
 abbrev pub is-application-x-rhino : ℕ
-is-application-x-rhino = 404
+is-application-x-rhino = 448
 
 abbrev pub is-application-x-rpm : ℕ
-is-application-x-rpm = 405
+is-application-x-rpm = 449
+
+abbrev pub is-application-x-ruby-gem : ℕ
+is-application-x-ruby-gem = 450
 
 abbrev pub is-application-x-rust-rlib : ℕ
-is-application-x-rust-rlib = 406
+is-application-x-rust-rlib = 451
 
 abbrev pub is-application-x-safetensors : ℕ
-is-application-x-safetensors = 407
+is-application-x-safetensors = 452
+
+abbrev pub is-application-x-sami : ℕ
+is-application-x-sami = 453
 
 abbrev pub is-application-x-sas-data : ℕ
-is-application-x-sas-data = 408
+is-application-x-sas-data = 454
 
 abbrev pub is-application-x-scribus : ℕ
-is-application-x-scribus = 409
+is-application-x-scribus = 455
 
 abbrev pub is-application-x-scxml-xml : ℕ
-is-application-x-scxml-xml = 410
+is-application-x-scxml-xml = 456
 
 abbrev pub is-application-x-setupscript : ℕ
-is-application-x-setupscript = 411
+is-application-x-setupscript = 457
 
 abbrev pub is-application-x-sfnt-collection-dfont : ℕ
-is-application-x-sfnt-collection-dfont = 412
+is-application-x-sfnt-collection-dfont = 458
 
 abbrev pub is-application-x-shapefile-index : ℕ
-is-application-x-shapefile-index = 413
+is-application-x-shapefile-index = 459
 
 abbrev pub is-application-x-shared-library-la : ℕ
-is-application-x-shared-library-la = 414
+is-application-x-shared-library-la = 460
 
 abbrev pub is-application-x-sharedlib : ℕ
-is-application-x-sharedlib = 415
+is-application-x-sharedlib = 461
 
 abbrev pub is-application-x-shockwave-flash : ℕ
-is-application-x-shockwave-flash = 416
+is-application-x-shockwave-flash = 462
+
+abbrev pub is-application-x-silverlight-app : ℕ
+is-application-x-silverlight-app = 463
 
 abbrev pub is-application-x-sketch : ℕ
-is-application-x-sketch = 417
+is-application-x-sketch = 464
 
 abbrev pub is-application-x-sketchup : ℕ
-is-application-x-sketchup = 418
+is-application-x-sketchup = 465
 
 abbrev pub is-application-x-snappy-framed : ℕ
-is-application-x-snappy-framed = 419
+is-application-x-snappy-framed = 466
+
+abbrev pub is-application-x-source-rpm : ℕ
+is-application-x-source-rpm = 467
 
 abbrev pub is-application-x-spss-sav : ℕ
-is-application-x-spss-sav = 420
+is-application-x-spss-sav = 468
+
+abbrev pub is-application-x-sqlite2 : ℕ
+is-application-x-sqlite2 = 469
 
 abbrev pub is-application-x-ssh-public-key : ℕ
-is-application-x-ssh-public-key = 421
+is-application-x-ssh-public-key = 470
 
 abbrev pub is-application-x-stata-dta : ℕ
-is-application-x-stata-dta = 422
+is-application-x-stata-dta = 471
 
 abbrev pub is-application-x-storyboard-xml : ℕ
-is-application-x-storyboard-xml = 423
+is-application-x-storyboard-xml = 472
 
 abbrev pub is-application-x-stuffit : ℕ
-is-application-x-stuffit = 424
+is-application-x-stuffit = 473
 
 abbrev pub is-application-x-sublime-syntax : ℕ
-is-application-x-sublime-syntax = 425
+is-application-x-sublime-syntax = 474
 
 abbrev pub is-application-x-subrip : ℕ
-is-application-x-subrip = 426
+is-application-x-subrip = 475
 
 abbrev pub is-application-x-swiftmodule : ℕ
-is-application-x-swiftmodule = 427
+is-application-x-swiftmodule = 476
 
 abbrev pub is-application-x-systemd-journal : ℕ
-is-application-x-systemd-journal = 428
+is-application-x-systemd-journal = 477
 
 abbrev pub is-application-x-tar : ℕ
-is-application-x-tar = 429
+is-application-x-tar = 478
 
 abbrev pub is-application-x-tarz : ℕ
-is-application-x-tarz = 430
+is-application-x-tarz = 479
 
 abbrev pub is-application-x-terminfo : ℕ
-is-application-x-terminfo = 431
+is-application-x-terminfo = 480
 
 abbrev pub is-application-x-terraform-state-json : ℕ
-is-application-x-terraform-state-json = 432
+is-application-x-terraform-state-json = 481
 
 abbrev pub is-application-x-tex-pk : ℕ
-is-application-x-tex-pk = 433
+is-application-x-tex-pk = 482
 
 abbrev pub is-application-x-tex-tfm : ℕ
-is-application-x-tex-tfm = 434
+is-application-x-tex-tfm = 483
 
 abbrev pub is-application-x-tflite : ℕ
-is-application-x-tflite = 435
+is-application-x-tflite = 484
 
 abbrev pub is-application-x-theme : ℕ
-is-application-x-theme = 436
+is-application-x-theme = 485
 
 abbrev pub is-application-x-theme-xml : ℕ
-is-application-x-theme-xml = 437
+is-application-x-theme-xml = 486
 
 abbrev pub is-application-x-thumbs-db : ℕ
-is-application-x-thumbs-db = 438
+is-application-x-thumbs-db = 487
 
 abbrev pub is-application-x-tmx-xml : ℕ
-is-application-x-tmx-xml = 439
+is-application-x-tmx-xml = 488
 
 abbrev pub is-application-x-unity-asmdef-json : ℕ
-is-application-x-unity-asmdef-json = 440
+is-application-x-unity-asmdef-json = 489
 
 abbrev pub is-application-x-unity-asset : ℕ
-is-application-x-unity-asset = 441
+is-application-x-unity-asset = 490
 
 abbrev pub is-application-x-unix-archive : ℕ
-is-application-x-unix-archive = 442
+is-application-x-unix-archive = 491
 
 abbrev pub is-application-x-uproject-json : ℕ
-is-application-x-uproject-json = 443
+is-application-x-uproject-json = 492
 
 abbrev pub is-application-x-urdf-xml : ℕ
-is-application-x-urdf-xml = 444
+is-application-x-urdf-xml = 493
 
 abbrev pub is-application-x-usdc : ℕ
-is-application-x-usdc = 445
+is-application-x-usdc = 494
 
 abbrev pub is-application-x-usdz : ℕ
-is-application-x-usdz = 446
+is-application-x-usdz = 495
 
 abbrev pub is-application-x-vdi-disk : ℕ
-is-application-x-vdi-disk = 447
+is-application-x-vdi-disk = 496
 
 abbrev pub is-application-x-vhd-disk : ℕ
-is-application-x-vhd-disk = 448
+is-application-x-vhd-disk = 497
 
 abbrev pub is-application-x-vhdx-disk : ℕ
-is-application-x-vhdx-disk = 449
+is-application-x-vhdx-disk = 498
 
 abbrev pub is-application-x-vim-spell : ℕ
-is-application-x-vim-spell = 450
+is-application-x-vim-spell = 499
 
 abbrev pub is-application-x-vim-swap : ℕ
-is-application-x-vim-swap = 451
+is-application-x-vim-swap = 500
 
 abbrev pub is-application-x-virtualbox-saved-state : ℕ
-is-application-x-virtualbox-saved-state = 452
+is-application-x-virtualbox-saved-state = 501
 
 abbrev pub is-application-x-vmdk-disk : ℕ
-is-application-x-vmdk-disk = 453
+is-application-x-vmdk-disk = 502
 
 abbrev pub is-application-x-wheel-zip : ℕ
-is-application-x-wheel-zip = 454
+is-application-x-wheel-zip = 503
 
 abbrev pub is-application-x-wii-wad : ℕ
-is-application-x-wii-wad = 455
+is-application-x-wii-wad = 504
 
 abbrev pub is-application-x-windows-dump : ℕ
-is-application-x-windows-dump = 456
+is-application-x-windows-dump = 505
 
 abbrev pub is-application-x-wix-xml : ℕ
-is-application-x-wix-xml = 457
+is-application-x-wix-xml = 506
 
 abbrev pub is-application-x-wmz : ℕ
-is-application-x-wmz = 458
+is-application-x-wmz = 507
 
 abbrev pub is-application-x-x509-ca-cert-as-known : ℕ
-is-application-x-x509-ca-cert-as-known = 459
+is-application-x-x509-ca-cert-as-known = 508
 
 abbrev pub is-application-x-x509-ca-cert-as-row-der : ℕ
-is-application-x-x509-ca-cert-as-row-der = 460
+is-application-x-x509-ca-cert-as-row-der = 509
 
 abbrev pub is-application-x-x509-ca-cert-as-row-pem : ℕ
-is-application-x-x509-ca-cert-as-row-pem = 461
+is-application-x-x509-ca-cert-as-row-pem = 510
 
 abbrev pub is-application-x-xar : ℕ
-is-application-x-xar = 462
+is-application-x-xar = 511
+
+abbrev pub is-application-x-xmp-xml : ℕ
+is-application-x-xmp-xml = 512
 
 abbrev pub is-application-x-xpinstall : ℕ
-is-application-x-xpinstall = 463
+is-application-x-xpinstall = 513
 
 abbrev pub is-application-x-xz : ℕ
-is-application-x-xz = 464
+is-application-x-xz = 514
 
 abbrev pub is-application-x-xz-compressed-tar : ℕ
-is-application-x-xz-compressed-tar = 465
+is-application-x-xz-compressed-tar = 515
 
 abbrev pub is-application-x-zcml : ℕ
-is-application-x-zcml = 466
+is-application-x-zcml = 516
+
+abbrev pub is-application-x-zip-compressed-fb2 : ℕ
+is-application-x-zip-compressed-fb2 = 517
 
 abbrev pub is-application-x-zoo : ℕ
-is-application-x-zoo = 467
+is-application-x-zoo = 518
 
 abbrev pub is-application-x-zsh : ℕ
-is-application-x-zsh = 468
+is-application-x-zsh = 519
 
 abbrev pub is-application-x-zstd-compressed-tar : ℕ
-is-application-x-zstd-compressed-tar = 469
+is-application-x-zstd-compressed-tar = 520
 
 abbrev pub is-application-xaml-xml : ℕ
-is-application-xaml-xml = 470
+is-application-xaml-xml = 521
 
 abbrev pub is-application-xhtml-xml : ℕ
-is-application-xhtml-xml = 471
+is-application-xhtml-xml = 522
 
 abbrev pub is-application-xliff-xml : ℕ
-is-application-xliff-xml = 472
+is-application-xliff-xml = 523
 
 abbrev pub is-application-xml : ℕ
-is-application-xml = 473
+is-application-xml = 524
 
 abbrev pub is-application-xml-dtd : ℕ
-is-application-xml-dtd = 474
+is-application-xml-dtd = 525
 
 abbrev pub is-application-xml-external-parsed-entity : ℕ
-is-application-xml-external-parsed-entity = 475
+is-application-xml-external-parsed-entity = 526
 
 abbrev pub is-application-xproc-xml : ℕ
-is-application-xproc-xml = 476
+is-application-xproc-xml = 527
 
 abbrev pub is-application-xquery : ℕ
-is-application-xquery = 477
+is-application-xquery = 528
 
 abbrev pub is-application-xslt-xml : ℕ
-is-application-xslt-xml = 478
+is-application-xslt-xml = 529
 
 abbrev pub is-application-xspf-xml : ℕ
-is-application-xspf-xml = 479
+is-application-xspf-xml = 530
 
 abbrev pub is-application-yaml : ℕ
-is-application-yaml = 480
+is-application-yaml = 531
 
 abbrev pub is-application-zip : ℕ
-is-application-zip = 481
+is-application-zip = 532
 
 abbrev pub is-application-zstd : ℕ
-is-application-zstd = 482
+is-application-zstd = 533
 
 abbrev pub is-audio-aac : ℕ
-is-audio-aac = 483
+is-audio-aac = 534
 
 abbrev pub is-audio-ac3 : ℕ
-is-audio-ac3 = 484
+is-audio-ac3 = 535
 
 abbrev pub is-audio-amr : ℕ
-is-audio-amr = 485
+is-audio-amr = 536
 
 abbrev pub is-audio-basic : ℕ
-is-audio-basic = 486
+is-audio-basic = 537
 
 abbrev pub is-audio-eac3 : ℕ
-is-audio-eac3 = 487
+is-audio-eac3 = 538
 
 abbrev pub is-audio-m4a : ℕ
-is-audio-m4a = 488
+is-audio-m4a = 539
 
 abbrev pub is-audio-midi : ℕ
-is-audio-midi = 489
+is-audio-midi = 540
 
 abbrev pub is-audio-mpeg : ℕ
-is-audio-mpeg = 490
+is-audio-mpeg = 541
 
 abbrev pub is-audio-ogg-as-row-oga : ℕ
-is-audio-ogg-as-row-oga = 491
+is-audio-ogg-as-row-oga = 542
 
 abbrev pub is-audio-ogg-as-row-ogg : ℕ
-is-audio-ogg-as-row-ogg = 492
+is-audio-ogg-as-row-ogg = 543
 
 abbrev pub is-audio-opus : ℕ
-is-audio-opus = 493
+is-audio-opus = 544
 
 abbrev pub is-audio-prs-sid : ℕ
-is-audio-prs-sid = 494
+is-audio-prs-sid = 545
 
 abbrev pub is-audio-sf2 : ℕ
-is-audio-sf2 = 495
+is-audio-sf2 = 546
 
 abbrev pub is-audio-vnd-audible : ℕ
-is-audio-vnd-audible = 496
+is-audio-vnd-audible = 547
 
 abbrev pub is-audio-vnd-dts : ℕ
-is-audio-vnd-dts = 497
+is-audio-vnd-dts = 548
 
 abbrev pub is-audio-vnd-rn-realaudio : ℕ
-is-audio-vnd-rn-realaudio = 498
+is-audio-vnd-rn-realaudio = 549
 
 abbrev pub is-audio-webm : ℕ
-is-audio-webm = 499
+is-audio-webm = 550
 
 abbrev pub is-audio-x-abc : ℕ
-is-audio-x-abc = 500
+is-audio-x-abc = 551
 
 abbrev pub is-audio-x-aifc : ℕ
-is-audio-x-aifc = 501
+is-audio-x-aifc = 552
 
 abbrev pub is-audio-x-aiff : ℕ
-is-audio-x-aiff = 502
+is-audio-x-aiff = 553
 
 abbrev pub is-audio-x-ape : ℕ
-is-audio-x-ape = 503
+is-audio-x-ape = 554
 
 abbrev pub is-audio-x-caf : ℕ
-is-audio-x-caf = 504
+is-audio-x-caf = 555
 
 abbrev pub is-audio-x-dff : ℕ
-is-audio-x-dff = 505
+is-audio-x-dff = 556
 
 abbrev pub is-audio-x-dsf : ℕ
-is-audio-x-dsf = 506
+is-audio-x-dsf = 557
 
 abbrev pub is-audio-x-flac : ℕ
-is-audio-x-flac = 507
+is-audio-x-flac = 558
 
 abbrev pub is-audio-x-gbs : ℕ
-is-audio-x-gbs = 508
+is-audio-x-gbs = 559
 
 abbrev pub is-audio-x-gsm : ℕ
-is-audio-x-gsm = 509
+is-audio-x-gsm = 560
 
 abbrev pub is-audio-x-it : ℕ
-is-audio-x-it = 510
+is-audio-x-it = 561
 
 abbrev pub is-audio-x-m4b : ℕ
-is-audio-x-m4b = 511
+is-audio-x-m4b = 562
 
 abbrev pub is-audio-x-matroska : ℕ
-is-audio-x-matroska = 512
+is-audio-x-matroska = 563
 
 abbrev pub is-audio-x-mo3 : ℕ
-is-audio-x-mo3 = 513
+is-audio-x-mo3 = 564
 
 abbrev pub is-audio-x-mod : ℕ
-is-audio-x-mod = 514
+is-audio-x-mod = 565
 
 abbrev pub is-audio-x-mpegurl : ℕ
-is-audio-x-mpegurl = 515
+is-audio-x-mpegurl = 566
 
 abbrev pub is-audio-x-ms-wma : ℕ
-is-audio-x-ms-wma = 516
+is-audio-x-ms-wma = 567
 
 abbrev pub is-audio-x-musepack : ℕ
-is-audio-x-musepack = 517
+is-audio-x-musepack = 568
+
+abbrev pub is-audio-x-nsf : ℕ
+is-audio-x-nsf = 569
 
 abbrev pub is-audio-x-s3m : ℕ
-is-audio-x-s3m = 518
+is-audio-x-s3m = 570
 
 abbrev pub is-audio-x-scpls : ℕ
-is-audio-x-scpls = 519
+is-audio-x-scpls = 571
 
 abbrev pub is-audio-x-sfbk : ℕ
-is-audio-x-sfbk = 520
+is-audio-x-sfbk = 572
 
 abbrev pub is-audio-x-spc : ℕ
-is-audio-x-spc = 521
+is-audio-x-spc = 573
 
 abbrev pub is-audio-x-speex-ogg : ℕ
-is-audio-x-speex-ogg = 522
+is-audio-x-speex-ogg = 574
 
 abbrev pub is-audio-x-tta : ℕ
-is-audio-x-tta = 523
+is-audio-x-tta = 575
 
 abbrev pub is-audio-x-ult : ℕ
-is-audio-x-ult = 524
+is-audio-x-ult = 576
 
 abbrev pub is-audio-x-voc : ℕ
-is-audio-x-voc = 525
+is-audio-x-voc = 577
 
 abbrev pub is-audio-x-wav : ℕ
-is-audio-x-wav = 526
+is-audio-x-wav = 578
 
 abbrev pub is-audio-x-wavpack : ℕ
-is-audio-x-wavpack = 527
+is-audio-x-wavpack = 579
 
 abbrev pub is-audio-x-xm : ℕ
-is-audio-x-xm = 528
+is-audio-x-xm = 580
 
 abbrev pub is-chemical-x-cdx : ℕ
-is-chemical-x-cdx = 529
+is-chemical-x-cdx = 581
 
 abbrev pub is-chemical-x-cif : ℕ
-is-chemical-x-cif = 530
+is-chemical-x-cif = 582
 
 abbrev pub is-chemical-x-mdl-molfile : ℕ
-is-chemical-x-mdl-molfile = 531
+is-chemical-x-mdl-molfile = 583
 
 abbrev pub is-chemical-x-mdl-sdfile : ℕ
-is-chemical-x-mdl-sdfile = 532
+is-chemical-x-mdl-sdfile = 584
 
 abbrev pub is-chemical-x-pdb : ℕ
-is-chemical-x-pdb = 533
+is-chemical-x-pdb = 585
 
 abbrev pub is-chemical-x-xyz : ℕ
-is-chemical-x-xyz = 534
+is-chemical-x-xyz = 586
 
 abbrev pub is-font-collection : ℕ
-is-font-collection = 535
+is-font-collection = 587
 
 abbrev pub is-image-apng : ℕ
-is-image-apng = 536
+is-image-apng = 588
 
 abbrev pub is-image-astc : ℕ
-is-image-astc = 537
+is-image-astc = 589
 
 abbrev pub is-image-avif : ℕ
-is-image-avif = 538
+is-image-avif = 590
 
 abbrev pub is-image-bmp : ℕ
-is-image-bmp = 539
+is-image-bmp = 591
 
 abbrev pub is-image-bpg : ℕ
-is-image-bpg = 540
+is-image-bpg = 592
+
+abbrev pub is-image-dpx : ℕ
+is-image-dpx = 593
 
 abbrev pub is-image-emf : ℕ
-is-image-emf = 541
+is-image-emf = 594
 
 abbrev pub is-image-fits : ℕ
-is-image-fits = 542
+is-image-fits = 595
+
+abbrev pub is-image-flif : ℕ
+is-image-flif = 596
 
 abbrev pub is-image-geotiff : ℕ
-is-image-geotiff = 543
+is-image-geotiff = 597
 
 abbrev pub is-image-gif : ℕ
-is-image-gif = 544
+is-image-gif = 598
 
 abbrev pub is-image-heic : ℕ
-is-image-heic = 545
+is-image-heic = 599
 
 abbrev pub is-image-heic-sequence : ℕ
-is-image-heic-sequence = 546
+is-image-heic-sequence = 600
 
 abbrev pub is-image-heif : ℕ
-is-image-heif = 547
+is-image-heif = 601
 
 abbrev pub is-image-jls : ℕ
-is-image-jls = 548
+is-image-jls = 602
 
 abbrev pub is-image-jp2 : ℕ
-is-image-jp2 = 549
+is-image-jp2 = 603
 
 abbrev pub is-image-jpeg : ℕ
-is-image-jpeg = 550
+is-image-jpeg = 604
+
+abbrev pub is-image-jph : ℕ
+is-image-jph = 605
+
+abbrev pub is-image-jpm : ℕ
+is-image-jpm = 606
 
 abbrev pub is-image-jpx : ℕ
-is-image-jpx = 551
+is-image-jpx = 607
 
 abbrev pub is-image-jxl : ℕ
-is-image-jxl = 552
+is-image-jxl = 608
 
 abbrev pub is-image-ktx : ℕ
-is-image-ktx = 553
+is-image-ktx = 609
 
 abbrev pub is-image-ktx2 : ℕ
-is-image-ktx2 = 554
+is-image-ktx2 = 610
 
 abbrev pub is-image-openraster : ℕ
-is-image-openraster = 555
+is-image-openraster = 611
 
 abbrev pub is-image-png : ℕ
-is-image-png = 556
+is-image-png = 612
 
 abbrev pub is-image-svg-xml : ℕ
-is-image-svg-xml = 557
+is-image-svg-xml = 613
 
 abbrev pub is-image-svg-xml-compressed : ℕ
-is-image-svg-xml-compressed = 558
+is-image-svg-xml-compressed = 614
 
 abbrev pub is-image-tiff : ℕ
-is-image-tiff = 559
+is-image-tiff = 615
 
 abbrev pub is-image-vnd-adobe-photoshop : ℕ
-is-image-vnd-adobe-photoshop = 560
+is-image-vnd-adobe-photoshop = 616
 
 abbrev pub is-image-vnd-djvu : ℕ
-is-image-vnd-djvu = 561
+is-image-vnd-djvu = 617
 
 abbrev pub is-image-vnd-dwg : ℕ
-is-image-vnd-dwg = 562
+is-image-vnd-dwg = 618
 
 abbrev pub is-image-vnd-dxf : ℕ
-is-image-vnd-dxf = 563
+is-image-vnd-dxf = 619
 
 abbrev pub is-image-vnd-fpx : ℕ
-is-image-vnd-fpx = 564
+is-image-vnd-fpx = 620
 
 abbrev pub is-image-vnd-microsoft-icon : ℕ
-is-image-vnd-microsoft-icon = 565
+is-image-vnd-microsoft-icon = 621
 
 abbrev pub is-image-vnd-ms-dds : ℕ
-is-image-vnd-ms-dds = 566
+is-image-vnd-ms-dds = 622
+
+abbrev pub is-image-vnd-ms-modi : ℕ
+is-image-vnd-ms-modi = 623
 
 abbrev pub is-image-vnd-ms-photo : ℕ
-is-image-vnd-ms-photo = 567
+is-image-vnd-ms-photo = 624
 
 abbrev pub is-image-vnd-radiance : ℕ
-is-image-vnd-radiance = 568
+is-image-vnd-radiance = 625
 
 abbrev pub is-image-vnd-zbrush-pcx : ℕ
-is-image-vnd-zbrush-pcx = 569
+is-image-vnd-zbrush-pcx = 626
 
 abbrev pub is-image-webp : ℕ
-is-image-webp = 570
+is-image-webp = 627
 
 abbrev pub is-image-wmf : ℕ
-is-image-wmf = 571
+is-image-wmf = 628
 
 abbrev pub is-image-x-3ds : ℕ
-is-image-x-3ds = 572
+is-image-x-3ds = 629
 
 abbrev pub is-image-x-adobe-dng : ℕ
-is-image-x-adobe-dng = 573
+is-image-x-adobe-dng = 630
 
 abbrev pub is-image-x-canon-cr2 : ℕ
-is-image-x-canon-cr2 = 574
+is-image-x-canon-cr2 = 631
 
 abbrev pub is-image-x-canon-cr3 : ℕ
-is-image-x-canon-cr3 = 575
+is-image-x-canon-cr3 = 632
+
+abbrev pub is-image-x-canon-crw : ℕ
+is-image-x-canon-crw = 633
 
 abbrev pub is-image-x-cmu-raster : ℕ
-is-image-x-cmu-raster = 576
+is-image-x-cmu-raster = 634
 
 abbrev pub is-image-x-eps : ℕ
-is-image-x-eps = 577
+is-image-x-eps = 635
 
 abbrev pub is-image-x-epson-erf : ℕ
-is-image-x-epson-erf = 578
+is-image-x-epson-erf = 636
 
 abbrev pub is-image-x-exr : ℕ
-is-image-x-exr = 579
+is-image-x-exr = 637
 
 abbrev pub is-image-x-fuji-raf : ℕ
-is-image-x-fuji-raf = 580
+is-image-x-fuji-raf = 638
 
 abbrev pub is-image-x-gimp-gbr : ℕ
-is-image-x-gimp-gbr = 581
+is-image-x-gimp-gbr = 639
 
 abbrev pub is-image-x-gimp-pat : ℕ
-is-image-x-gimp-pat = 582
+is-image-x-gimp-pat = 640
 
 abbrev pub is-image-x-hasselblad-3fr : ℕ
-is-image-x-hasselblad-3fr = 583
+is-image-x-hasselblad-3fr = 641
 
 abbrev pub is-image-x-icns : ℕ
-is-image-x-icns = 584
+is-image-x-icns = 642
 
 abbrev pub is-image-x-ilbm : ℕ
-is-image-x-ilbm = 585
+is-image-x-ilbm = 643
+
+abbrev pub is-image-x-itc : ℕ
+is-image-x-itc = 644
 
 abbrev pub is-image-x-jp2-codestream : ℕ
-is-image-x-jp2-codestream = 586
+is-image-x-jp2-codestream = 645
 
 abbrev pub is-image-x-kodak-dcr : ℕ
-is-image-x-kodak-dcr = 587
+is-image-x-kodak-dcr = 646
 
 abbrev pub is-image-x-kodak-kdc : ℕ
-is-image-x-kodak-kdc = 588
+is-image-x-kodak-kdc = 647
+
+abbrev pub is-image-x-lytro-lfp : ℕ
+is-image-x-lytro-lfp = 648
 
 abbrev pub is-image-x-mamiya-mef : ℕ
-is-image-x-mamiya-mef = 589
+is-image-x-mamiya-mef = 649
+
+abbrev pub is-image-x-miff : ℕ
+is-image-x-miff = 650
 
 abbrev pub is-image-x-minolta-mrw : ℕ
-is-image-x-minolta-mrw = 590
+is-image-x-minolta-mrw = 651
+
+abbrev pub is-image-x-mvg : ℕ
+is-image-x-mvg = 652
 
 abbrev pub is-image-x-nikon-nef : ℕ
-is-image-x-nikon-nef = 591
+is-image-x-nikon-nef = 653
 
 abbrev pub is-image-x-nikon-nrw : ℕ
-is-image-x-nikon-nrw = 592
+is-image-x-nikon-nrw = 654
 
 abbrev pub is-image-x-olympus-orf : ℕ
-is-image-x-olympus-orf = 593
+is-image-x-olympus-orf = 655
+
+abbrev pub is-image-x-paintshoppro : ℕ
+is-image-x-paintshoppro = 656
 
 abbrev pub is-image-x-panasonic-rw2 : ℕ
-is-image-x-panasonic-rw2 = 594
+is-image-x-panasonic-rw2 = 657
 
 abbrev pub is-image-x-pentax-pef : ℕ
-is-image-x-pentax-pef = 595
+is-image-x-pentax-pef = 658
+
+abbrev pub is-image-x-pgf : ℕ
+is-image-x-pgf = 659
 
 abbrev pub is-image-x-pict : ℕ
-is-image-x-pict = 596
+is-image-x-pict = 660
 
 abbrev pub is-image-x-portable-anymap : ℕ
-is-image-x-portable-anymap = 597
+is-image-x-portable-anymap = 661
 
 abbrev pub is-image-x-portable-bitmap : ℕ
-is-image-x-portable-bitmap = 598
+is-image-x-portable-bitmap = 662
 
 abbrev pub is-image-x-portable-graymap : ℕ
-is-image-x-portable-graymap = 599
+is-image-x-portable-graymap = 663
 
 abbrev pub is-image-x-portable-pixmap : ℕ
-is-image-x-portable-pixmap = 600
+is-image-x-portable-pixmap = 664
 
 abbrev pub is-image-x-qoi : ℕ
-is-image-x-qoi = 601
+is-image-x-qoi = 665
 
 abbrev pub is-image-x-samsung-srw : ℕ
-is-image-x-samsung-srw = 602
+is-image-x-samsung-srw = 666
 
 abbrev pub is-image-x-sgi : ℕ
-is-image-x-sgi = 603
+is-image-x-sgi = 667
 
 abbrev pub is-image-x-sigma-x3f : ℕ
-is-image-x-sigma-x3f = 604
+is-image-x-sigma-x3f = 668
+
+abbrev pub is-image-x-skencil : ℕ
+is-image-x-skencil = 669
 
 abbrev pub is-image-x-sony-arw : ℕ
-is-image-x-sony-arw = 605
+is-image-x-sony-arw = 670
 
 abbrev pub is-image-x-sony-sr2 : ℕ
-is-image-x-sony-sr2 = 606
+is-image-x-sony-sr2 = 671
 
 abbrev pub is-image-x-sony-srf : ℕ
-is-image-x-sony-srf = 607
+is-image-x-sony-srf = 672
 
 abbrev pub is-image-x-tga : ℕ
-is-image-x-tga = 608
+is-image-x-tga = 673
 
 abbrev pub is-image-x-win-bitmap : ℕ
-is-image-x-win-bitmap = 609
+is-image-x-win-bitmap = 674
 
 abbrev pub is-image-x-xbitmap : ℕ
-is-image-x-xbitmap = 610
+is-image-x-xbitmap = 675
 
 abbrev pub is-image-x-xcf : ℕ
-is-image-x-xcf = 611
+is-image-x-xcf = 676
 
 abbrev pub is-image-x-xfig : ℕ
-is-image-x-xfig = 612
+is-image-x-xfig = 677
 
 abbrev pub is-image-x-xpixmap : ℕ
-is-image-x-xpixmap = 613
+is-image-x-xpixmap = 678
 
 abbrev pub is-image-x-xwindowdump : ℕ
-is-image-x-xwindowdump = 614
+is-image-x-xwindowdump = 679
+
+abbrev pub is-image-x-zeiss-czi : ℕ
+is-image-x-zeiss-czi = 680
 
 abbrev pub is-message-rfc822 : ℕ
-is-message-rfc822 = 615
+is-message-rfc822 = 681
 
 abbrev pub is-model-3mf : ℕ
-is-model-3mf = 616
+is-model-3mf = 682
 
 abbrev pub is-model-e57 : ℕ
-is-model-e57 = 617
+is-model-e57 = 683
 
 abbrev pub is-model-gltf-json : ℕ
-is-model-gltf-json = 618
+is-model-gltf-json = 684
 
 abbrev pub is-model-gltf-binary : ℕ
-is-model-gltf-binary = 619
+is-model-gltf-binary = 685
 
 abbrev pub is-model-iges : ℕ
-is-model-iges = 620
+is-model-iges = 686
 
 abbrev pub is-model-mtl : ℕ
-is-model-mtl = 621
+is-model-mtl = 687
 
 abbrev pub is-model-obj : ℕ
-is-model-obj = 622
+is-model-obj = 688
 
 abbrev pub is-model-step : ℕ
-is-model-step = 623
+is-model-step = 689
 
 abbrev pub is-model-stl : ℕ
-is-model-stl = 624
+is-model-stl = 690
 
 abbrev pub is-model-vnd-collada-xml : ℕ
-is-model-vnd-collada-xml = 625
+is-model-vnd-collada-xml = 691
 
 abbrev pub is-model-vrml : ℕ
-is-model-vrml = 626
+is-model-vrml = 692
 
 abbrev pub is-model-x3d-xml : ℕ
-is-model-x3d-xml = 627
+is-model-x3d-xml = 693
 
 abbrev pub is-model-x3d-vrml : ℕ
-is-model-x3d-vrml = 628
+is-model-x3d-vrml = 694
 
 abbrev pub is-multipart-related : ℕ
-is-multipart-related = 629
+is-multipart-related = 695
 
 abbrev pub is-text-cache-manifest : ℕ
-is-text-cache-manifest = 630
+is-text-cache-manifest = 696
 
 abbrev pub is-text-calendar : ℕ
-is-text-calendar = 631
+is-text-calendar = 697
 
 abbrev pub is-text-cql : ℕ
-is-text-cql = 632
+is-text-cql = 698
 
 abbrev pub is-text-css : ℕ
-is-text-css = 633
+is-text-css = 699
 
 abbrev pub is-text-csv : ℕ
-is-text-csv = 634
+is-text-csv = 700
 
 abbrev pub is-text-html : ℕ
-is-text-html = 635
+is-text-html = 701
 
 abbrev pub is-text-javascript : ℕ
-is-text-javascript = 636
+is-text-javascript = 702
 
 abbrev pub is-text-markdown : ℕ
-is-text-markdown = 637
+is-text-markdown = 703
 
 abbrev pub is-text-mdx : ℕ
-is-text-mdx = 638
+is-text-mdx = 704
 
 abbrev pub is-text-n3 : ℕ
-is-text-n3 = 639
+is-text-n3 = 705
 
 abbrev pub is-text-org : ℕ
-is-text-org = 640
+is-text-org = 706
 
 abbrev pub is-text-plain : ℕ
-is-text-plain = 641
+is-text-plain = 707
 
 abbrev pub is-text-rust : ℕ
-is-text-rust = 642
+is-text-rust = 708
 
 abbrev pub is-text-sgml : ℕ
-is-text-sgml = 643
+is-text-sgml = 709
+
+abbrev pub is-text-spreadsheet : ℕ
+is-text-spreadsheet = 710
 
 abbrev pub is-text-tab-separated-values : ℕ
-is-text-tab-separated-values = 644
+is-text-tab-separated-values = 711
 
 abbrev pub is-text-troff : ℕ
-is-text-troff = 645
+is-text-troff = 712
 
 abbrev pub is-text-turtle : ℕ
-is-text-turtle = 646
+is-text-turtle = 713
 
 abbrev pub is-text-uri-list : ℕ
-is-text-uri-list = 647
+is-text-uri-list = 714
 
 abbrev pub is-text-vbscript : ℕ
-is-text-vbscript = 648
+is-text-vbscript = 715
 
 abbrev pub is-text-vcard : ℕ
-is-text-vcard = 649
+is-text-vcard = 716
 
 abbrev pub is-text-velocity : ℕ
-is-text-velocity = 650
+is-text-velocity = 717
 
 abbrev pub is-text-vnd-familysearch-gedcom : ℕ
-is-text-vnd-familysearch-gedcom = 651
+is-text-vnd-familysearch-gedcom = 718
 
 abbrev pub is-text-vnd-graphviz : ℕ
-is-text-vnd-graphviz = 652
+is-text-vnd-graphviz = 719
+
+abbrev pub is-text-vnd-sun-j2me-app-descriptor : ℕ
+is-text-vnd-sun-j2me-app-descriptor = 720
 
 abbrev pub is-text-vnd-trolltech-linguist : ℕ
-is-text-vnd-trolltech-linguist = 653
+is-text-vnd-trolltech-linguist = 721
 
 abbrev pub is-text-vnd-wap-wml : ℕ
-is-text-vnd-wap-wml = 654
+is-text-vnd-wap-wml = 722
 
 abbrev pub is-text-vtt : ℕ
-is-text-vtt = 655
+is-text-vtt = 723
 
 abbrev pub is-text-wgsl : ℕ
-is-text-wgsl = 656
+is-text-wgsl = 724
 
 abbrev pub is-text-x-abap : ℕ
-is-text-x-abap = 657
+is-text-x-abap = 725
 
 abbrev pub is-text-x-adasrc : ℕ
-is-text-x-adasrc = 658
+is-text-x-adasrc = 726
 
 abbrev pub is-text-x-agda : ℕ
-is-text-x-agda = 659
+is-text-x-agda = 727
 
 abbrev pub is-text-x-aidl : ℕ
-is-text-x-aidl = 660
+is-text-x-aidl = 728
 
 abbrev pub is-text-x-ampl : ℕ
-is-text-x-ampl = 661
+is-text-x-ampl = 729
 
 abbrev pub is-text-x-antlr : ℕ
-is-text-x-antlr = 662
+is-text-x-antlr = 730
 
 abbrev pub is-text-x-apacheconf : ℕ
-is-text-x-apacheconf = 663
+is-text-x-apacheconf = 731
 
 abbrev pub is-text-x-apex : ℕ
-is-text-x-apex = 664
+is-text-x-apex = 732
 
 abbrev pub is-text-x-apl : ℕ
-is-text-x-apl = 665
+is-text-x-apl = 733
 
 abbrev pub is-text-x-applescript : ℕ
-is-text-x-applescript = 666
+is-text-x-applescript = 734
 
 abbrev pub is-text-x-asciidoc : ℕ
-is-text-x-asciidoc = 667
+is-text-x-asciidoc = 735
 
 abbrev pub is-text-x-asm : ℕ
-is-text-x-asm = 668
+is-text-x-asm = 736
 
 abbrev pub is-text-x-asn1 : ℕ
-is-text-x-asn1 = 669
+is-text-x-asn1 = 737
 
 abbrev pub is-text-x-astro : ℕ
-is-text-x-astro = 670
+is-text-x-astro = 738
 
 abbrev pub is-text-x-asymptote : ℕ
-is-text-x-asymptote = 671
+is-text-x-asymptote = 739
 
 abbrev pub is-text-x-autoconf : ℕ
-is-text-x-autoconf = 672
+is-text-x-autoconf = 740
 
 abbrev pub is-text-x-autohotkey : ℕ
-is-text-x-autohotkey = 673
+is-text-x-autohotkey = 741
 
 abbrev pub is-text-x-autoit : ℕ
-is-text-x-autoit = 674
+is-text-x-autoit = 742
 
 abbrev pub is-text-x-automake : ℕ
-is-text-x-automake = 675
+is-text-x-automake = 743
 
 abbrev pub is-text-x-awk : ℕ
-is-text-x-awk = 676
+is-text-x-awk = 744
 
 abbrev pub is-text-x-ballerina : ℕ
-is-text-x-ballerina = 677
+is-text-x-ballerina = 745
 
 abbrev pub is-text-x-basic : ℕ
-is-text-x-basic = 678
+is-text-x-basic = 746
 
 abbrev pub is-text-x-bats : ℕ
-is-text-x-bats = 679
+is-text-x-bats = 747
 
 abbrev pub is-text-x-bc : ℕ
-is-text-x-bc = 680
+is-text-x-bc = 748
 
 abbrev pub is-text-x-bed : ℕ
-is-text-x-bed = 681
+is-text-x-bed = 749
 
 abbrev pub is-text-x-bibtex : ℕ
-is-text-x-bibtex = 682
+is-text-x-bibtex = 750
 
 abbrev pub is-text-x-bicep : ℕ
-is-text-x-bicep = 683
+is-text-x-bicep = 751
 
 abbrev pub is-text-x-bitbake : ℕ
-is-text-x-bitbake = 684
+is-text-x-bitbake = 752
 
 abbrev pub is-text-x-blade : ℕ
-is-text-x-blade = 685
+is-text-x-blade = 753
 
 abbrev pub is-text-x-bluespec : ℕ
-is-text-x-bluespec = 686
+is-text-x-bluespec = 754
 
 abbrev pub is-text-x-boo : ℕ
-is-text-x-boo = 687
+is-text-x-boo = 755
 
 abbrev pub is-text-x-bpftrace : ℕ
-is-text-x-bpftrace = 688
+is-text-x-bpftrace = 756
 
 abbrev pub is-text-x-bugs : ℕ
-is-text-x-bugs = 689
+is-text-x-bugs = 757
 
 abbrev pub is-text-x-c-hdr : ℕ
-is-text-x-c-hdr = 690
+is-text-x-c-hdr = 758
 
 abbrev pub is-text-x-c-src : ℕ
-is-text-x-c-src = 691
+is-text-x-c-src = 759
 
 abbrev pub is-text-x-cabal : ℕ
-is-text-x-cabal = 692
+is-text-x-cabal = 760
 
 abbrev pub is-text-x-cairo : ℕ
-is-text-x-cairo = 693
+is-text-x-cairo = 761
 
 abbrev pub is-text-x-capnp : ℕ
-is-text-x-capnp = 694
+is-text-x-capnp = 762
 
 abbrev pub is-text-x-cfm : ℕ
-is-text-x-cfm = 695
+is-text-x-cfm = 763
 
 abbrev pub is-text-x-chapel : ℕ
-is-text-x-chapel = 696
+is-text-x-chapel = 764
 
 abbrev pub is-text-x-chdr : ℕ
-is-text-x-chdr = 697
+is-text-x-chdr = 765
 
 abbrev pub is-text-x-checksums : ℕ
-is-text-x-checksums = 698
+is-text-x-checksums = 766
 
 abbrev pub is-text-x-chuck : ℕ
-is-text-x-chuck = 699
+is-text-x-chuck = 767
 
 abbrev pub is-text-x-clojure : ℕ
-is-text-x-clojure = 700
+is-text-x-clojure = 768
 
 abbrev pub is-text-x-cmake : ℕ
-is-text-x-cmake = 701
+is-text-x-cmake = 769
 
 abbrev pub is-text-x-cobol : ℕ
-is-text-x-cobol = 702
+is-text-x-cobol = 770
 
 abbrev pub is-text-x-cocci : ℕ
-is-text-x-cocci = 703
+is-text-x-cocci = 771
 
 abbrev pub is-text-x-common-lisp : ℕ
-is-text-x-common-lisp = 704
+is-text-x-common-lisp = 772
 
 abbrev pub is-text-x-component : ℕ
-is-text-x-component = 705
+is-text-x-component = 773
 
 abbrev pub is-text-x-coq : ℕ
-is-text-x-coq = 706
+is-text-x-coq = 774
 
 abbrev pub is-text-x-cppconf : ℕ
-is-text-x-cppconf = 707
+is-text-x-cppconf = 775
 
 abbrev pub is-text-x-creole : ℕ
-is-text-x-creole = 708
+is-text-x-creole = 776
 
 abbrev pub is-text-x-cron : ℕ
-is-text-x-cron = 709
+is-text-x-cron = 777
 
 abbrev pub is-text-x-crystal : ℕ
-is-text-x-crystal = 710
+is-text-x-crystal = 778
 
 abbrev pub is-text-x-csharp : ℕ
-is-text-x-csharp = 711
+is-text-x-csharp = 779
 
 abbrev pub is-text-x-csound : ℕ
-is-text-x-csound = 712
+is-text-x-csound = 780
 
 abbrev pub is-text-x-csrc : ℕ
-is-text-x-csrc = 713
+is-text-x-csrc = 781
 
 abbrev pub is-text-x-cuda : ℕ
-is-text-x-cuda = 714
+is-text-x-cuda = 782
 
 abbrev pub is-text-x-cwl : ℕ
-is-text-x-cwl = 715
+is-text-x-cwl = 783
 
 abbrev pub is-text-x-cypher : ℕ
-is-text-x-cypher = 716
+is-text-x-cypher = 784
 
 abbrev pub is-text-x-cython : ℕ
-is-text-x-cython = 717
+is-text-x-cython = 785
 
 abbrev pub is-text-x-d2 : ℕ
-is-text-x-d2 = 718
+is-text-x-d2 = 786
 
 abbrev pub is-text-x-dart : ℕ
-is-text-x-dart = 719
+is-text-x-dart = 787
 
 abbrev pub is-text-x-debian-control : ℕ
-is-text-x-debian-control = 720
+is-text-x-debian-control = 788
 
 abbrev pub is-text-x-dhall : ℕ
-is-text-x-dhall = 721
+is-text-x-dhall = 789
 
 abbrev pub is-text-x-dimacs : ℕ
-is-text-x-dimacs = 722
+is-text-x-dimacs = 790
 
 abbrev pub is-text-x-dns-zone : ℕ
-is-text-x-dns-zone = 723
+is-text-x-dns-zone = 791
 
 abbrev pub is-text-x-dockerfile : ℕ
-is-text-x-dockerfile = 724
+is-text-x-dockerfile = 792
 
 abbrev pub is-text-x-dotenv : ℕ
-is-text-x-dotenv = 725
+is-text-x-dotenv = 793
 
 abbrev pub is-text-x-dsrc : ℕ
-is-text-x-dsrc = 726
+is-text-x-dsrc = 794
 
 abbrev pub is-text-x-dts : ℕ
-is-text-x-dts = 727
+is-text-x-dts = 795
 
 abbrev pub is-text-x-dune : ℕ
-is-text-x-dune = 728
+is-text-x-dune = 796
 
 abbrev pub is-text-x-ebnf : ℕ
-is-text-x-ebnf = 729
+is-text-x-ebnf = 797
 
 abbrev pub is-text-x-ebuild : ℕ
-is-text-x-ebuild = 730
+is-text-x-ebuild = 798
 
 abbrev pub is-text-x-editorconfig : ℕ
-is-text-x-editorconfig = 731
+is-text-x-editorconfig = 799
 
 abbrev pub is-text-x-eex : ℕ
-is-text-x-eex = 732
+is-text-x-eex = 800
 
 abbrev pub is-text-x-eiffel : ℕ
-is-text-x-eiffel = 733
+is-text-x-eiffel = 801
 
 abbrev pub is-text-x-ejs : ℕ
-is-text-x-ejs = 734
+is-text-x-ejs = 802
 
 abbrev pub is-text-x-elixir : ℕ
-is-text-x-elixir = 735
+is-text-x-elixir = 803
 
 abbrev pub is-text-x-elm : ℕ
-is-text-x-elm = 736
+is-text-x-elm = 804
 
 abbrev pub is-text-x-emacs-config : ℕ
-is-text-x-emacs-config = 737
+is-text-x-emacs-config = 805
 
 abbrev pub is-text-x-emacs-lisp : ℕ
-is-text-x-emacs-lisp = 738
+is-text-x-emacs-lisp = 806
 
 abbrev pub is-text-x-erlang : ℕ
-is-text-x-erlang = 739
+is-text-x-erlang = 807
 
 abbrev pub is-text-x-expect : ℕ
-is-text-x-expect = 740
+is-text-x-expect = 808
 
 abbrev pub is-text-x-factor : ℕ
-is-text-x-factor = 741
+is-text-x-factor = 809
 
 abbrev pub is-text-x-fasta : ℕ
-is-text-x-fasta = 742
+is-text-x-fasta = 810
 
 abbrev pub is-text-x-fastq : ℕ
-is-text-x-fastq = 743
+is-text-x-fastq = 811
 
 abbrev pub is-text-x-fennel : ℕ
-is-text-x-fennel = 744
+is-text-x-fennel = 812
 
 abbrev pub is-text-x-flatbuffers : ℕ
-is-text-x-flatbuffers = 745
+is-text-x-flatbuffers = 813
 
 abbrev pub is-text-x-fontforge-sfd : ℕ
-is-text-x-fontforge-sfd = 746
+is-text-x-fontforge-sfd = 814
 
 abbrev pub is-text-x-forth : ℕ
-is-text-x-forth = 747
+is-text-x-forth = 815
 
 abbrev pub is-text-x-fortran : ℕ
-is-text-x-fortran = 748
+is-text-x-fortran = 816
 
 abbrev pub is-text-x-fountain : ℕ
-is-text-x-fountain = 749
+is-text-x-fountain = 817
 
 abbrev pub is-text-x-freemarker : ℕ
-is-text-x-freemarker = 750
+is-text-x-freemarker = 818
 
 abbrev pub is-text-x-fsharp : ℕ
-is-text-x-fsharp = 751
+is-text-x-fsharp = 819
 
 abbrev pub is-text-x-gams : ℕ
-is-text-x-gams = 752
+is-text-x-gams = 820
 
 abbrev pub is-text-x-gap : ℕ
-is-text-x-gap = 753
+is-text-x-gap = 821
+
+abbrev pub is-text-x-gcode-gx : ℕ
+is-text-x-gcode-gx = 822
 
 abbrev pub is-text-x-gdb : ℕ
-is-text-x-gdb = 754
+is-text-x-gdb = 823
 
 abbrev pub is-text-x-genbank : ℕ
-is-text-x-genbank = 755
+is-text-x-genbank = 824
 
 abbrev pub is-text-x-genie : ℕ
-is-text-x-genie = 756
+is-text-x-genie = 825
 
 abbrev pub is-text-x-gerber : ℕ
-is-text-x-gerber = 757
+is-text-x-gerber = 826
 
 abbrev pub is-text-x-gettext-translation : ℕ
-is-text-x-gettext-translation = 758
+is-text-x-gettext-translation = 827
 
 abbrev pub is-text-x-gettext-translation-template : ℕ
-is-text-x-gettext-translation-template = 759
+is-text-x-gettext-translation-template = 828
 
 abbrev pub is-text-x-gff : ℕ
-is-text-x-gff = 760
+is-text-x-gff = 829
 
 abbrev pub is-text-x-gfortran-module : ℕ
-is-text-x-gfortran-module = 761
+is-text-x-gfortran-module = 830
 
 abbrev pub is-text-x-gherkin : ℕ
-is-text-x-gherkin = 762
+is-text-x-gherkin = 831
 
 abbrev pub is-text-x-gitattributes : ℕ
-is-text-x-gitattributes = 763
+is-text-x-gitattributes = 832
 
 abbrev pub is-text-x-gitconfig : ℕ
-is-text-x-gitconfig = 764
+is-text-x-gitconfig = 833
 
 abbrev pub is-text-x-gitignore : ℕ
-is-text-x-gitignore = 765
+is-text-x-gitignore = 834
 
 abbrev pub is-text-x-gleam : ℕ
-is-text-x-gleam = 766
+is-text-x-gleam = 835
 
 abbrev pub is-text-x-glsl : ℕ
-is-text-x-glsl = 767
+is-text-x-glsl = 836
 
 abbrev pub is-text-x-gn : ℕ
-is-text-x-gn = 768
+is-text-x-gn = 837
 
 abbrev pub is-text-x-go : ℕ
-is-text-x-go = 769
+is-text-x-go = 838
 
 abbrev pub is-text-x-gomod : ℕ
-is-text-x-gomod = 770
+is-text-x-gomod = 839
 
 abbrev pub is-text-x-gosum : ℕ
-is-text-x-gosum = 771
+is-text-x-gosum = 840
 
 abbrev pub is-text-x-gotemplate : ℕ
-is-text-x-gotemplate = 772
+is-text-x-gotemplate = 841
 
 abbrev pub is-text-x-gpr : ℕ
-is-text-x-gpr = 773
+is-text-x-gpr = 842
 
 abbrev pub is-text-x-gradle : ℕ
-is-text-x-gradle = 774
+is-text-x-gradle = 843
 
 abbrev pub is-text-x-groovy : ℕ
-is-text-x-groovy = 775
+is-text-x-groovy = 844
 
 abbrev pub is-text-x-haml : ℕ
-is-text-x-haml = 776
+is-text-x-haml = 845
 
 abbrev pub is-text-x-handlebars : ℕ
-is-text-x-handlebars = 777
+is-text-x-handlebars = 846
 
 abbrev pub is-text-x-haskell : ℕ
-is-text-x-haskell = 778
+is-text-x-haskell = 847
 
 abbrev pub is-text-x-haxe : ℕ
-is-text-x-haxe = 779
+is-text-x-haxe = 848
 
 abbrev pub is-text-x-hcl : ℕ
-is-text-x-hcl = 780
+is-text-x-hcl = 849
 
 abbrev pub is-text-x-hive : ℕ
-is-text-x-hive = 781
+is-text-x-hive = 850
 
 abbrev pub is-text-x-hlsl : ℕ
-is-text-x-hlsl = 782
+is-text-x-hlsl = 851
 
 abbrev pub is-text-x-http : ℕ
-is-text-x-http = 783
+is-text-x-http = 852
 
 abbrev pub is-text-x-hunspell-affix : ℕ
-is-text-x-hunspell-affix = 784
+is-text-x-hunspell-affix = 853
 
 abbrev pub is-text-x-hy : ℕ
-is-text-x-hy = 785
+is-text-x-hy = 854
 
 abbrev pub is-text-x-idl : ℕ
-is-text-x-idl = 786
+is-text-x-idl = 855
 
 abbrev pub is-text-x-idris : ℕ
-is-text-x-idris = 787
+is-text-x-idris = 856
 
 abbrev pub is-text-x-igor : ℕ
-is-text-x-igor = 788
+is-text-x-igor = 857
 
 abbrev pub is-text-x-imagej : ℕ
-is-text-x-imagej = 789
+is-text-x-imagej = 858
+
+abbrev pub is-text-x-imelody : ℕ
+is-text-x-imelody = 859
+
+abbrev pub is-text-x-info : ℕ
+is-text-x-info = 860
 
 abbrev pub is-text-x-ini : ℕ
-is-text-x-ini = 790
+is-text-x-ini = 861
 
 abbrev pub is-text-x-innosetup : ℕ
-is-text-x-innosetup = 791
+is-text-x-innosetup = 862
 
 abbrev pub is-text-x-io : ℕ
-is-text-x-io = 792
+is-text-x-io = 863
 
 abbrev pub is-text-x-ipxe : ℕ
-is-text-x-ipxe = 793
+is-text-x-ipxe = 864
 
 abbrev pub is-text-x-irclog : ℕ
-is-text-x-irclog = 794
+is-text-x-irclog = 865
 
 abbrev pub is-text-x-isabelle : ℕ
-is-text-x-isabelle = 795
+is-text-x-isabelle = 866
 
 abbrev pub is-text-x-janet : ℕ
-is-text-x-janet = 796
+is-text-x-janet = 867
 
 abbrev pub is-text-x-java : ℕ
-is-text-x-java = 797
+is-text-x-java = 868
 
 abbrev pub is-text-x-java-manifest : ℕ
-is-text-x-java-manifest = 798
+is-text-x-java-manifest = 869
 
 abbrev pub is-text-x-java-properties : ℕ
-is-text-x-java-properties = 799
+is-text-x-java-properties = 870
 
 abbrev pub is-text-x-jcl : ℕ
-is-text-x-jcl = 800
+is-text-x-jcl = 871
 
 abbrev pub is-text-x-jelly : ℕ
-is-text-x-jelly = 801
+is-text-x-jelly = 872
 
 abbrev pub is-text-x-jinja : ℕ
-is-text-x-jinja = 802
+is-text-x-jinja = 873
 
 abbrev pub is-text-x-jq : ℕ
-is-text-x-jq = 803
+is-text-x-jq = 874
 
 abbrev pub is-text-x-julia : ℕ
-is-text-x-julia = 804
+is-text-x-julia = 875
 
 abbrev pub is-text-x-just : ℕ
-is-text-x-just = 805
+is-text-x-just = 876
 
 abbrev pub is-text-x-kaitai-struct : ℕ
-is-text-x-kaitai-struct = 806
+is-text-x-kaitai-struct = 877
 
 abbrev pub is-text-x-kconfig : ℕ
-is-text-x-kconfig = 807
+is-text-x-kconfig = 878
 
 abbrev pub is-text-x-kickstart : ℕ
-is-text-x-kickstart = 808
+is-text-x-kickstart = 879
 
 abbrev pub is-text-x-kotlin : ℕ
-is-text-x-kotlin = 809
+is-text-x-kotlin = 880
 
 abbrev pub is-text-x-krl : ℕ
-is-text-x-krl = 810
+is-text-x-krl = 881
 
 abbrev pub is-text-x-kusto : ℕ
-is-text-x-kusto = 811
+is-text-x-kusto = 882
 
 abbrev pub is-text-x-latte : ℕ
-is-text-x-latte = 812
+is-text-x-latte = 883
 
 abbrev pub is-text-x-ld-script : ℕ
-is-text-x-ld-script = 813
+is-text-x-ld-script = 884
 
 abbrev pub is-text-x-ldif : ℕ
-is-text-x-ldif = 814
+is-text-x-ldif = 885
 
 abbrev pub is-text-x-lean : ℕ
-is-text-x-lean = 815
+is-text-x-lean = 886
 
 abbrev pub is-text-x-less : ℕ
-is-text-x-less = 816
+is-text-x-less = 887
 
 abbrev pub is-text-x-lex : ℕ
-is-text-x-lex = 817
+is-text-x-lex = 888
 
 abbrev pub is-text-x-lfe : ℕ
-is-text-x-lfe = 818
+is-text-x-lfe = 889
 
 abbrev pub is-text-x-lilypond : ℕ
-is-text-x-lilypond = 819
+is-text-x-lilypond = 890
 
 abbrev pub is-text-x-liquid : ℕ
-is-text-x-liquid = 820
+is-text-x-liquid = 891
 
 abbrev pub is-text-x-literate-haskell : ℕ
-is-text-x-literate-haskell = 821
+is-text-x-literate-haskell = 892
 
 abbrev pub is-text-x-livescript : ℕ
-is-text-x-livescript = 822
+is-text-x-livescript = 893
 
 abbrev pub is-text-x-llvm : ℕ
-is-text-x-llvm = 823
+is-text-x-llvm = 894
 
 abbrev pub is-text-x-logtalk : ℕ
-is-text-x-logtalk = 824
+is-text-x-logtalk = 895
 
 abbrev pub is-text-x-lsl : ℕ
-is-text-x-lsl = 825
+is-text-x-lsl = 896
 
 abbrev pub is-text-x-lua : ℕ
-is-text-x-lua = 826
+is-text-x-lua = 897
+
+abbrev pub is-text-x-luatex : ℕ
+is-text-x-luatex = 898
 
 abbrev pub is-text-x-makefile : ℕ
-is-text-x-makefile = 827
+is-text-x-makefile = 899
 
 abbrev pub is-text-x-mako : ℕ
-is-text-x-mako = 828
+is-text-x-mako = 900
 
 abbrev pub is-text-x-marko : ℕ
-is-text-x-marko = 829
+is-text-x-marko = 901
 
 abbrev pub is-text-x-matlab : ℕ
-is-text-x-matlab = 830
+is-text-x-matlab = 902
 
 abbrev pub is-text-x-maven-xml : ℕ
-is-text-x-maven-xml = 831
+is-text-x-maven-xml = 903
 
 abbrev pub is-text-x-maxima : ℕ
-is-text-x-maxima = 832
+is-text-x-maxima = 904
 
 abbrev pub is-text-x-mcfunction : ℕ
-is-text-x-mcfunction = 833
+is-text-x-mcfunction = 905
 
 abbrev pub is-text-x-mediawiki : ℕ
-is-text-x-mediawiki = 834
+is-text-x-mediawiki = 906
 
 abbrev pub is-text-x-mermaid : ℕ
-is-text-x-mermaid = 835
+is-text-x-mermaid = 907
 
 abbrev pub is-text-x-meson : ℕ
-is-text-x-meson = 836
+is-text-x-meson = 908
 
 abbrev pub is-text-x-metafont : ℕ
-is-text-x-metafont = 837
+is-text-x-metafont = 909
 
 abbrev pub is-text-x-metal : ℕ
-is-text-x-metal = 838
+is-text-x-metal = 910
 
 abbrev pub is-text-x-mib : ℕ
-is-text-x-mib = 839
+is-text-x-mib = 911
 
 abbrev pub is-text-x-mirc : ℕ
-is-text-x-mirc = 840
+is-text-x-mirc = 912
 
 abbrev pub is-text-x-mlir : ℕ
-is-text-x-mlir = 841
+is-text-x-mlir = 913
 
 abbrev pub is-text-x-modelica : ℕ
-is-text-x-modelica = 842
+is-text-x-modelica = 914
 
 abbrev pub is-text-x-modula : ℕ
-is-text-x-modula = 843
+is-text-x-modula = 915
 
 abbrev pub is-text-x-mojo : ℕ
-is-text-x-mojo = 844
+is-text-x-mojo = 916
 
 abbrev pub is-text-x-monkey : ℕ
-is-text-x-monkey = 845
+is-text-x-monkey = 917
 
 abbrev pub is-text-x-moonscript : ℕ
-is-text-x-moonscript = 846
+is-text-x-moonscript = 918
 
 abbrev pub is-text-x-move : ℕ
-is-text-x-move = 847
+is-text-x-move = 919
 
 abbrev pub is-text-x-ms-regedit : ℕ
-is-text-x-ms-regedit = 848
+is-text-x-ms-regedit = 920
 
 abbrev pub is-text-x-msdos-batch : ℕ
-is-text-x-msdos-batch = 849
+is-text-x-msdos-batch = 921
 
 abbrev pub is-text-x-newick : ℕ
-is-text-x-newick = 850
+is-text-x-newick = 922
 
 abbrev pub is-text-x-nextflow : ℕ
-is-text-x-nextflow = 851
+is-text-x-nextflow = 923
 
 abbrev pub is-text-x-nftables : ℕ
-is-text-x-nftables = 852
+is-text-x-nftables = 924
 
 abbrev pub is-text-x-nginx-conf : ℕ
-is-text-x-nginx-conf = 853
+is-text-x-nginx-conf = 925
 
 abbrev pub is-text-x-nim : ℕ
-is-text-x-nim = 854
+is-text-x-nim = 926
 
 abbrev pub is-text-x-ninja : ℕ
-is-text-x-ninja = 855
+is-text-x-ninja = 927
 
 abbrev pub is-text-x-nix : ℕ
-is-text-x-nix = 856
+is-text-x-nix = 928
 
 abbrev pub is-text-x-nsis : ℕ
-is-text-x-nsis = 857
+is-text-x-nsis = 929
 
 abbrev pub is-text-x-nushell : ℕ
-is-text-x-nushell = 858
+is-text-x-nushell = 930
 
 abbrev pub is-text-x-objc-src : ℕ
-is-text-x-objc-src = 859
+is-text-x-objc-src = 931
 
 abbrev pub is-text-x-objcsrc : ℕ
-is-text-x-objcsrc = 860
+is-text-x-objcsrc = 932
 
 abbrev pub is-text-x-ocaml : ℕ
-is-text-x-ocaml = 861
+is-text-x-ocaml = 933
 
 abbrev pub is-text-x-octave : ℕ
-is-text-x-octave = 862
+is-text-x-octave = 934
 
 abbrev pub is-text-x-odin : ℕ
-is-text-x-odin = 863
+is-text-x-odin = 935
 
 abbrev pub is-text-x-ooc : ℕ
-is-text-x-ooc = 864
+is-text-x-ooc = 936
 
 abbrev pub is-text-x-opencl-src : ℕ
-is-text-x-opencl-src = 865
+is-text-x-opencl-src = 937
 
 abbrev pub is-text-x-openscad : ℕ
-is-text-x-openscad = 866
+is-text-x-openscad = 938
 
 abbrev pub is-text-x-opentype-feature : ℕ
-is-text-x-opentype-feature = 867
+is-text-x-opentype-feature = 939
 
 abbrev pub is-text-x-opml-xml : ℕ
-is-text-x-opml-xml = 868
+is-text-x-opml-xml = 940
 
 abbrev pub is-text-x-oz : ℕ
-is-text-x-oz = 869
+is-text-x-oz = 941
 
 abbrev pub is-text-x-pascal : ℕ
-is-text-x-pascal = 870
+is-text-x-pascal = 942
 
 abbrev pub is-text-x-patch : ℕ
-is-text-x-patch = 871
+is-text-x-patch = 943
 
 abbrev pub is-text-x-pawn : ℕ
-is-text-x-pawn = 872
+is-text-x-pawn = 944
 
 abbrev pub is-text-x-perl : ℕ
-is-text-x-perl = 873
+is-text-x-perl = 945
 
 abbrev pub is-text-x-php : ℕ
-is-text-x-php = 874
+is-text-x-php = 946
 
 abbrev pub is-text-x-pic : ℕ
-is-text-x-pic = 875
+is-text-x-pic = 947
 
 abbrev pub is-text-x-pig : ℕ
-is-text-x-pig = 876
+is-text-x-pig = 948
 
 abbrev pub is-text-x-pike : ℕ
-is-text-x-pike = 877
+is-text-x-pike = 949
 
 abbrev pub is-text-x-pkg-config : ℕ
-is-text-x-pkg-config = 878
+is-text-x-pkg-config = 950
 
 abbrev pub is-text-x-plantuml : ℕ
-is-text-x-plantuml = 879
+is-text-x-plantuml = 951
 
 abbrev pub is-text-x-pli : ℕ
-is-text-x-pli = 880
+is-text-x-pli = 952
 
 abbrev pub is-text-x-pod : ℕ
-is-text-x-pod = 881
+is-text-x-pod = 953
 
 abbrev pub is-text-x-pony : ℕ
-is-text-x-pony = 882
+is-text-x-pony = 954
 
 abbrev pub is-text-x-postcss : ℕ
-is-text-x-postcss = 883
+is-text-x-postcss = 955
 
 abbrev pub is-text-x-praat : ℕ
-is-text-x-praat = 884
+is-text-x-praat = 956
 
 abbrev pub is-text-x-preseed : ℕ
-is-text-x-preseed = 885
+is-text-x-preseed = 957
 
 abbrev pub is-text-x-prisma : ℕ
-is-text-x-prisma = 886
+is-text-x-prisma = 958
 
 abbrev pub is-text-x-procfile : ℕ
-is-text-x-procfile = 887
+is-text-x-procfile = 959
 
 abbrev pub is-text-x-prolog : ℕ
-is-text-x-prolog = 888
+is-text-x-prolog = 960
 
 abbrev pub is-text-x-protobuf : ℕ
-is-text-x-protobuf = 889
+is-text-x-protobuf = 961
 
 abbrev pub is-text-x-psv : ℕ
-is-text-x-psv = 890
+is-text-x-psv = 962
 
 abbrev pub is-text-x-pth : ℕ
-is-text-x-pth = 891
+is-text-x-pth = 963
 
 abbrev pub is-text-x-pug : ℕ
-is-text-x-pug = 892
+is-text-x-pug = 964
 
 abbrev pub is-text-x-puppet : ℕ
-is-text-x-puppet = 893
+is-text-x-puppet = 965
 
 abbrev pub is-text-x-purescript : ℕ
-is-text-x-purescript = 894
+is-text-x-purescript = 966
 
 abbrev pub is-text-x-python-as-known : ℕ
-is-text-x-python-as-known = 895
+is-text-x-python-as-known = 967
 
 abbrev pub is-text-x-python-as-row-py : ℕ
-is-text-x-python-as-row-py = 896
+is-text-x-python-as-row-py = 968
 
 abbrev pub is-text-x-qmake : ℕ
-is-text-x-qmake = 897
+is-text-x-qmake = 969
 
 abbrev pub is-text-x-qml : ℕ
-is-text-x-qml = 898
+is-text-x-qml = 970
 
 abbrev pub is-text-x-r-doc : ℕ
-is-text-x-r-doc = 899
+is-text-x-r-doc = 971
 
 abbrev pub is-text-x-racket : ℕ
-is-text-x-racket = 900
+is-text-x-racket = 972
 
 abbrev pub is-text-x-ragel : ℕ
-is-text-x-ragel = 901
+is-text-x-ragel = 973
 
 abbrev pub is-text-x-raku : ℕ
-is-text-x-raku = 902
+is-text-x-raku = 974
 
 abbrev pub is-text-x-razor : ℕ
-is-text-x-razor = 903
+is-text-x-razor = 975
 
 abbrev pub is-text-x-rdoc : ℕ
-is-text-x-rdoc = 904
+is-text-x-rdoc = 976
 
 abbrev pub is-text-x-readline : ℕ
-is-text-x-readline = 905
+is-text-x-readline = 977
 
 abbrev pub is-text-x-reason : ℕ
-is-text-x-reason = 906
+is-text-x-reason = 978
 
 abbrev pub is-text-x-rebol : ℕ
-is-text-x-rebol = 907
+is-text-x-rebol = 979
 
 abbrev pub is-text-x-red : ℕ
-is-text-x-red = 908
+is-text-x-red = 980
 
 abbrev pub is-text-x-rego : ℕ
-is-text-x-rego = 909
+is-text-x-rego = 981
 
 abbrev pub is-text-x-reject : ℕ
-is-text-x-reject = 910
+is-text-x-reject = 982
 
 abbrev pub is-text-x-rexx : ℕ
-is-text-x-rexx = 911
+is-text-x-rexx = 983
 
 abbrev pub is-text-x-ring : ℕ
-is-text-x-ring = 912
+is-text-x-ring = 984
 
 abbrev pub is-text-x-rmarkdown : ℕ
-is-text-x-rmarkdown = 913
+is-text-x-rmarkdown = 985
 
 abbrev pub is-text-x-robotframework : ℕ
-is-text-x-robotframework = 914
+is-text-x-robotframework = 986
 
 abbrev pub is-text-x-roc : ℕ
-is-text-x-roc = 915
+is-text-x-roc = 987
 
 abbrev pub is-text-x-rpgle : ℕ
-is-text-x-rpgle = 916
+is-text-x-rpgle = 988
 
 abbrev pub is-text-x-rpm-spec : ℕ
-is-text-x-rpm-spec = 917
+is-text-x-rpm-spec = 989
 
 abbrev pub is-text-x-rsrc : ℕ
-is-text-x-rsrc = 918
+is-text-x-rsrc = 990
 
 abbrev pub is-text-x-rst : ℕ
-is-text-x-rst = 919
+is-text-x-rst = 991
 
 abbrev pub is-text-x-ruby : ℕ
-is-text-x-ruby = 920
+is-text-x-ruby = 992
 
 abbrev pub is-text-x-sagemath : ℕ
-is-text-x-sagemath = 921
+is-text-x-sagemath = 993
 
 abbrev pub is-text-x-sam : ℕ
-is-text-x-sam = 922
+is-text-x-sam = 994
 
 abbrev pub is-text-x-sas : ℕ
-is-text-x-sas = 923
+is-text-x-sas = 995
 
 abbrev pub is-text-x-sass : ℕ
-is-text-x-sass = 924
+is-text-x-sass = 996
 
 abbrev pub is-text-x-scala : ℕ
-is-text-x-scala = 925
+is-text-x-scala = 997
+
+abbrev pub is-text-x-scc : ℕ
+is-text-x-scc = 998
 
 abbrev pub is-text-x-scheme : ℕ
-is-text-x-scheme = 926
+is-text-x-scheme = 999
 
 abbrev pub is-text-x-scilab : ℕ
-is-text-x-scilab = 927
+is-text-x-scilab = 1000
 
 abbrev pub is-text-x-scons : ℕ
-is-text-x-scons = 928
+is-text-x-scons = 1001
 
 abbrev pub is-text-x-scss : ℕ
-is-text-x-scss = 929
+is-text-x-scss = 1002
 
 abbrev pub is-text-x-sdc : ℕ
-is-text-x-sdc = 930
+is-text-x-sdc = 1003
 
 abbrev pub is-text-x-sed : ℕ
-is-text-x-sed = 931
+is-text-x-sed = 1004
 
 abbrev pub is-text-x-selinux : ℕ
-is-text-x-selinux = 932
+is-text-x-selinux = 1005
 
 abbrev pub is-text-x-setext : ℕ
-is-text-x-setext = 933
+is-text-x-setext = 1006
 
 abbrev pub is-text-x-shell-config : ℕ
-is-text-x-shell-config = 934
+is-text-x-shell-config = 1007
 
 abbrev pub is-text-x-shellscript : ℕ
-is-text-x-shellscript = 935
+is-text-x-shellscript = 1008
 
 abbrev pub is-text-x-sieve : ℕ
-is-text-x-sieve = 936
+is-text-x-sieve = 1009
 
 abbrev pub is-text-x-slim : ℕ
-is-text-x-slim = 937
+is-text-x-slim = 1010
 
 abbrev pub is-text-x-slint : ℕ
-is-text-x-slint = 938
+is-text-x-slint = 1011
 
 abbrev pub is-text-x-sln : ℕ
-is-text-x-sln = 939
+is-text-x-sln = 1012
 
 abbrev pub is-text-x-smali : ℕ
-is-text-x-smali = 940
+is-text-x-smali = 1013
 
 abbrev pub is-text-x-smarty : ℕ
-is-text-x-smarty = 941
+is-text-x-smarty = 1014
 
 abbrev pub is-text-x-sml : ℕ
-is-text-x-sml = 942
+is-text-x-sml = 1015
 
 abbrev pub is-text-x-smt : ℕ
-is-text-x-smt = 943
+is-text-x-smt = 1016
 
 abbrev pub is-text-x-snakemake : ℕ
-is-text-x-snakemake = 944
+is-text-x-snakemake = 1017
 
 abbrev pub is-text-x-solidity : ℕ
-is-text-x-solidity = 945
+is-text-x-solidity = 1018
 
 abbrev pub is-text-x-sourcepawn : ℕ
-is-text-x-sourcepawn = 946
+is-text-x-sourcepawn = 1019
 
 abbrev pub is-text-x-soy : ℕ
-is-text-x-soy = 947
+is-text-x-soy = 1020
 
 abbrev pub is-text-x-spice : ℕ
-is-text-x-spice = 948
+is-text-x-spice = 1021
 
 abbrev pub is-text-x-spin : ℕ
-is-text-x-spin = 949
+is-text-x-spin = 1022
 
 abbrev pub is-text-x-squirrel : ℕ
-is-text-x-squirrel = 950
+is-text-x-squirrel = 1023
 
 abbrev pub is-text-x-ssa : ℕ
-is-text-x-ssa = 951
+is-text-x-ssa = 1024
 
 abbrev pub is-text-x-stan : ℕ
-is-text-x-stan = 952
+is-text-x-stan = 1025
 
 abbrev pub is-text-x-starlark : ℕ
-is-text-x-starlark = 953
+is-text-x-starlark = 1026
 
 abbrev pub is-text-x-stata : ℕ
-is-text-x-stata = 954
+is-text-x-stata = 1027
 
 abbrev pub is-text-x-strings : ℕ
-is-text-x-strings = 955
+is-text-x-strings = 1028
 
 abbrev pub is-text-x-stylus : ℕ
-is-text-x-stylus = 956
+is-text-x-stylus = 1029
 
 abbrev pub is-text-x-subviewer : ℕ
-is-text-x-subviewer = 957
+is-text-x-subviewer = 1030
 
 abbrev pub is-text-x-supercollider : ℕ
-is-text-x-supercollider = 958
+is-text-x-supercollider = 1031
 
 abbrev pub is-text-x-svelte : ℕ
-is-text-x-svelte = 959
+is-text-x-svelte = 1032
 
 abbrev pub is-text-x-svhdr : ℕ
-is-text-x-svhdr = 960
+is-text-x-svhdr = 1033
 
 abbrev pub is-text-x-svsrc : ℕ
-is-text-x-svsrc = 961
+is-text-x-svsrc = 1034
 
 abbrev pub is-text-x-swift : ℕ
-is-text-x-swift = 962
+is-text-x-swift = 1035
 
 abbrev pub is-text-x-systemd-unit : ℕ
-is-text-x-systemd-unit = 963
+is-text-x-systemd-unit = 1036
 
 abbrev pub is-text-x-tablegen : ℕ
-is-text-x-tablegen = 964
+is-text-x-tablegen = 1037
 
 abbrev pub is-text-x-tcl : ℕ
-is-text-x-tcl = 965
+is-text-x-tcl = 1038
 
 abbrev pub is-text-x-template-toolkit : ℕ
-is-text-x-template-toolkit = 966
+is-text-x-template-toolkit = 1039
 
 abbrev pub is-text-x-tex : ℕ
-is-text-x-tex = 967
+is-text-x-tex = 1040
 
 abbrev pub is-text-x-texinfo : ℕ
-is-text-x-texinfo = 968
+is-text-x-texinfo = 1041
 
 abbrev pub is-text-x-textile : ℕ
-is-text-x-textile = 969
+is-text-x-textile = 1042
 
 abbrev pub is-text-x-textproto : ℕ
-is-text-x-textproto = 970
+is-text-x-textproto = 1043
 
 abbrev pub is-text-x-thrift : ℕ
-is-text-x-thrift = 971
+is-text-x-thrift = 1044
 
 abbrev pub is-text-x-tla : ℕ
-is-text-x-tla = 972
+is-text-x-tla = 1045
 
 abbrev pub is-text-x-tmux-conf : ℕ
-is-text-x-tmux-conf = 973
+is-text-x-tmux-conf = 1046
 
 abbrev pub is-text-x-tsx : ℕ
-is-text-x-tsx = 974
+is-text-x-tsx = 1047
 
 abbrev pub is-text-x-twig : ℕ
-is-text-x-twig = 975
+is-text-x-twig = 1048
 
 abbrev pub is-text-x-txt2tags : ℕ
-is-text-x-txt2tags = 976
+is-text-x-txt2tags = 1049
 
 abbrev pub is-text-x-typescript : ℕ
-is-text-x-typescript = 977
+is-text-x-typescript = 1050
 
 abbrev pub is-text-x-typst : ℕ
-is-text-x-typst = 978
+is-text-x-typst = 1051
 
 abbrev pub is-text-x-uc : ℕ
-is-text-x-uc = 979
+is-text-x-uc = 1052
 
 abbrev pub is-text-x-udev-rules : ℕ
-is-text-x-udev-rules = 980
+is-text-x-udev-rules = 1053
 
 abbrev pub is-text-x-unity : ℕ
-is-text-x-unity = 981
+is-text-x-unity = 1054
 
 abbrev pub is-text-x-uri : ℕ
-is-text-x-uri = 982
+is-text-x-uri = 1055
 
 abbrev pub is-text-x-vagrantfile : ℕ
-is-text-x-vagrantfile = 983
+is-text-x-vagrantfile = 1056
 
 abbrev pub is-text-x-vala : ℕ
-is-text-x-vala = 984
+is-text-x-vala = 1057
 
 abbrev pub is-text-x-vb : ℕ
-is-text-x-vb = 985
+is-text-x-vb = 1058
 
 abbrev pub is-text-x-vcl : ℕ
-is-text-x-vcl = 986
+is-text-x-vcl = 1059
 
 abbrev pub is-text-x-vdf : ℕ
-is-text-x-vdf = 987
+is-text-x-vdf = 1060
 
 abbrev pub is-text-x-verilog : ℕ
-is-text-x-verilog = 988
+is-text-x-verilog = 1061
 
 abbrev pub is-text-x-vhdl : ℕ
-is-text-x-vhdl = 989
+is-text-x-vhdl = 1062
 
 abbrev pub is-text-x-vim : ℕ
-is-text-x-vim = 990
+is-text-x-vim = 1063
+
+abbrev pub is-text-x-vnote : ℕ
+is-text-x-vnote = 1064
 
 abbrev pub is-text-x-vue : ℕ
-is-text-x-vue = 991
+is-text-x-vue = 1065
 
 abbrev pub is-text-x-vyper : ℕ
-is-text-x-vyper = 992
+is-text-x-vyper = 1066
 
 abbrev pub is-text-x-wat : ℕ
-is-text-x-wat = 993
+is-text-x-wat = 1067
 
 abbrev pub is-text-x-wdl : ℕ
-is-text-x-wdl = 994
+is-text-x-wdl = 1068
 
 abbrev pub is-text-x-wkt : ℕ
-is-text-x-wkt = 995
+is-text-x-wkt = 1069
 
 abbrev pub is-text-x-wren : ℕ
-is-text-x-wren = 996
+is-text-x-wren = 1070
 
 abbrev pub is-text-x-xcu-rng : ℕ
-is-text-x-xcu-rng = 997
+is-text-x-xcu-rng = 1071
 
 abbrev pub is-text-x-xmi : ℕ
-is-text-x-xmi = 998
+is-text-x-xmi = 1072
 
 abbrev pub is-text-x-xonsh : ℕ
-is-text-x-xonsh = 999
+is-text-x-xonsh = 1073
 
 abbrev pub is-text-x-xresources : ℕ
-is-text-x-xresources = 1000
+is-text-x-xresources = 1074
 
 abbrev pub is-text-x-yacc : ℕ
-is-text-x-yacc = 1001
+is-text-x-yacc = 1075
 
 abbrev pub is-text-x-yang : ℕ
-is-text-x-yang = 1002
+is-text-x-yang = 1076
 
 abbrev pub is-text-x-zig : ℕ
-is-text-x-zig = 1003
+is-text-x-zig = 1077
 
 abbrev pub is-text-x-zimpl : ℕ
-is-text-x-zimpl = 1004
+is-text-x-zimpl = 1078
 
 abbrev pub is-text-x-gcode : ℕ
-is-text-x-gcode = 1005
+is-text-x-gcode = 1079
 
 abbrev pub is-text-xml : ℕ
-is-text-xml = 1006
+is-text-xml = 1080
 
 abbrev pub is-video-3gpp : ℕ
-is-video-3gpp = 1007
+is-video-3gpp = 1081
 
 abbrev pub is-video-3gpp2 : ℕ
-is-video-3gpp2 = 1008
+is-video-3gpp2 = 1082
 
 abbrev pub is-video-dv : ℕ
-is-video-dv = 1009
+is-video-dv = 1083
 
 abbrev pub is-video-h264 : ℕ
-is-video-h264 = 1010
+is-video-h264 = 1084
 
 abbrev pub is-video-h265 : ℕ
-is-video-h265 = 1011
+is-video-h265 = 1085
 
 abbrev pub is-video-mj2 : ℕ
-is-video-mj2 = 1012
+is-video-mj2 = 1086
 
 abbrev pub is-video-mp2t : ℕ
-is-video-mp2t = 1013
+is-video-mp2t = 1087
 
 abbrev pub is-video-mp4 : ℕ
-is-video-mp4 = 1014
+is-video-mp4 = 1088
 
 abbrev pub is-video-mpeg : ℕ
-is-video-mpeg = 1015
+is-video-mpeg = 1089
 
 abbrev pub is-video-ogg : ℕ
-is-video-ogg = 1016
+is-video-ogg = 1090
 
 abbrev pub is-video-quicktime : ℕ
-is-video-quicktime = 1017
+is-video-quicktime = 1091
 
 abbrev pub is-video-vnd-radgamettools-smacker : ℕ
-is-video-vnd-radgamettools-smacker = 1018
+is-video-vnd-radgamettools-smacker = 1092
 
 abbrev pub is-video-webm : ℕ
-is-video-webm = 1019
+is-video-webm = 1093
 
 abbrev pub is-video-x-anim : ℕ
-is-video-x-anim = 1020
+is-video-x-anim = 1094
 
 abbrev pub is-video-x-f4v : ℕ
-is-video-x-f4v = 1021
+is-video-x-f4v = 1095
 
 abbrev pub is-video-x-flic : ℕ
-is-video-x-flic = 1022
+is-video-x-flic = 1096
 
 abbrev pub is-video-x-flv : ℕ
-is-video-x-flv = 1023
+is-video-x-flv = 1097
 
 abbrev pub is-video-x-ivf : ℕ
-is-video-x-ivf = 1024
+is-video-x-ivf = 1098
 
 abbrev pub is-video-x-m4v : ℕ
-is-video-x-m4v = 1025
+is-video-x-m4v = 1099
 
 abbrev pub is-video-x-matroska : ℕ
-is-video-x-matroska = 1026
+is-video-x-matroska = 1100
 
 abbrev pub is-video-x-matroska-3d : ℕ
-is-video-x-matroska-3d = 1027
+is-video-x-matroska-3d = 1101
 
 abbrev pub is-video-x-mng : ℕ
-is-video-x-mng = 1028
+is-video-x-mng = 1102
 
 abbrev pub is-video-x-ms-wmv : ℕ
-is-video-x-ms-wmv = 1029
+is-video-x-ms-wmv = 1103
+
+abbrev pub is-video-x-ms-wtv : ℕ
+is-video-x-ms-wtv = 1104
 
 abbrev pub is-video-x-msvideo : ℕ
-is-video-x-msvideo = 1030
+is-video-x-msvideo = 1105
 
 abbrev pub is-video-x-nsv : ℕ
-is-video-x-nsv = 1031
+is-video-x-nsv = 1106
 
 abbrev pub is-video-x-nut : ℕ
-is-video-x-nut = 1032
+is-video-x-nut = 1107
 
 abbrev pub is-video-x-ogm-ogg : ℕ
-is-video-x-ogm-ogg = 1033
+is-video-x-ogm-ogg = 1108
+
+abbrev pub is-video-x-red-r3d : ℕ
+is-video-x-red-r3d = 1109
 
 abbrev pub is-video-x-yuv4mpeg : ℕ
-is-video-x-yuv4mpeg = 1034
+is-video-x-yuv4mpeg = 1110
 
 unfoldable pub types_0 : List NamedType
 types_0 =
@@ -3129,6 +3357,7 @@ types_0 =
     ∷ named (codes "application/geo+json") known
     ∷ named (codes "application/geopackage+sqlite3") (row (codes "gpkg"))
     ∷ named (codes "application/gml+xml") known
+    ∷ named (codes "application/gnunet-directory") (row (codes "gnd"))
     ∷ named (codes "application/gpx+xml") (row (codes "gpx"))
     ∷ named (codes "application/graphql") own
     ∷ named (codes "application/gzip") (row (codes "gz"))
@@ -3186,6 +3415,7 @@ types_0 =
     ∷ named (codes "application/smil+xml") known
     ∷ named (codes "application/sourcemap+json") own
     ∷ named (codes "application/sparql-query") (row (codes "rq"))
+    ∷ named (codes "application/sparql-results+xml") (row (codes "srx"))
     ∷ named (codes "application/sql") known
     ∷ named (codes "application/srgs+xml") known
     ∷ named (codes "application/tei+xml") known
@@ -3208,6 +3438,7 @@ types_0 =
     ∷ named (codes "application/vnd.apple.mpegurl") (row (codes "m3u8"))
     ∷ named (codes "application/vnd.apple.numbers") known
     ∷ named (codes "application/vnd.apple.pages") known
+    ∷ named (codes "application/vnd.apple.pkpass") (row (codes "pkpass"))
     ∷ named (codes "application/vnd.bzip3") (row (codes "bz3"))
     ∷ named (codes "application/vnd.chess-pgn") known
     ∷ named (codes "application/vnd.coffeescript") known
@@ -3255,6 +3486,7 @@ types_0 =
     ∷ named (codes "application/vnd.ms-word.document.macroEnabled.12") (row (codes "docm"))
     ∷ named (codes "application/vnd.ms-word.template.macroEnabled.12") known
     ∷ named (codes "application/vnd.ms-works") known
+    ∷ named (codes "application/vnd.ms-wpl") (row (codes "wpl"))
     ∷ named (codes "application/vnd.ms-xpsdocument") known
     ∷ named (codes "application/vnd.nintendo.nitro.rom") known
     ∷ named (codes "application/vnd.nintendo.snes.rom") known
@@ -3294,9 +3526,11 @@ types_0 =
     ∷ named (codes "application/vnd.snap") known
     ∷ named (codes "application/vnd.sqlite3") (row (codes "sqlite"))
     ∷ named (codes "application/vnd.squashfs") (row (codes "squashfs"))
+    ∷ named (codes "application/vnd.stardivision.writer") (row (codes "sdw"))
     ∷ named (codes "application/vnd.sun.xml.calc") (row (codes "sxc"))
     ∷ named (codes "application/vnd.sun.xml.draw") (row (codes "sxd"))
     ∷ named (codes "application/vnd.sun.xml.impress") (row (codes "sxi"))
+    ∷ named (codes "application/vnd.sun.xml.math") (row (codes "sxm"))
     ∷ named (codes "application/vnd.sun.xml.writer") (row (codes "sxw"))
     ∷ named (codes "application/vnd.tcpdump.pcap") (row (codes "pcap"))
     ∷ named (codes "application/vnd.visio") (row (codes "vsd"))
@@ -3327,6 +3561,9 @@ types_0 =
     ∷ named (codes "application/x-asar") (row (codes "asar"))
     ∷ named (codes "application/x-asp") known
     ∷ named (codes "application/x-aspx") known
+    ∷ named (codes "application/x-atari-7800-rom") (row (codes "a78"))
+    ∷ named (codes "application/x-atari-lynx-rom") (row (codes "lnx"))
+    ∷ named (codes "application/x-audacity-project+sqlite3") (row (codes "aup3"))
     ∷ named (codes "application/x-autodesk-max") own
     ∷ named (codes "application/x-avro") (row (codes "avro"))
     ∷ named (codes "application/x-avro-schema+json") own
@@ -3334,12 +3571,15 @@ types_0 =
     ∷ named (codes "application/x-bittorrent") (row (codes "torrent"))
     ∷ named (codes "application/x-blender") (row (codes "blend"))
     ∷ named (codes "application/x-bplist") (row (codes "bplist"))
+    ∷ named (codes "application/x-bps-patch") (row (codes "bps"))
+    ∷ named (codes "application/x-bsdiff") (row (codes "bsdiff"))
     ∷ named (codes "application/x-bsp") own
     ∷ named (codes "application/x-bufr") own
     ∷ named (codes "application/x-bzip-compressed-tar") known
     ∷ named (codes "application/x-bzip2") (row (codes "bz2"))
     ∷ named (codes "application/x-cb7") known
     ∷ named (codes "application/x-cbt") known
+    ∷ named (codes "application/x-ccmx") (row (codes "ccmx"))
     ∷ named (codes "application/x-cd-image") known
     ∷ named (codes "application/x-cmi") own
     ∷ named (codes "application/x-cml+xml") own
@@ -3347,16 +3587,23 @@ types_0 =
     ∷ named (codes "application/x-compress") (row (codes "Z"))
     ∷ named (codes "application/x-compressed-tar") known
     ∷ named (codes "application/x-core") (row (codes "core"))
+    ∷ named (codes "application/x-corelpresentations") (row (codes "shw"))
     ∷ named (codes "application/x-cpio") (row (codes "cpio"))
     ∷ named (codes "application/x-csh") (row (codes "csh"))
+    ∷ named (codes "application/x-cubin") (row (codes "cubin"))
     ∷ named (codes "application/x-cue") known
     ∷ named (codes "application/x-dbm") (row (codes "bdb"))
-    ∷ named (codes "application/x-dbus-gvdb") own
+    ∷ []
+
+unfoldable pub types_1 : List NamedType
+types_1 =
+    named (codes "application/x-dbus-gvdb") own
     ∷ named (codes "application/x-designer") known
     ∷ named (codes "application/x-desktop") known
     ∷ named (codes "application/x-devhelp+xml") own
     ∷ named (codes "application/x-device-tree-blob") own
     ∷ named (codes "application/x-dia-diagram") known
+    ∷ named (codes "application/x-dia-shape") (row (codes "diashape"))
     ∷ named (codes "application/x-dictzip") own
     ∷ named (codes "application/x-director") (row (codes "dcr"))
     ∷ named (codes "application/x-docbook+xml") known
@@ -3365,11 +3612,7 @@ types_0 =
     ∷ named (codes "application/x-dtbncx+xml") own
     ∷ named (codes "application/x-dvi") (row (codes "dvi"))
     ∷ named (codes "application/x-eclipse+xml") own
-    ∷ []
-
-unfoldable pub types_1 : List NamedType
-types_1 =
-    named (codes "application/x-egg+zip") own
+    ∷ named (codes "application/x-egg+zip") own
     ∷ named (codes "application/x-elc") own
     ∷ named (codes "application/x-emz") own
     ∷ named (codes "application/x-entitlements") own
@@ -3379,12 +3622,15 @@ types_1 =
     ∷ named (codes "application/x-executable") (row (codes "obj"))
     ∷ named (codes "application/x-ext-filesystem") (row (codes "ext2"))
     ∷ named (codes "application/x-fbx") (row (codes "fbx"))
+    ∷ named (codes "application/x-fds-disk") (row (codes "fds"))
     ∷ named (codes "application/x-fictionbook+xml") (row (codes "fb2"))
     ∷ named (codes "application/x-fishscript") (row (codes "fish"))
     ∷ named (codes "application/x-flash-authoring") own
+    ∷ named (codes "application/x-fluid") (row (codes "fl"))
     ∷ named (codes "application/x-font-afm") (row (codes "afm"))
     ∷ named (codes "application/x-font-bdf") known
     ∷ named (codes "application/x-font-pcf") known
+    ∷ named (codes "application/x-font-ttx") (row (codes "ttx"))
     ∷ named (codes "application/x-font-type1") (row (codes "pfb"))
     ∷ named (codes "application/x-freecad") own
     ∷ named (codes "application/x-gameboy-rom") known
@@ -3414,14 +3660,18 @@ types_1 =
     ∷ named (codes "application/x-haskell-interface") own
     ∷ named (codes "application/x-hdf") (row (codes "hdf4"))
     ∷ named (codes "application/x-hdf5") (row (codes "hdf5"))
+    ∷ named (codes "application/x-hfe-floppy-image") (row (codes "hfe"))
     ∷ named (codes "application/x-hprof") own
     ∷ named (codes "application/x-hwp") known
     ∷ named (codes "application/x-hwpx") own
     ∷ named (codes "application/x-hxml") own
+    ∷ named (codes "application/x-indesign") (row (codes "indd"))
     ∷ named (codes "application/x-innodb") own
     ∷ named (codes "application/x-intellij+xml") own
     ∷ named (codes "application/x-ios-app") own
+    ∷ named (codes "application/x-ips-patch") (row (codes "ips"))
     ∷ named (codes "application/x-ipynb+json") known
+    ∷ named (codes "application/x-it87") (row (codes "it87"))
     ∷ named (codes "application/x-jasper+xml") own
     ∷ named (codes "application/x-java-enterprise-archive") own
     ∷ named (codes "application/x-java-jce-keystore") (row (codes "jceks"))
@@ -3429,17 +3679,27 @@ types_1 =
     ∷ named (codes "application/x-java-jmod") (row (codes "jmod"))
     ∷ named (codes "application/x-java-jnlp-file") (row (codes "jnlp"))
     ∷ named (codes "application/x-java-keystore") (row (codes "jks"))
+    ∷ named (codes "application/x-java-pack200") (row (codes "pack200"))
     ∷ named (codes "application/x-java-serialized-object") own
     ∷ named (codes "application/x-java-web-archive") own
     ∷ named (codes "application/x-jmeter+xml") own
     ∷ named (codes "application/x-jsa") own
     ∷ named (codes "application/x-jsonc") own
     ∷ named (codes "application/x-jsp") known
+    ∷ named (codes "application/x-karbon") (row (codes "karbon"))
+    ∷ named (codes "application/x-kchart") (row (codes "chrt"))
     ∷ named (codes "application/x-kdenlive") own
     ∷ named (codes "application/x-keepass2") own
     ∷ named (codes "application/x-kerberos-keytab") own
+    ∷ named (codes "application/x-kformula") (row (codes "kfo"))
+    ∷ named (codes "application/x-killustrator") (row (codes "kil"))
+    ∷ named (codes "application/x-kivio") (row (codes "flw"))
+    ∷ named (codes "application/x-kontour") (row (codes "kon"))
+    ∷ named (codes "application/x-kpresenter") (row (codes "kpr"))
     ∷ named (codes "application/x-krita") (row (codes "kra"))
     ∷ named (codes "application/x-ksh") own
+    ∷ named (codes "application/x-kspread") (row (codes "ksp"))
+    ∷ named (codes "application/x-kword") (row (codes "kwd"))
     ∷ named (codes "application/x-leveldb-table") own
     ∷ named (codes "application/x-llvm") (row (codes "bc"))
     ∷ named (codes "application/x-locale-archive") own
@@ -3447,6 +3707,7 @@ types_1 =
     ∷ named (codes "application/x-lrzip") (row (codes "lrz"))
     ∷ named (codes "application/x-lua-bytecode") (row (codes "luac"))
     ∷ named (codes "application/x-luks") (row (codes "luks"))
+    ∷ named (codes "application/x-lyx") (row (codes "lyx"))
     ∷ named (codes "application/x-lz4") (row (codes "lz4"))
     ∷ named (codes "application/x-lz4-compressed-tar") known
     ∷ named (codes "application/x-lzh-compressed") (row (codes "lzh"))
@@ -3464,6 +3725,7 @@ types_1 =
     ∷ named (codes "application/x-mimecache") own
     ∷ named (codes "application/x-minecraft-world") own
     ∷ named (codes "application/x-mobipocket-ebook") (row (codes "mobi"))
+    ∷ named (codes "application/x-monotone-database") (row (codes "mtn"))
     ∷ named (codes "application/x-ms-evtx") (row (codes "evtx"))
     ∷ named (codes "application/x-ms-pdb") own
     ∷ named (codes "application/x-ms-registry-hive") own
@@ -3474,6 +3736,7 @@ types_1 =
     ∷ named (codes "application/x-msbuild+xml") own
     ∷ named (codes "application/x-msi") (row (codes "msi"))
     ∷ named (codes "application/x-mswinurl") known
+    ∷ named (codes "application/x-musescore") (row (codes "mscz"))
     ∷ named (codes "application/x-mxml") own
     ∷ named (codes "application/x-mysql-myisam") own
     ∷ named (codes "application/x-n64-rom") (row (codes "n64"))
@@ -3481,11 +3744,13 @@ types_1 =
     ∷ named (codes "application/x-navi-animation") (row (codes "ani"))
     ∷ named (codes "application/x-ndjson") (row (codes "ndjson"))
     ∷ named (codes "application/x-netcdf") known
+    ∷ named (codes "application/x-netshow-channel") (row (codes "nsc"))
     ∷ named (codes "application/x-nintendo-nes-rom") (row (codes "nes"))
     ∷ named (codes "application/x-npy") (row (codes "npy"))
     ∷ named (codes "application/x-npz") own
     ∷ named (codes "application/x-nuget-package") own
     ∷ named (codes "application/x-nuspec+xml") own
+    ∷ named (codes "application/x-nzb") (row (codes "nzb"))
     ∷ named (codes "application/x-object") (row (codes "o"))
     ∷ named (codes "application/x-openssh-private-key") (row (codes "openssh"))
     ∷ named (codes "application/x-openzim") (row (codes "zim"))
@@ -3501,26 +3766,35 @@ types_1 =
     ∷ named (codes "application/x-phylip") own
     ∷ named (codes "application/x-plist") (row (codes "plist"))
     ∷ named (codes "application/x-ply") own
+    ∷ named (codes "application/x-pocket-word") (row (codes "psw"))
     ∷ named (codes "application/x-pov") own
     ∷ named (codes "application/x-powershell") (row (codes "ps1"))
     ∷ named (codes "application/x-precompiled-header") own
     ∷ named (codes "application/x-profraw") own
     ∷ named (codes "application/x-ps1xml") own
+    ∷ named (codes "application/x-pyspread-spreadsheet") (row (codes "pysu"))
     ∷ named (codes "application/x-python-bytecode") (row (codes "pyc"))
     ∷ named (codes "application/x-python-pickle") own
     ∷ named (codes "application/x-python-zipapp") own
     ∷ named (codes "application/x-pytorch") own
+    ∷ named (codes "application/x-qed-disk") (row (codes "qed"))
     ∷ named (codes "application/x-qemu-disk") (row (codes "qcow2"))
     ∷ named (codes "application/x-qgis-project") own
+    ∷ named (codes "application/x-qgis-project") (row (codes "qgz"))
+    ∷ named (codes "application/x-qpress") (row (codes "qp"))
     ∷ named (codes "application/x-qrc+xml") own
+    ∷ named (codes "application/x-qtiplot") (row (codes "qti"))
     ∷ named (codes "application/x-quake-pak") own
     ∷ named (codes "application/x-quattropro") known
+    ∷ named (codes "application/x-quicktime-media-link") (row (codes "qtl"))
     ∷ named (codes "application/x-r-data") own
     ∷ named (codes "application/x-resx+xml") own
     ∷ named (codes "application/x-rhino") own
     ∷ named (codes "application/x-rpm") (row (codes "rpm"))
+    ∷ named (codes "application/x-ruby-gem") (row (codes "gem"))
     ∷ named (codes "application/x-rust-rlib") own
     ∷ named (codes "application/x-safetensors") (row (codes "safetensors"))
+    ∷ named (codes "application/x-sami") (row (codes "sami"))
     ∷ named (codes "application/x-sas-data") own
     ∷ named (codes "application/x-scribus") own
     ∷ named (codes "application/x-scxml+xml") own
@@ -3530,10 +3804,13 @@ types_1 =
     ∷ named (codes "application/x-shared-library-la") known
     ∷ named (codes "application/x-sharedlib") (row (codes "so"))
     ∷ named (codes "application/x-shockwave-flash") (row (codes "swf"))
+    ∷ named (codes "application/x-silverlight-app") (row (codes "xap"))
     ∷ named (codes "application/x-sketch") own
     ∷ named (codes "application/x-sketchup") own
     ∷ named (codes "application/x-snappy-framed") (row (codes "sz"))
+    ∷ named (codes "application/x-source-rpm") (row (codes "srpm"))
     ∷ named (codes "application/x-spss-sav") (row (codes "sav"))
+    ∷ named (codes "application/x-sqlite2") (row (codes "sqlite2"))
     ∷ named (codes "application/x-ssh-public-key") own
     ∷ named (codes "application/x-stata-dta") own
     ∷ named (codes "application/x-storyboard+xml") own
@@ -3576,10 +3853,16 @@ types_1 =
     ∷ named (codes "application/x-x509-ca-cert") (row (codes "der"))
     ∷ named (codes "application/x-x509-ca-cert") (row (codes "pem"))
     ∷ named (codes "application/x-xar") (row (codes "xar"))
+    ∷ []
+
+unfoldable pub types_2 : List NamedType
+types_2 =
+    named (codes "application/x-xmp+xml") (row (codes "xmp"))
     ∷ named (codes "application/x-xpinstall") known
     ∷ named (codes "application/x-xz") (row (codes "xz"))
     ∷ named (codes "application/x-xz-compressed-tar") known
     ∷ named (codes "application/x-zcml") own
+    ∷ named (codes "application/x-zip-compressed-fb2") (row (codes "fbz"))
     ∷ named (codes "application/x-zoo") known
     ∷ named (codes "application/x-zsh") own
     ∷ named (codes "application/x-zstd-compressed-tar") known
@@ -3625,16 +3908,13 @@ types_1 =
     ∷ named (codes "audio/x-gsm") known
     ∷ named (codes "audio/x-it") (row (codes "it"))
     ∷ named (codes "audio/x-m4b") (row (codes "m4b"))
-    ∷ []
-
-unfoldable pub types_2 : List NamedType
-types_2 =
-    named (codes "audio/x-matroska") known
+    ∷ named (codes "audio/x-matroska") known
     ∷ named (codes "audio/x-mo3") (row (codes "mo3"))
     ∷ named (codes "audio/x-mod") known
     ∷ named (codes "audio/x-mpegurl") known
     ∷ named (codes "audio/x-ms-wma") known
     ∷ named (codes "audio/x-musepack") (row (codes "mpc"))
+    ∷ named (codes "audio/x-nsf") (row (codes "nsf"))
     ∷ named (codes "audio/x-s3m") known
     ∷ named (codes "audio/x-scpls") (row (codes "pls"))
     ∷ named (codes "audio/x-sfbk") (row (codes "sf2"))
@@ -3658,8 +3938,10 @@ types_2 =
     ∷ named (codes "image/avif") (row (codes "avif"))
     ∷ named (codes "image/bmp") (row (codes "bmp"))
     ∷ named (codes "image/bpg") (row (codes "bpg"))
+    ∷ named (codes "image/dpx") (row (codes "dpx"))
     ∷ named (codes "image/emf") (row (codes "emf"))
     ∷ named (codes "image/fits") (row (codes "fits"))
+    ∷ named (codes "image/flif") (row (codes "flif"))
     ∷ named (codes "image/geotiff") own
     ∷ named (codes "image/gif") (row (codes "gif"))
     ∷ named (codes "image/heic") (row (codes "heic"))
@@ -3668,6 +3950,8 @@ types_2 =
     ∷ named (codes "image/jls") (row (codes "jls"))
     ∷ named (codes "image/jp2") (row (codes "jp2"))
     ∷ named (codes "image/jpeg") (row (codes "jpg"))
+    ∷ named (codes "image/jph") (row (codes "jph"))
+    ∷ named (codes "image/jpm") (row (codes "jpm"))
     ∷ named (codes "image/jpx") (row (codes "jpx"))
     ∷ named (codes "image/jxl") (row (codes "jxl"))
     ∷ named (codes "image/ktx") (row (codes "ktx"))
@@ -3684,6 +3968,7 @@ types_2 =
     ∷ named (codes "image/vnd.fpx") (row (codes "fpx"))
     ∷ named (codes "image/vnd.microsoft.icon") (row (codes "ico"))
     ∷ named (codes "image/vnd.ms-dds") (row (codes "dds"))
+    ∷ named (codes "image/vnd.ms-modi") (row (codes "mdi"))
     ∷ named (codes "image/vnd.ms-photo") (row (codes "jxr"))
     ∷ named (codes "image/vnd.radiance") (row (codes "hdr"))
     ∷ named (codes "image/vnd.zbrush.pcx") (row (codes "pcx"))
@@ -3693,6 +3978,7 @@ types_2 =
     ∷ named (codes "image/x-adobe-dng") (row (codes "dng"))
     ∷ named (codes "image/x-canon-cr2") (row (codes "cr2"))
     ∷ named (codes "image/x-canon-cr3") (row (codes "cr3"))
+    ∷ named (codes "image/x-canon-crw") (row (codes "crw"))
     ∷ named (codes "image/x-cmu-raster") known
     ∷ named (codes "image/x-eps") (row (codes "eps"))
     ∷ named (codes "image/x-epson-erf") known
@@ -3703,16 +3989,22 @@ types_2 =
     ∷ named (codes "image/x-hasselblad-3fr") own
     ∷ named (codes "image/x-icns") (row (codes "icns"))
     ∷ named (codes "image/x-ilbm") (row (codes "ilbm"))
+    ∷ named (codes "image/x-itc") (row (codes "itc"))
     ∷ named (codes "image/x-jp2-codestream") (row (codes "j2c"))
     ∷ named (codes "image/x-kodak-dcr") known
     ∷ named (codes "image/x-kodak-kdc") known
+    ∷ named (codes "image/x-lytro-lfp") (row (codes "lfp"))
     ∷ named (codes "image/x-mamiya-mef") own
+    ∷ named (codes "image/x-miff") (row (codes "miff"))
     ∷ named (codes "image/x-minolta-mrw") known
+    ∷ named (codes "image/x-mvg") (row (codes "mvg"))
     ∷ named (codes "image/x-nikon-nef") known
     ∷ named (codes "image/x-nikon-nrw") known
     ∷ named (codes "image/x-olympus-orf") (row (codes "orf"))
+    ∷ named (codes "image/x-paintshoppro") (row (codes "psp"))
     ∷ named (codes "image/x-panasonic-rw2") (row (codes "rw2"))
     ∷ named (codes "image/x-pentax-pef") known
+    ∷ named (codes "image/x-pgf") (row (codes "pgf"))
     ∷ named (codes "image/x-pict") known
     ∷ named (codes "image/x-portable-anymap") (row (codes "pnm"))
     ∷ named (codes "image/x-portable-bitmap") known
@@ -3722,6 +4014,7 @@ types_2 =
     ∷ named (codes "image/x-samsung-srw") own
     ∷ named (codes "image/x-sgi") (row (codes "sgi"))
     ∷ named (codes "image/x-sigma-x3f") (row (codes "x3f"))
+    ∷ named (codes "image/x-skencil") (row (codes "sk"))
     ∷ named (codes "image/x-sony-arw") known
     ∷ named (codes "image/x-sony-sr2") known
     ∷ named (codes "image/x-sony-srf") known
@@ -3732,6 +4025,7 @@ types_2 =
     ∷ named (codes "image/x-xfig") (row (codes "fig"))
     ∷ named (codes "image/x-xpixmap") (row (codes "xpm"))
     ∷ named (codes "image/x-xwindowdump") (row (codes "xwd"))
+    ∷ named (codes "image/x-zeiss-czi") (row (codes "czi"))
     ∷ named (codes "message/rfc822") known
     ∷ named (codes "model/3mf") (row (codes "3mf"))
     ∷ named (codes "model/e57") (row (codes "e57"))
@@ -3761,6 +4055,7 @@ types_2 =
     ∷ named (codes "text/plain") (row (codes "txt"))
     ∷ named (codes "text/rust") known
     ∷ named (codes "text/sgml") known
+    ∷ named (codes "text/spreadsheet") (row (codes "slk"))
     ∷ named (codes "text/tab-separated-values") known
     ∷ named (codes "text/troff") known
     ∷ named (codes "text/turtle") known
@@ -3770,6 +4065,7 @@ types_2 =
     ∷ named (codes "text/velocity") known
     ∷ named (codes "text/vnd.familysearch.gedcom") known
     ∷ named (codes "text/vnd.graphviz") known
+    ∷ named (codes "text/vnd.sun.j2me.app-descriptor") (row (codes "jad"))
     ∷ named (codes "text/vnd.trolltech.linguist") (row (codes "lingts"))
     ∷ named (codes "text/vnd.wap.wml") known
     ∷ named (codes "text/vtt") (row (codes "vtt"))
@@ -3817,7 +4113,11 @@ types_2 =
     ∷ named (codes "text/x-chdr") known
     ∷ named (codes "text/x-checksums") own
     ∷ named (codes "text/x-chuck") own
-    ∷ named (codes "text/x-clojure") (row (codes "clj"))
+    ∷ []
+
+unfoldable pub types_3 : List NamedType
+types_3 =
+    named (codes "text/x-clojure") (row (codes "clj"))
     ∷ named (codes "text/x-cmake") known
     ∷ named (codes "text/x-cobol") known
     ∷ named (codes "text/x-cocci") own
@@ -3871,6 +4171,7 @@ types_2 =
     ∷ named (codes "text/x-fsharp") known
     ∷ named (codes "text/x-gams") own
     ∷ named (codes "text/x-gap") own
+    ∷ named (codes "text/x-gcode-gx") (row (codes "gx"))
     ∷ named (codes "text/x-gdb") own
     ∷ named (codes "text/x-genbank") own
     ∷ named (codes "text/x-genie") known
@@ -3885,11 +4186,7 @@ types_2 =
     ∷ named (codes "text/x-gitignore") own
     ∷ named (codes "text/x-gleam") own
     ∷ named (codes "text/x-glsl") own
-    ∷ []
-
-unfoldable pub types_3 : List NamedType
-types_3 =
-    named (codes "text/x-gn") own
+    ∷ named (codes "text/x-gn") own
     ∷ named (codes "text/x-go") known
     ∷ named (codes "text/x-gomod") own
     ∷ named (codes "text/x-gosum") own
@@ -3911,6 +4208,8 @@ types_3 =
     ∷ named (codes "text/x-idris") own
     ∷ named (codes "text/x-igor") own
     ∷ named (codes "text/x-imagej") own
+    ∷ named (codes "text/x-imelody") (row (codes "imy"))
+    ∷ named (codes "text/x-info") (row (codes "info"))
     ∷ named (codes "text/x-ini") own
     ∷ named (codes "text/x-innosetup") own
     ∷ named (codes "text/x-io") own
@@ -3948,6 +4247,7 @@ types_3 =
     ∷ named (codes "text/x-logtalk") own
     ∷ named (codes "text/x-lsl") own
     ∷ named (codes "text/x-lua") (row (codes "lua"))
+    ∷ named (codes "text/x-luatex") (row (codes "texlua"))
     ∷ named (codes "text/x-makefile") (row (codes "mk"))
     ∷ named (codes "text/x-mako") own
     ∷ named (codes "text/x-marko") own
@@ -4047,6 +4347,7 @@ types_3 =
     ∷ named (codes "text/x-sas") known
     ∷ named (codes "text/x-sass") known
     ∷ named (codes "text/x-scala") (row (codes "scala"))
+    ∷ named (codes "text/x-scc") (row (codes "scc"))
     ∷ named (codes "text/x-scheme") (row (codes "scm"))
     ∷ named (codes "text/x-scilab") own
     ∷ named (codes "text/x-scons") known
@@ -4072,7 +4373,11 @@ types_3 =
     ∷ named (codes "text/x-spice") own
     ∷ named (codes "text/x-spin") own
     ∷ named (codes "text/x-squirrel") own
-    ∷ named (codes "text/x-ssa") (row (codes "ssa"))
+    ∷ []
+
+unfoldable pub types_4 : List NamedType
+types_4 =
+    named (codes "text/x-ssa") (row (codes "ssa"))
     ∷ named (codes "text/x-stan") own
     ∷ named (codes "text/x-starlark") own
     ∷ named (codes "text/x-stata") own
@@ -4112,6 +4417,7 @@ types_3 =
     ∷ named (codes "text/x-verilog") known
     ∷ named (codes "text/x-vhdl") known
     ∷ named (codes "text/x-vim") own
+    ∷ named (codes "text/x-vnote") (row (codes "vnt"))
     ∷ named (codes "text/x-vue") own
     ∷ named (codes "text/x-vyper") own
     ∷ named (codes "text/x-wat") own
@@ -4145,20 +4451,18 @@ types_3 =
     ∷ named (codes "video/x-f4v") (row (codes "f4v"))
     ∷ named (codes "video/x-flic") known
     ∷ named (codes "video/x-flv") (row (codes "flv"))
-    ∷ []
-
-unfoldable pub types_4 : List NamedType
-types_4 =
-    named (codes "video/x-ivf") (row (codes "ivf"))
+    ∷ named (codes "video/x-ivf") (row (codes "ivf"))
     ∷ named (codes "video/x-m4v") (row (codes "m4v"))
     ∷ named (codes "video/x-matroska") (row (codes "mkv"))
     ∷ named (codes "video/x-matroska-3d") known
     ∷ named (codes "video/x-mng") (row (codes "mng"))
     ∷ named (codes "video/x-ms-wmv") (row (codes "wmv"))
+    ∷ named (codes "video/x-ms-wtv") (row (codes "wtv"))
     ∷ named (codes "video/x-msvideo") (row (codes "avi"))
     ∷ named (codes "video/x-nsv") known
     ∷ named (codes "video/x-nut") (row (codes "nut"))
     ∷ named (codes "video/x-ogm+ogg") (row (codes "ogm"))
+    ∷ named (codes "video/x-red-r3d") (row (codes "r3d"))
     ∷ named (codes "video/x-yuv4mpeg") (row (codes "y4m"))
     ∷ []
 

@@ -10,15 +10,15 @@ use Rattle.infer_named.specs.Slots.{starts}
 use Rattle.infer_named.specs.Types.{types, types_0, types_1, types_2, types_3, types_4}
 use Rattle.infer_named.specs.declared.table.generated.keys.TheConstants.{KEYS}
 
-pub listed : map key_listed (take 269 (drop 0 KEYS)) ≡ keys
+pub listed : map key_listed (take 276 (drop 0 KEYS)) ≡ keys
 unfolding keys key_texts readings
 listed = refl
 
-pub many : length keys ≡ 269
+pub many : length keys ≡ 276
 unfolding keys
 many = refl
 
-pub right : wrong_from starts 269 0 keys ≡ []
+pub right : wrong_from starts 276 0 keys ≡ []
 unfolding keys starts types types_0 types_1 types_2 types_3 types_4
 right = refl
 

@@ -10,15 +10,15 @@ use Rattle.infer_named.specs.Slots.{starts}
 use Rattle.infer_named.specs.Types.{types, types_0, types_1, types_2, types_3, types_4}
 use Rattle.infer_named.specs.declared.table.generated.keys.TheConstants.{KEYS}
 
-pub listed : map key_listed (take 230 (drop 531 KEYS)) ≡ keys
+pub listed : map key_listed (take 238 (drop 552 KEYS)) ≡ keys
 unfolding keys key_texts readings
 listed = refl
 
-pub many : length keys ≡ 230
+pub many : length keys ≡ 238
 unfolding keys
 many = refl
 
-pub right : wrong_from starts 761 531 keys ≡ []
+pub right : wrong_from starts 790 552 keys ≡ []
 unfolding keys starts types types_0 types_1 types_2 types_3 types_4
 right = refl
 

@@ -10,15 +10,15 @@ use Rattle.infer_named.specs.Slots.{starts}
 use Rattle.infer_named.specs.Types.{types, types_0, types_1, types_2, types_3, types_4}
 use Rattle.infer_named.specs.declared.table.generated.keys.TheConstants.{KEYS}
 
-pub listed : map key_listed (take 254 (drop 1020 KEYS)) ≡ keys
+pub listed : map key_listed (take 261 (drop 1064 KEYS)) ≡ keys
 unfolding keys key_texts readings
 listed = refl
 
-pub many : length keys ≡ 254
+pub many : length keys ≡ 261
 unfolding keys
 many = refl
 
-pub right : wrong_from starts 1274 1020 keys ≡ []
+pub right : wrong_from starts 1325 1064 keys ≡ []
 unfolding keys starts types types_0 types_1 types_2 types_3 types_4
 right = refl
 

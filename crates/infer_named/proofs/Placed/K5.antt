@@ -10,15 +10,15 @@ use Rattle.infer_named.specs.Slots.{starts}
 use Rattle.infer_named.specs.Types.{types, types_0, types_1, types_2, types_3, types_4}
 use Rattle.infer_named.specs.declared.table.generated.keys.TheConstants.{KEYS}
 
-pub listed : map key_listed (take 233 (drop 1274 KEYS)) ≡ keys
+pub listed : map key_listed (take 242 (drop 1325 KEYS)) ≡ keys
 unfolding keys key_texts readings
 listed = refl
 
-pub many : length keys ≡ 233
+pub many : length keys ≡ 242
 unfolding keys
 many = refl
 
-pub right : wrong_from starts 1507 1274 keys ≡ []
+pub right : wrong_from starts 1567 1325 keys ≡ []
 unfolding keys starts types types_0 types_1 types_2 types_3 types_4
 right = refl
 

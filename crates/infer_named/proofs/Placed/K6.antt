@@ -10,15 +10,15 @@ use Rattle.infer_named.specs.Slots.{starts}
 use Rattle.infer_named.specs.Types.{types, types_0, types_1, types_2, types_3, types_4}
 use Rattle.infer_named.specs.declared.table.generated.keys.TheConstants.{KEYS}
 
-pub listed : map key_listed (take 244 (drop 1507 KEYS)) ≡ keys
+pub listed : map key_listed (take 252 (drop 1567 KEYS)) ≡ keys
 unfolding keys key_texts readings
 listed = refl
 
-pub many : length keys ≡ 244
+pub many : length keys ≡ 252
 unfolding keys
 many = refl
 
-pub right : wrong_from starts 1751 1507 keys ≡ []
+pub right : wrong_from starts 1819 1567 keys ≡ []
 unfolding keys starts types types_0 types_1 types_2 types_3 types_4
 right = refl
 

@@ -10,15 +10,15 @@ use Rattle.infer_named.specs.Slots.{starts}
 use Rattle.infer_named.specs.Types.{types, types_0, types_1, types_2, types_3, types_4}
 use Rattle.infer_named.specs.declared.table.generated.keys.TheConstants.{KEYS}
 
-pub listed : map key_listed (take 221 (drop 1751 KEYS)) ≡ keys
+pub listed : map key_listed (take 237 (drop 1819 KEYS)) ≡ keys
 unfolding keys key_texts readings
 listed = refl
 
-pub many : length keys ≡ 221
+pub many : length keys ≡ 237
 unfolding keys
 many = refl
 
-pub right : wrong_from starts 1972 1751 keys ≡ []
+pub right : wrong_from starts 2056 1819 keys ≡ []
 unfolding keys starts types types_0 types_1 types_2 types_3 types_4
 right = refl
 

@@ -2,8 +2,8 @@
 use Rattle.std.specs.Prelude.{List, [], ◌∷◌, codes, false, true}
 use Rattle.infer_named.specs.Key.{Key, key}
 use Rattle.infer_named.specs.Listed.{reading}
-use Rattle.infer_named.specs.Sets.{any-lead, leads-10, leads-11, leads-3, leads-4, leads-8, no-rows, rows-3g2, rows-3g2-3gp-f4v-m4a-m4b-m4v-mov, rows-3gp, rows-3gp-mp4, rows-appimage-core-cubin-o-so, rows-application-x-msi, rows-application-x-ole-storage, rows-application-x-ole-storage-pptm-pptx-zip, rows-application-x-ole-storage-xlsx-zip, rows-arj, rows-asc, rows-atom, rows-aup3-fossil-gpkg-mbtiles-mtn, rows-awk, rows-bz2, rows-bz2-gz-xz, rows-cer-p10-p8, rows-chd, rows-clj, rows-dbf, rows-der, rows-dey, rows-djvm, rows-djvu, rows-doc, rows-dtsi, rows-elf, rows-eps, rows-escript, rows-exe, rows-f4v, rows-flatpak, rows-gjs-js, rows-gnuplot, rows-groovy, rows-gz, rows-heif, rows-html, rows-html-json-php-svg-txt-xhtml-xml, rows-html-rss-txt-xml, rows-html-sh-svg-txt-xhtml-xml, rows-html-txt-xhtml-xml, rows-html-txt-xml, rows-icc, rows-jls, rows-jp2, rows-jpg, rows-jpx, rows-json, rows-json-ndjson-txt, rows-json-plist-txt-xml, rows-json-sh-txt, rows-jxr, rows-ktx, rows-lnk, rows-lua, rows-lzo, rows-m, rows-m4v, rows-mj2, rows-mk, rows-mobi, rows-model-step, rows-mp3, rows-mp4, rows-mpg, rows-ndjson, rows-odp, rows-ogg, rows-ogg-ogv, rows-ogm, rows-opus, rows-otp, rows-pem, rows-pfa-pfb, rows-php, rows-php-svg-txt-xhtml-xml, rows-pl, rows-plist-txt-xml, rows-pnm, rows-ppt, rows-ps, rows-ps-sh-txt, rows-ps-txt, rows-pub, rows-puml, rows-raku, rows-raml, rows-rb, rows-rq, rows-scm, rows-sgi, rows-sh, rows-sh-txt, rows-sig, rows-sqlite, rows-squashfs, rows-ssa, rows-stl, rows-sxc, rows-sxd, rows-tcl, rows-tif, rows-torrent, rows-ts, rows-txt, rows-txt-xml, rows-txt-yaml, rows-vhdx, rows-webm, rows-woff, rows-wrl, rows-x3f, rows-xcf, rows-xhtml, rows-xpm, rows-yaml, rows-z, rows-zip, text-rows}
-use Rattle.infer_named.specs.Types.{is-application-atom-xml, is-application-dita-xml, is-application-font-woff-as-row-woff, is-application-graphql, is-application-jsonnet, is-application-ld-json, is-application-lrc, is-application-msgpack, is-application-msword, is-application-n-quads, is-application-onenote, is-application-oxps, is-application-pgp-keys-as-row-asc, is-application-pgp-signature, is-application-protobuf, is-application-raml-yaml, is-application-rdf-xml, is-application-sparql-query, is-application-sql, is-application-vnd-android-dey, is-application-vnd-coffeescript, is-application-vnd-dbf, is-application-vnd-etsi-asic-e-zip, is-application-vnd-flatpak, is-application-vnd-iccprofile, is-application-vnd-microsoft-portable-executable, is-application-vnd-ms-powerpoint, is-application-vnd-ms-powerpoint-slideshow-macroenabled-12, is-application-vnd-ms-publisher, is-application-vnd-nintendo-nitro-rom, is-application-vnd-oasis-opendocument-presentation, is-application-vnd-oasis-opendocument-presentation-flat-xml, is-application-vnd-openxmlformats-officedocument-spreadsheetml-template, is-application-vnd-sqlite3, is-application-vnd-squashfs, is-application-vnd-sun-xml-calc, is-application-vnd-sun-xml-draw, is-application-vnd-wolfram-mathematica, is-application-voicexml-xml, is-application-x-admx, is-application-x-arj, is-application-x-aspx, is-application-x-autodesk-max, is-application-x-bittorrent, is-application-x-bsp, is-application-x-bufr, is-application-x-bzip-compressed-tar, is-application-x-compress, is-application-x-dictzip, is-application-x-drawio-xml, is-application-x-dtbncx-xml, is-application-x-elc, is-application-x-emz, is-application-x-entitlements, is-application-x-executable-as-row-elf, is-application-x-font-type1, is-application-x-gba-rom, is-application-x-genesis-rom, is-application-x-gnuplot, is-application-x-gschema-compiled, is-application-x-haskell-interface, is-application-x-hwp, is-application-x-innodb, is-application-x-intellij-xml, is-application-x-ipynb-json, is-application-x-java-jimage, is-application-x-jmeter-xml, is-application-x-jsonc, is-application-x-jsp, is-application-x-lzop, is-application-x-mame-chd, is-application-x-minecraft-world, is-application-x-mobipocket-ebook, is-application-x-ms-shortcut, is-application-x-msbuild-xml, is-application-x-msi, is-application-x-ndjson, is-application-x-nuget-package, is-application-x-osm-pbf, is-application-x-r-data, is-application-x-rhino, is-application-x-shapefile-index, is-application-x-ssh-public-key, is-application-x-theme-xml, is-application-x-uproject-json, is-application-x-vhdx-disk, is-application-x-wix-xml, is-application-x-x509-ca-cert-as-row-der, is-application-x-zsh, is-application-xhtml-xml, is-application-xml-dtd, is-application-xml-external-parsed-entity, is-application-xquery, is-application-yaml, is-audio-eac3, is-audio-mpeg, is-audio-opus, is-audio-webm, is-audio-x-gsm, is-image-jpeg, is-image-jpx, is-image-ktx, is-image-vnd-djvu, is-image-vnd-ms-photo, is-image-x-eps, is-image-x-pentax-pef, is-image-x-portable-anymap, is-image-x-samsung-srw, is-image-x-sgi, is-image-x-sigma-x3f, is-image-x-xcf, is-message-rfc822, is-model-step, is-model-stl, is-model-vrml, is-text-html, is-text-javascript, is-text-markdown, is-text-org, is-text-plain, is-text-sgml, is-text-tab-separated-values, is-text-troff, is-text-velocity, is-text-x-adasrc, is-text-x-aidl, is-text-x-antlr, is-text-x-apl, is-text-x-autohotkey, is-text-x-awk, is-text-x-bibtex, is-text-x-bitbake, is-text-x-c-hdr, is-text-x-c-src, is-text-x-capnp, is-text-x-checksums, is-text-x-clojure, is-text-x-crystal, is-text-x-csrc, is-text-x-cypher, is-text-x-dhall, is-text-x-dsrc, is-text-x-dts, is-text-x-ebnf, is-text-x-editorconfig, is-text-x-eiffel, is-text-x-erlang, is-text-x-fastq, is-text-x-forth, is-text-x-fortran, is-text-x-freemarker, is-text-x-gams, is-text-x-gap, is-text-x-gcode, is-text-x-genbank, is-text-x-gherkin, is-text-x-gitconfig, is-text-x-glsl, is-text-x-gn, is-text-x-gosum, is-text-x-groovy, is-text-x-handlebars, is-text-x-ini, is-text-x-io, is-text-x-java, is-text-x-java-properties, is-text-x-kusto, is-text-x-lean, is-text-x-lsl, is-text-x-lua, is-text-x-makefile, is-text-x-matlab, is-text-x-modula, is-text-x-monkey, is-text-x-move, is-text-x-msdos-batch, is-text-x-newick, is-text-x-nginx-conf, is-text-x-objc-src, is-text-x-objcsrc, is-text-x-openscad, is-text-x-pascal, is-text-x-perl, is-text-x-php, is-text-x-pkg-config, is-text-x-plantuml, is-text-x-pli, is-text-x-pth, is-text-x-purescript, is-text-x-raku, is-text-x-red, is-text-x-rpgle, is-text-x-rst, is-text-x-ruby, is-text-x-sas, is-text-x-scheme, is-text-x-sdc, is-text-x-shell-config, is-text-x-shellscript, is-text-x-sln, is-text-x-smt, is-text-x-solidity, is-text-x-soy, is-text-x-ssa, is-text-x-stylus, is-text-x-systemd-unit, is-text-x-tcl, is-text-x-tex, is-text-x-tmux-conf, is-text-x-unity, is-text-x-vcl, is-text-x-vdf, is-text-x-verilog, is-text-x-vim, is-text-x-wat, is-text-x-wkt, is-text-x-yacc, is-text-x-zimpl, is-video-3gpp, is-video-3gpp2, is-video-h264, is-video-h265, is-video-mj2, is-video-mp2t, is-video-mp4, is-video-mpeg, is-video-x-f4v, is-video-x-m4v, is-video-x-ogm-ogg}
+use Rattle.infer_named.specs.Sets.{any-lead, leads-10, leads-11, leads-3, leads-4, leads-8, no-rows, rows-3g2, rows-3g2-3gp-f4v-m4a-m4b-m4v-mov, rows-3gp, rows-3gp-mp4, rows-a78, rows-appimage-core-cubin-o-so, rows-application-x-msi, rows-application-x-ole-storage, rows-application-x-ole-storage-pptm-pptx-zip, rows-application-x-ole-storage-xlsx-zip, rows-arj, rows-asc, rows-atom, rows-aup3-fossil-gpkg-mbtiles-mtn, rows-awk, rows-bps, rows-bz2, rows-bz2-gz-xz, rows-cer-p10-p8, rows-chd, rows-clj, rows-dbf, rows-der, rows-dey, rows-diashape, rows-djvm, rows-djvu, rows-doc, rows-dtsi, rows-elf, rows-eps, rows-escript, rows-exe, rows-f4v, rows-flatpak, rows-gjs-js, rows-gnuplot, rows-groovy, rows-gz, rows-gz-zip, rows-heif, rows-html, rows-html-json-php-svg-txt-xhtml-xml, rows-html-rss-txt-xml, rows-html-sh-svg-txt-xhtml-xml, rows-html-txt, rows-html-txt-xhtml-xml, rows-html-txt-xml, rows-icc, rows-jls, rows-jp2, rows-jpg, rows-jpx, rows-json, rows-json-ndjson-txt, rows-json-plist-txt-xml, rows-json-sh-txt, rows-jxr, rows-kpr, rows-ktx, rows-kwd, rows-lnk, rows-lua, rows-lzo, rows-m, rows-m4v, rows-mj2, rows-mk, rows-mobi, rows-model-step, rows-mp3, rows-mp4, rows-mpg, rows-ndjson, rows-odp, rows-ogg, rows-ogg-ogv, rows-ogm, rows-opus, rows-otp, rows-pem, rows-pfa-pfb, rows-php, rows-php-svg-txt-xhtml-xml, rows-pl, rows-plist-txt-xml, rows-pnm, rows-ppt, rows-ps, rows-ps-sh-txt, rows-ps-txt, rows-pub, rows-puml, rows-raku, rows-raml, rows-rb, rows-rq, rows-sami, rows-scm, rows-sgi, rows-sh, rows-sh-txt, rows-shw, rows-sig, rows-sqlite, rows-squashfs, rows-ssa, rows-stl, rows-sxc, rows-sxd, rows-tcl, rows-tif, rows-torrent, rows-ts, rows-txt, rows-txt-xml, rows-txt-yaml, rows-vhdx, rows-webm, rows-woff, rows-wrl, rows-x3f, rows-xcf, rows-xhtml, rows-xpm, rows-yaml, rows-z, rows-zip, text-rows}
+use Rattle.infer_named.specs.Types.{is-application-atom-xml, is-application-dita-xml, is-application-font-woff-as-row-woff, is-application-graphql, is-application-jsonnet, is-application-ld-json, is-application-lrc, is-application-msgpack, is-application-msword, is-application-n-quads, is-application-onenote, is-application-oxps, is-application-pgp-keys-as-row-asc, is-application-pgp-signature, is-application-protobuf, is-application-raml-yaml, is-application-rdf-xml, is-application-sparql-query, is-application-sql, is-application-vnd-android-dey, is-application-vnd-coffeescript, is-application-vnd-dbf, is-application-vnd-etsi-asic-e-zip, is-application-vnd-flatpak, is-application-vnd-iccprofile, is-application-vnd-microsoft-portable-executable, is-application-vnd-ms-powerpoint, is-application-vnd-ms-powerpoint-slideshow-macroenabled-12, is-application-vnd-ms-publisher, is-application-vnd-nintendo-nitro-rom, is-application-vnd-oasis-opendocument-presentation, is-application-vnd-oasis-opendocument-presentation-flat-xml, is-application-vnd-openxmlformats-officedocument-spreadsheetml-template, is-application-vnd-sqlite3, is-application-vnd-squashfs, is-application-vnd-sun-xml-calc, is-application-vnd-sun-xml-draw, is-application-vnd-wolfram-mathematica, is-application-voicexml-xml, is-application-x-admx, is-application-x-arj, is-application-x-aspx, is-application-x-atari-7800-rom, is-application-x-autodesk-max, is-application-x-bittorrent, is-application-x-bps-patch, is-application-x-bsp, is-application-x-bufr, is-application-x-bzip-compressed-tar, is-application-x-compress, is-application-x-corelpresentations, is-application-x-dia-shape, is-application-x-dictzip, is-application-x-drawio-xml, is-application-x-dtbncx-xml, is-application-x-elc, is-application-x-emz, is-application-x-entitlements, is-application-x-executable-as-row-elf, is-application-x-font-type1, is-application-x-gba-rom, is-application-x-genesis-rom, is-application-x-gnuplot, is-application-x-gschema-compiled, is-application-x-haskell-interface, is-application-x-hwp, is-application-x-innodb, is-application-x-intellij-xml, is-application-x-ipynb-json, is-application-x-java-jimage, is-application-x-jmeter-xml, is-application-x-jsonc, is-application-x-jsp, is-application-x-kpresenter, is-application-x-kword, is-application-x-lzop, is-application-x-mame-chd, is-application-x-minecraft-world, is-application-x-mobipocket-ebook, is-application-x-ms-shortcut, is-application-x-msbuild-xml, is-application-x-msi, is-application-x-ndjson, is-application-x-nuget-package, is-application-x-osm-pbf, is-application-x-r-data, is-application-x-rhino, is-application-x-sami, is-application-x-shapefile-index, is-application-x-ssh-public-key, is-application-x-theme-xml, is-application-x-uproject-json, is-application-x-vhdx-disk, is-application-x-wix-xml, is-application-x-x509-ca-cert-as-row-der, is-application-x-zsh, is-application-xhtml-xml, is-application-xml-dtd, is-application-xml-external-parsed-entity, is-application-xquery, is-application-yaml, is-audio-eac3, is-audio-mpeg, is-audio-opus, is-audio-webm, is-audio-x-gsm, is-image-jpeg, is-image-jpx, is-image-ktx, is-image-vnd-djvu, is-image-vnd-ms-photo, is-image-x-eps, is-image-x-pentax-pef, is-image-x-portable-anymap, is-image-x-samsung-srw, is-image-x-sgi, is-image-x-sigma-x3f, is-image-x-xcf, is-message-rfc822, is-model-step, is-model-stl, is-model-vrml, is-text-html, is-text-javascript, is-text-markdown, is-text-org, is-text-plain, is-text-sgml, is-text-tab-separated-values, is-text-troff, is-text-velocity, is-text-x-adasrc, is-text-x-aidl, is-text-x-antlr, is-text-x-apl, is-text-x-autohotkey, is-text-x-awk, is-text-x-bibtex, is-text-x-bitbake, is-text-x-c-hdr, is-text-x-c-src, is-text-x-capnp, is-text-x-checksums, is-text-x-clojure, is-text-x-crystal, is-text-x-csrc, is-text-x-cypher, is-text-x-dhall, is-text-x-dsrc, is-text-x-dts, is-text-x-ebnf, is-text-x-editorconfig, is-text-x-eiffel, is-text-x-erlang, is-text-x-fastq, is-text-x-forth, is-text-x-fortran, is-text-x-freemarker, is-text-x-gams, is-text-x-gap, is-text-x-gcode, is-text-x-genbank, is-text-x-gherkin, is-text-x-gitconfig, is-text-x-glsl, is-text-x-gn, is-text-x-gosum, is-text-x-groovy, is-text-x-handlebars, is-text-x-ini, is-text-x-io, is-text-x-java, is-text-x-java-properties, is-text-x-kusto, is-text-x-lean, is-text-x-lsl, is-text-x-lua, is-text-x-makefile, is-text-x-matlab, is-text-x-modula, is-text-x-monkey, is-text-x-move, is-text-x-msdos-batch, is-text-x-newick, is-text-x-nginx-conf, is-text-x-objc-src, is-text-x-objcsrc, is-text-x-openscad, is-text-x-pascal, is-text-x-perl, is-text-x-php, is-text-x-pkg-config, is-text-x-plantuml, is-text-x-pli, is-text-x-pth, is-text-x-purescript, is-text-x-raku, is-text-x-red, is-text-x-rpgle, is-text-x-rst, is-text-x-ruby, is-text-x-sas, is-text-x-scheme, is-text-x-sdc, is-text-x-shell-config, is-text-x-shellscript, is-text-x-sln, is-text-x-smt, is-text-x-solidity, is-text-x-soy, is-text-x-ssa, is-text-x-stylus, is-text-x-systemd-unit, is-text-x-tcl, is-text-x-tex, is-text-x-tmux-conf, is-text-x-unity, is-text-x-vcl, is-text-x-vdf, is-text-x-verilog, is-text-x-vim, is-text-x-wat, is-text-x-wkt, is-text-x-yacc, is-text-x-zimpl, is-video-3gpp, is-video-3gpp2, is-video-h264, is-video-h265, is-video-mj2, is-video-mp2t, is-video-mp4, is-video-mpeg, is-video-x-f4v, is-video-x-m4v, is-video-x-ogm-ogg}
 use Rattle.infer_named.specs.declared.table.Asks.TheVariants.{Bytes, Nothing, Signature, Text}
 use Rattle.infer_named.specs.declared.table.Part.TheVariants.{Extension, Whole}
 
@@ -17,6 +17,7 @@ keys =
     ∷ key Extension (codes "scad") false (reading is-text-x-openscad Text no-rows rows-txt no-rows any-lead ∷ [])
     ∷ key Extension (codes "jimage") false (reading is-application-x-java-jimage Bytes no-rows no-rows no-rows any-lead ∷ [])
     ∷ key Whole (codes ".devcontainer.json") false (reading is-application-x-jsonc Text no-rows rows-txt rows-json any-lead ∷ [])
+    ∷ key Extension (codes "kwt") false (reading is-application-x-kword Signature rows-kwd rows-gz-zip no-rows any-lead ∷ [])
     ∷ key Extension (codes "m") false (reading is-text-x-objcsrc Text no-rows rows-txt no-rows leads-8 ∷ reading is-text-x-matlab Text rows-m rows-ps-sh-txt no-rows leads-3 ∷ reading is-text-plain Text rows-txt no-rows text-rows any-lead ∷ [])
     ∷ key Extension (codes "gsm") false (reading is-audio-x-gsm Bytes no-rows no-rows no-rows any-lead ∷ [])
     ∷ key Extension (codes "f4p") false (reading is-video-x-f4v Bytes rows-f4v rows-mp4 no-rows any-lead ∷ [])
@@ -168,6 +169,7 @@ keys =
     ∷ key Extension (codes "lzo") false (reading is-application-x-lzop Bytes rows-lzo no-rows no-rows any-lead ∷ [])
     ∷ key Extension (codes "odex") false (reading is-application-vnd-android-dey Signature rows-dey rows-elf no-rows any-lead ∷ [])
     ∷ key Extension (codes "3dm") false (reading is-application-x-rhino Bytes no-rows no-rows no-rows any-lead ∷ [])
+    ∷ key Extension (codes "shape") true (reading is-application-x-dia-shape Text rows-diashape no-rows no-rows any-lead ∷ [])
     ∷ key Extension (codes "tap") false (reading is-text-x-gcode Text no-rows rows-txt no-rows any-lead ∷ [])
     ∷ key Extension (codes "ipynb") false (reading is-application-x-ipynb-json Text no-rows rows-json no-rows any-lead ∷ [])
     ∷ key Extension (codes "graphqls") false (reading is-application-graphql Text no-rows rows-txt no-rows any-lead ∷ [])
@@ -187,6 +189,7 @@ keys =
     ∷ key Extension (codes "ppsm") false (reading is-application-vnd-ms-powerpoint-slideshow-macroenabled-12 Signature no-rows rows-application-x-ole-storage-pptm-pptx-zip no-rows any-lead ∷ [])
     ∷ key Extension (codes "styl") false (reading is-text-x-stylus Text no-rows rows-txt no-rows any-lead ∷ [])
     ∷ key Extension (codes "oxps") false (reading is-application-oxps Signature no-rows rows-zip no-rows any-lead ∷ [])
+    ∷ key Extension (codes "bps") true (reading is-application-x-bps-patch Signature rows-bps no-rows no-rows any-lead ∷ [])
     ∷ key Extension (codes "jpg") false (reading is-image-jpeg Signature rows-jpg no-rows rows-jls any-lead ∷ [])
     ∷ key Extension (codes "sign") false (reading is-application-pgp-signature Nothing rows-sig rows-pem no-rows any-lead ∷ [])
     ∷ key Extension (codes "tmtheme") false (reading is-application-x-theme-xml Text no-rows rows-json-plist-txt-xml no-rows leads-10 ∷ [])
@@ -196,6 +199,7 @@ keys =
     ∷ key Extension (codes "jsonld") false (reading is-application-ld-json Text no-rows rows-json no-rows any-lead ∷ [])
     ∷ key Extension (codes "lsl") false (reading is-text-x-lsl Text no-rows rows-txt no-rows any-lead ∷ [])
     ∷ key Extension (codes "chd") false (reading is-application-x-mame-chd Bytes rows-chd no-rows no-rows any-lead ∷ [])
+    ∷ key Extension (codes "kpr") false (reading is-application-x-kpresenter Signature rows-kpr rows-gz-zip no-rows any-lead ∷ [])
     ∷ key Extension (codes "p21") false (reading is-model-step Text rows-model-step rows-txt no-rows any-lead ∷ [])
     ∷ key Extension (codes "ogm") false (reading is-video-x-ogm-ogg Signature rows-ogm rows-ogg-ogv no-rows any-lead ∷ [])
     ∷ key Extension (codes "agb") false (reading is-application-x-gba-rom Bytes no-rows no-rows no-rows any-lead ∷ [])
@@ -237,6 +241,7 @@ keys =
     ∷ key Extension (codes "cpp") false (reading is-text-x-c-src Text no-rows rows-txt no-rows any-lead ∷ [])
     ∷ key Extension (codes "onetoc2") false (reading is-application-onenote Bytes no-rows no-rows no-rows any-lead ∷ [])
     ∷ key Whole (codes "codeowners") false (reading is-text-plain Text rows-txt no-rows text-rows any-lead ∷ [])
+    ∷ key Extension (codes "a78") false (reading is-application-x-atari-7800-rom Bytes rows-a78 no-rows no-rows any-lead ∷ [])
     ∷ key Extension (codes "lua") false (reading is-text-x-lua Text rows-lua rows-sh-txt no-rows any-lead ∷ [])
     ∷ key Extension (codes "msi") false (reading is-application-x-msi Signature rows-application-x-msi rows-application-x-ole-storage no-rows any-lead ∷ [])
     ∷ key Extension (codes "peg") false (reading is-text-x-ebnf Text no-rows rows-txt no-rows any-lead ∷ [])
@@ -252,6 +257,8 @@ keys =
     ∷ key Extension (codes "dhall") false (reading is-text-x-dhall Text no-rows rows-sh-txt no-rows any-lead ∷ [])
     ∷ key Extension (codes "axf") false (reading is-application-x-executable-as-row-elf Signature rows-elf no-rows rows-appimage-core-cubin-o-so any-lead ∷ [])
     ∷ key Extension (codes "odp") false (reading is-application-vnd-oasis-opendocument-presentation Signature rows-odp rows-zip rows-otp any-lead ∷ [])
+    ∷ key Extension (codes "shw") true (reading is-application-x-corelpresentations Signature rows-shw no-rows no-rows any-lead ∷ [])
+    ∷ key Extension (codes "sami") false (reading is-application-x-sami Text rows-sami rows-html-txt no-rows leads-10 ∷ [])
     ∷ key Extension (codes "tb2") false (reading is-application-x-bzip-compressed-tar Signature no-rows rows-bz2 no-rows any-lead ∷ [])
     ∷ key Extension (codes "3g2") false (reading is-video-3gpp2 Bytes rows-3g2 rows-3gp-mp4 no-rows any-lead ∷ [])
     ∷ key Extension (codes "der") false (reading is-application-x-x509-ca-cert-as-row-der Signature rows-der no-rows rows-cer-p10-p8 any-lead ∷ [])

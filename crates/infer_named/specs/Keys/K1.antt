@@ -2,14 +2,16 @@
 use Rattle.std.specs.Prelude.{List, [], ◌∷◌, codes, false, true}
 use Rattle.infer_named.specs.Key.{Key, key}
 use Rattle.infer_named.specs.Listed.{reading}
-use Rattle.infer_named.specs.Sets.{any-lead, leads-1, leads-10, leads-6, no-rows, rows-3g2-3gp-f4v-m4a-m4b-m4v-mov, rows-3mf, rows-ac3, rows-adf, rows-aifc, rows-aiff, rows-apng, rows-application-vnd-apple-keynote, rows-application-x-installshield, rows-application-x-ole-storage, rows-application-x-ole-storage-xlsx-zip, rows-application-x-ole-storage-zip, rows-application-x-pem-key, rows-asc, rows-au, rows-aup3-fossil-gpkg-mbtiles-mtn, rows-avif, rows-bdb, rows-bpg, rows-bplist, rows-bz2, rows-cab, rows-cer-crl, rows-core, rows-cur, rows-der-application-x-pem-key-pem, rows-der-pem, rows-dts, rows-dtsi, rows-dv, rows-dvi, rows-e57, rows-elf, rows-elf-so, rows-exe, rows-fcstd, rows-flac-ogg-opus, rows-gem, rows-gjs-js, rows-groovy, rows-gz, rows-gz-txt-xml, rows-gz-zip, rows-hdf5, rows-hdr, rows-heif, rows-hs, rows-html, rows-html-json-php-svg-txt-xhtml-xml, rows-html-sh-svg-txt-xhtml-xml, rows-html-txt-xhtml-xml, rows-ivf, rows-j2c, rows-jls, rows-jnlp, rows-journal, rows-jpg, rows-json, rows-json-sh-txt, rows-json-txt, rows-lzma, rows-med, rows-midi, rows-mk, rows-mobi, rows-mov, rows-mp3, rows-mp4, rows-mpg, rows-msg, rows-n64, rows-ndjson, rows-o, rows-odb, rows-odc, rows-oga, rows-openssh, rows-p8, rows-pcap, rows-pcapng, rows-pem, rows-pfb, rows-php, rows-php-svg-txt-xhtml-xml, rows-pl, rows-png, rows-ps-sh-txt, rows-ps-txt, rows-py, rows-rb, rows-rm, rows-rpm, rows-scm, rows-sh, rows-sh-txt, rows-shp, rows-shx, rows-sid, rows-spx, rows-sqlite, rows-squashfs, rows-srpm, rows-tar, rows-terminfo, rows-texi, rows-tif, rows-tnef, rows-ts, rows-txt, rows-txt-xml, rows-txt-yaml, rows-vdi, rows-voc, rows-vsd, rows-vsdx-zip, rows-wav, rows-webp, rows-wmv, rows-wrl, rows-xar, rows-xls, rows-xlsb, rows-y4m, rows-zip, rows-zst, text-rows}
-use Rattle.infer_named.specs.Types.{is-application-appx, is-application-graphql, is-application-json, is-application-json5, is-application-jsonnet, is-application-manifest-json, is-application-msix, is-application-msword-template, is-application-oebps-package-xml, is-application-pgp-keys-as-row-asc, is-application-pkcs8, is-application-sql, is-application-tei-xml, is-application-vnd-amazon-mobi8-ebook, is-application-vnd-apple-keynote, is-application-vnd-microsoft-portable-executable, is-application-vnd-ms-asf, is-application-vnd-ms-cab-compressed, is-application-vnd-ms-excel, is-application-vnd-ms-excel-sheet-binary-macroenabled-12, is-application-vnd-ms-outlook, is-application-vnd-ms-tnef, is-application-vnd-ms-visio-stencil-main-xml, is-application-vnd-ms-xpsdocument, is-application-vnd-oasis-opendocument-base, is-application-vnd-oasis-opendocument-chart, is-application-vnd-rn-realmedia, is-application-vnd-shx, is-application-vnd-sqlite3, is-application-vnd-squashfs, is-application-vnd-tcpdump-pcap, is-application-vnd-visio, is-application-vnd-wolfram-mathematica, is-application-x-admx, is-application-x-amiga-disk-format, is-application-x-ant-xml, is-application-x-appdata-xml, is-application-x-aspx, is-application-x-bplist, is-application-x-bzip-compressed-tar, is-application-x-cmi, is-application-x-compressed-tar, is-application-x-core, is-application-x-dbm, is-application-x-devhelp-xml, is-application-x-dvi, is-application-x-flash-authoring, is-application-x-font-pcf, is-application-x-font-type1, is-application-x-freecad, is-application-x-gcov-data, is-application-x-hdf5, is-application-x-java-jnlp-file, is-application-x-jsonc, is-application-x-lzma-compressed-tar, is-application-x-minecraft-world, is-application-x-msbuild-xml, is-application-x-mysql-myisam, is-application-x-n64-rom, is-application-x-natvis-xml, is-application-x-ndjson, is-application-x-nuget-package, is-application-x-object, is-application-x-openssh-private-key, is-application-x-ova, is-application-x-pem-key, is-application-x-ply, is-application-x-pov, is-application-x-qrc-xml, is-application-x-resx-xml, is-application-x-rpm, is-application-x-scribus, is-application-x-sfnt-collection-dfont, is-application-x-shared-library-la, is-application-x-storyboard-xml, is-application-x-systemd-journal, is-application-x-tar, is-application-x-terminfo, is-application-x-unity-asmdef-json, is-application-x-uproject-json, is-application-x-usdz, is-application-x-vdi-disk, is-application-x-vim-spell, is-application-x-windows-dump, is-application-x-wmz, is-application-x-x509-ca-cert-as-known, is-application-x-xar, is-application-x-zsh, is-application-x-zstd-compressed-tar, is-application-xml, is-application-xquery, is-application-xspf-xml, is-application-zstd, is-audio-ac3, is-audio-basic, is-audio-midi, is-audio-mpeg, is-audio-ogg-as-row-oga, is-audio-prs-sid, is-audio-vnd-dts, is-audio-x-abc, is-audio-x-aiff, is-audio-x-mod, is-audio-x-speex-ogg, is-audio-x-voc, is-audio-x-wav, is-chemical-x-xyz, is-image-apng, is-image-avif, is-image-bpg, is-image-jpeg, is-image-vnd-radiance, is-image-webp, is-image-x-hasselblad-3fr, is-image-x-jp2-codestream, is-image-x-pict, is-image-x-sony-sr2, is-image-x-win-bitmap, is-image-x-xbitmap, is-model-3mf, is-model-e57, is-model-iges, is-model-vrml, is-text-cql, is-text-html, is-text-javascript, is-text-mdx, is-text-n3, is-text-plain, is-text-troff, is-text-vbscript, is-text-vnd-graphviz, is-text-vnd-wap-wml, is-text-x-applescript, is-text-x-asm, is-text-x-astro, is-text-x-autoconf, is-text-x-automake, is-text-x-basic, is-text-x-blade, is-text-x-bugs, is-text-x-c-src, is-text-x-cfm, is-text-x-checksums, is-text-x-cython, is-text-x-dotenv, is-text-x-dts, is-text-x-ebnf, is-text-x-ejs, is-text-x-emacs-config, is-text-x-fortran, is-text-x-genbank, is-text-x-gerber, is-text-x-gfortran-module, is-text-x-glsl, is-text-x-gpr, is-text-x-groovy, is-text-x-haskell, is-text-x-haxe, is-text-x-hlsl, is-text-x-ini, is-text-x-janet, is-text-x-java, is-text-x-jq, is-text-x-just, is-text-x-literate-haskell, is-text-x-makefile, is-text-x-marko, is-text-x-mcfunction, is-text-x-mediawiki, is-text-x-meson, is-text-x-msdos-batch, is-text-x-pascal, is-text-x-patch, is-text-x-perl, is-text-x-php, is-text-x-postcss, is-text-x-prisma, is-text-x-prolog, is-text-x-pug, is-text-x-python-as-known, is-text-x-python-as-row-py, is-text-x-rebol, is-text-x-ring, is-text-x-rpgle, is-text-x-ruby, is-text-x-sass, is-text-x-scheme, is-text-x-scilab, is-text-x-scss, is-text-x-shell-config, is-text-x-shellscript, is-text-x-smarty, is-text-x-spice, is-text-x-starlark, is-text-x-strings, is-text-x-systemd-unit, is-text-x-template-toolkit, is-text-x-tex, is-text-x-texinfo, is-text-x-typescript, is-text-x-uc, is-text-x-udev-rules, is-text-x-unity, is-text-x-vhdl, is-text-x-vim, is-text-x-wat, is-text-x-wren, is-text-x-xresources, is-text-x-yacc, is-video-dv, is-video-mp2t, is-video-mp4, is-video-mpeg, is-video-quicktime, is-video-x-ivf, is-video-x-yuv4mpeg}
+use Rattle.infer_named.specs.Sets.{any-lead, leads-1, leads-10, leads-6, no-rows, rows-3g2-3gp-f4v-m4a-m4b-m4v-mov, rows-3mf, rows-ac3, rows-adf, rows-aifc, rows-aiff, rows-apng, rows-application-vnd-apple-keynote, rows-application-x-installshield, rows-application-x-ole-storage, rows-application-x-ole-storage-xlsx-zip, rows-application-x-ole-storage-zip, rows-application-x-pem-key, rows-asc, rows-au, rows-aup3-fossil-gpkg-mbtiles-mtn, rows-avif, rows-bdb, rows-bpg, rows-bplist, rows-bz2, rows-cab, rows-cer-crl, rows-chrt, rows-core, rows-cur, rows-der-application-x-pem-key-pem, rows-der-pem, rows-dts, rows-dtsi, rows-dv, rows-dvi, rows-e57, rows-elf, rows-elf-so, rows-exe, rows-fcstd, rows-fds, rows-flac-ogg-opus, rows-gem, rows-gjs-js, rows-groovy, rows-gz, rows-gz-txt-xml, rows-gz-zip, rows-hdf5, rows-hdr, rows-heif, rows-hs, rows-html, rows-html-json-php-svg-txt-xhtml-xml, rows-html-sh-svg-txt-xhtml-xml, rows-html-txt-xhtml-xml, rows-itc, rows-ivf, rows-j2c, rows-jls, rows-jnlp, rows-journal, rows-jp2, rows-jpg, rows-jph, rows-json, rows-json-sh-txt, rows-json-txt, rows-kpr, rows-ksp, rows-lfp, rows-lzma, rows-mdi, rows-med, rows-midi, rows-mk, rows-mobi, rows-mov, rows-mp3, rows-mp4, rows-mpg, rows-msg, rows-mvg, rows-n64, rows-ndjson, rows-nsf, rows-o, rows-odb, rows-odc, rows-oga, rows-openssh, rows-p8, rows-pcap, rows-pcapng, rows-pem, rows-pfb, rows-php, rows-php-svg-txt-xhtml-xml, rows-pl, rows-png, rows-ps-sh-txt, rows-ps-txt, rows-psp, rows-py, rows-qed, rows-rb, rows-rm, rows-rpm, rows-scm, rows-sh, rows-sh-txt, rows-shp, rows-shx, rows-sid, rows-spx, rows-sqlite, rows-squashfs, rows-srpm, rows-srx, rows-tar, rows-terminfo, rows-texi, rows-tif, rows-tnef, rows-ts, rows-ttx, rows-txt, rows-txt-xml, rows-txt-yaml, rows-vdi, rows-voc, rows-vsd, rows-vsdx-zip, rows-wav, rows-webp, rows-wmv, rows-wrl, rows-xar, rows-xls, rows-xlsb, rows-y4m, rows-zip, rows-zst, text-rows}
+use Rattle.infer_named.specs.Types.{is-application-appx, is-application-graphql, is-application-json, is-application-json5, is-application-jsonnet, is-application-manifest-json, is-application-msix, is-application-msword-template, is-application-oebps-package-xml, is-application-pgp-keys-as-row-asc, is-application-pkcs8, is-application-sparql-results-xml, is-application-sql, is-application-tei-xml, is-application-vnd-amazon-mobi8-ebook, is-application-vnd-apple-keynote, is-application-vnd-microsoft-portable-executable, is-application-vnd-ms-asf, is-application-vnd-ms-cab-compressed, is-application-vnd-ms-excel, is-application-vnd-ms-excel-sheet-binary-macroenabled-12, is-application-vnd-ms-outlook, is-application-vnd-ms-tnef, is-application-vnd-ms-visio-stencil-main-xml, is-application-vnd-ms-xpsdocument, is-application-vnd-oasis-opendocument-base, is-application-vnd-oasis-opendocument-chart, is-application-vnd-rn-realmedia, is-application-vnd-shx, is-application-vnd-sqlite3, is-application-vnd-squashfs, is-application-vnd-tcpdump-pcap, is-application-vnd-visio, is-application-vnd-wolfram-mathematica, is-application-x-admx, is-application-x-amiga-disk-format, is-application-x-ant-xml, is-application-x-appdata-xml, is-application-x-aspx, is-application-x-bplist, is-application-x-bzip-compressed-tar, is-application-x-cmi, is-application-x-compressed-tar, is-application-x-core, is-application-x-dbm, is-application-x-devhelp-xml, is-application-x-dvi, is-application-x-fds-disk, is-application-x-flash-authoring, is-application-x-font-pcf, is-application-x-font-ttx, is-application-x-font-type1, is-application-x-freecad, is-application-x-gcov-data, is-application-x-hdf5, is-application-x-java-jnlp-file, is-application-x-jsonc, is-application-x-kchart, is-application-x-kpresenter, is-application-x-kspread, is-application-x-lzma-compressed-tar, is-application-x-minecraft-world, is-application-x-msbuild-xml, is-application-x-mysql-myisam, is-application-x-n64-rom, is-application-x-natvis-xml, is-application-x-ndjson, is-application-x-nuget-package, is-application-x-object, is-application-x-openssh-private-key, is-application-x-ova, is-application-x-pem-key, is-application-x-ply, is-application-x-pov, is-application-x-qed-disk, is-application-x-qrc-xml, is-application-x-resx-xml, is-application-x-rpm, is-application-x-scribus, is-application-x-sfnt-collection-dfont, is-application-x-shared-library-la, is-application-x-storyboard-xml, is-application-x-systemd-journal, is-application-x-tar, is-application-x-terminfo, is-application-x-unity-asmdef-json, is-application-x-uproject-json, is-application-x-usdz, is-application-x-vdi-disk, is-application-x-vim-spell, is-application-x-windows-dump, is-application-x-wmz, is-application-x-x509-ca-cert-as-known, is-application-x-xar, is-application-x-zsh, is-application-x-zstd-compressed-tar, is-application-xml, is-application-xquery, is-application-xspf-xml, is-application-zstd, is-audio-ac3, is-audio-basic, is-audio-midi, is-audio-mpeg, is-audio-ogg-as-row-oga, is-audio-prs-sid, is-audio-vnd-dts, is-audio-x-abc, is-audio-x-aiff, is-audio-x-mod, is-audio-x-nsf, is-audio-x-speex-ogg, is-audio-x-voc, is-audio-x-wav, is-chemical-x-xyz, is-image-apng, is-image-avif, is-image-bpg, is-image-jpeg, is-image-jph, is-image-vnd-ms-modi, is-image-vnd-radiance, is-image-webp, is-image-x-hasselblad-3fr, is-image-x-itc, is-image-x-jp2-codestream, is-image-x-lytro-lfp, is-image-x-mvg, is-image-x-paintshoppro, is-image-x-pict, is-image-x-sony-sr2, is-image-x-win-bitmap, is-image-x-xbitmap, is-model-3mf, is-model-e57, is-model-iges, is-model-vrml, is-text-cql, is-text-html, is-text-javascript, is-text-mdx, is-text-n3, is-text-plain, is-text-troff, is-text-vbscript, is-text-vnd-graphviz, is-text-vnd-wap-wml, is-text-x-applescript, is-text-x-asm, is-text-x-astro, is-text-x-autoconf, is-text-x-automake, is-text-x-basic, is-text-x-blade, is-text-x-bugs, is-text-x-c-src, is-text-x-cfm, is-text-x-checksums, is-text-x-cython, is-text-x-dotenv, is-text-x-dts, is-text-x-ebnf, is-text-x-ejs, is-text-x-emacs-config, is-text-x-fortran, is-text-x-genbank, is-text-x-gerber, is-text-x-gfortran-module, is-text-x-glsl, is-text-x-gpr, is-text-x-groovy, is-text-x-haskell, is-text-x-haxe, is-text-x-hlsl, is-text-x-ini, is-text-x-janet, is-text-x-java, is-text-x-jq, is-text-x-just, is-text-x-literate-haskell, is-text-x-makefile, is-text-x-marko, is-text-x-mcfunction, is-text-x-mediawiki, is-text-x-meson, is-text-x-msdos-batch, is-text-x-pascal, is-text-x-patch, is-text-x-perl, is-text-x-php, is-text-x-postcss, is-text-x-prisma, is-text-x-prolog, is-text-x-pug, is-text-x-python-as-known, is-text-x-python-as-row-py, is-text-x-rebol, is-text-x-ring, is-text-x-rpgle, is-text-x-ruby, is-text-x-sass, is-text-x-scheme, is-text-x-scilab, is-text-x-scss, is-text-x-shell-config, is-text-x-shellscript, is-text-x-smarty, is-text-x-spice, is-text-x-starlark, is-text-x-strings, is-text-x-systemd-unit, is-text-x-template-toolkit, is-text-x-tex, is-text-x-texinfo, is-text-x-typescript, is-text-x-uc, is-text-x-udev-rules, is-text-x-unity, is-text-x-vhdl, is-text-x-vim, is-text-x-wat, is-text-x-wren, is-text-x-xresources, is-text-x-yacc, is-video-dv, is-video-mp2t, is-video-mp4, is-video-mpeg, is-video-quicktime, is-video-x-ivf, is-video-x-yuv4mpeg}
 use Rattle.infer_named.specs.declared.table.Asks.TheVariants.{Bytes, Nothing, Signature, Text}
 use Rattle.infer_named.specs.declared.table.Part.TheVariants.{Extension, Whole}
 
 unfoldable pub keys : List Key
 keys =
-    key Extension (codes "core") false (reading is-application-x-core Signature rows-core rows-elf no-rows any-lead ∷ [])
+    key Extension (codes "nsf") true (reading is-audio-x-nsf Signature rows-nsf no-rows no-rows any-lead ∷ [])
+    ∷ key Extension (codes "qed") true (reading is-application-x-qed-disk Signature rows-qed no-rows no-rows any-lead ∷ [])
+    ∷ key Extension (codes "core") false (reading is-application-x-core Signature rows-core rows-elf no-rows any-lead ∷ [])
     ∷ key Extension (codes "drpm") false (reading is-application-x-rpm Bytes rows-rpm no-rows rows-srpm any-lead ∷ [])
     ∷ key Extension (codes "path") false (reading is-text-x-systemd-unit Text no-rows rows-txt no-rows any-lead ∷ [])
     ∷ key Extension (codes "pov") false (reading is-application-x-pov Text no-rows rows-txt no-rows any-lead ∷ [])
@@ -36,6 +38,7 @@ keys =
     ∷ key Extension (codes "rng") false (reading is-application-xml Text no-rows rows-html-txt-xhtml-xml no-rows leads-10 ∷ [])
     ∷ key Extension (codes "marko") false (reading is-text-x-marko Text no-rows rows-html-json-php-svg-txt-xhtml-xml no-rows any-lead ∷ [])
     ∷ key Whole (codes ".bash_profile") false (reading is-text-x-shell-config Text no-rows rows-sh-txt no-rows any-lead ∷ [])
+    ∷ key Extension (codes "ksp") false (reading is-application-x-kspread Signature rows-ksp rows-gz-zip no-rows any-lead ∷ [])
     ∷ key Extension (codes "xar") false (reading is-application-x-xar Signature rows-xar no-rows no-rows any-lead ∷ [])
     ∷ key Extension (codes "bas") false (reading is-text-x-basic Text no-rows rows-txt no-rows any-lead ∷ [])
     ∷ key Extension (codes "ring") false (reading is-text-x-ring Text no-rows rows-sh-txt no-rows any-lead ∷ [])
@@ -56,7 +59,9 @@ keys =
     ∷ key Extension (codes "fcstd") false (reading is-application-x-freecad Signature rows-fcstd rows-zip no-rows any-lead ∷ [])
     ∷ key Extension (codes "code-workspace") false (reading is-application-x-jsonc Text no-rows rows-txt rows-json any-lead ∷ [])
     ∷ key Whole (codes "brewfile") false (reading is-text-x-ruby Text rows-rb rows-sh-txt no-rows any-lead ∷ [])
+    ∷ key Extension (codes "srx") true (reading is-application-sparql-results-xml Text rows-srx no-rows no-rows any-lead ∷ [])
     ∷ key Extension (codes "xlm") false (reading is-application-vnd-ms-excel Bytes rows-xls rows-application-x-ole-storage no-rows any-lead ∷ [])
+    ∷ key Extension (codes "pspimage") false (reading is-image-x-paintshoppro Signature rows-psp no-rows no-rows any-lead ∷ [])
     ∷ key Extension (codes "ply") false (reading is-application-x-ply Nothing no-rows rows-txt no-rows any-lead ∷ [])
     ∷ key Whole (codes ".zshenv") false (reading is-text-x-shell-config Text no-rows rows-sh-txt no-rows any-lead ∷ [])
     ∷ key Extension (codes "3mf") false (reading is-model-3mf Signature rows-3mf rows-zip no-rows any-lead ∷ [])
@@ -67,6 +72,8 @@ keys =
     ∷ key Extension (codes "xlsb") false (reading is-application-vnd-ms-excel-sheet-binary-macroenabled-12 Signature rows-xlsb rows-application-x-ole-storage-xlsx-zip no-rows any-lead ∷ [])
     ∷ key Extension (codes "sla") false (reading is-application-x-scribus Text no-rows rows-gz-txt-xml no-rows any-lead ∷ [])
     ∷ key Whole (codes ".exrc") false (reading is-text-x-vim Text no-rows rows-txt no-rows any-lead ∷ [])
+    ∷ key Extension (codes "jph") false (reading is-image-jph Signature rows-jph rows-jp2 no-rows any-lead ∷ [])
+    ∷ key Extension (codes "mvg") true (reading is-image-x-mvg Text rows-mvg no-rows no-rows any-lead ∷ [])
     ∷ key Extension (codes "snd") false (reading is-audio-basic Signature rows-au no-rows no-rows any-lead ∷ [])
     ∷ key Extension (codes "pcap") false (reading is-application-vnd-tcpdump-pcap Bytes rows-pcap no-rows rows-pcapng any-lead ∷ [])
     ∷ key Extension (codes "xps") false (reading is-application-vnd-ms-xpsdocument Signature no-rows rows-zip no-rows any-lead ∷ [])
@@ -76,6 +83,8 @@ keys =
     ∷ key Extension (codes "blade") false (reading is-text-x-blade Text no-rows rows-html-json-php-svg-txt-xhtml-xml no-rows any-lead ∷ [])
     ∷ key Extension (codes "prefab") false (reading is-text-x-unity Text no-rows rows-txt-yaml no-rows any-lead ∷ [])
     ∷ key Extension (codes "rm") true (reading is-application-vnd-rn-realmedia Bytes rows-rm no-rows no-rows any-lead ∷ [])
+    ∷ key Extension (codes "itc") true (reading is-image-x-itc Signature rows-itc no-rows no-rows any-lead ∷ [])
+    ∷ key Extension (codes "mdi") true (reading is-image-vnd-ms-modi Signature rows-mdi no-rows no-rows any-lead ∷ [])
     ∷ key Extension (codes "dfm") false (reading is-text-x-pascal Text no-rows rows-txt no-rows any-lead ∷ [])
     ∷ key Whole (codes ".emacs") false (reading is-text-x-emacs-config Text no-rows rows-txt no-rows any-lead ∷ [])
     ∷ key Extension (codes "pyw") false (reading is-text-x-python-as-row-py Text rows-py rows-json-sh-txt no-rows any-lead ∷ [])
@@ -107,6 +116,7 @@ keys =
     ∷ key Extension (codes "shtm") false (reading is-text-html Text rows-html rows-php-svg-txt-xhtml-xml no-rows any-lead ∷ [])
     ∷ key Extension (codes "tei") false (reading is-application-tei-xml Text no-rows rows-html-txt-xhtml-xml no-rows leads-10 ∷ [])
     ∷ key Extension (codes "shproj") false (reading is-application-x-msbuild-xml Text no-rows rows-html-txt-xhtml-xml no-rows leads-10 ∷ [])
+    ∷ key Extension (codes "ttx") true (reading is-application-x-font-ttx Text rows-ttx no-rows no-rows any-lead ∷ [])
     ∷ key Extension (codes "devhelp") false (reading is-application-x-devhelp-xml Text no-rows rows-html-txt-xhtml-xml no-rows leads-10 ∷ [])
     ∷ key Whole (codes "setup.cfg") false (reading is-text-x-ini Text no-rows rows-txt no-rows any-lead ∷ [])
     ∷ key Extension (codes "cab") false (reading is-application-vnd-ms-cab-compressed Signature rows-cab no-rows rows-application-x-installshield any-lead ∷ [])
@@ -128,6 +138,7 @@ keys =
     ∷ key Extension (codes "crt") false (reading is-application-x-x509-ca-cert-as-known Bytes rows-der-pem rows-txt rows-cer-crl any-lead ∷ [])
     ∷ key Extension (codes "abc") false (reading is-audio-x-abc Text no-rows rows-txt no-rows any-lead ∷ [])
     ∷ key Extension (codes "pk8") false (reading is-application-pkcs8 Bytes rows-p8 rows-der-application-x-pem-key-pem no-rows any-lead ∷ [])
+    ∷ key Extension (codes "chrt") false (reading is-application-x-kchart Signature rows-chrt rows-gz-zip no-rows any-lead ∷ [])
     ∷ key Extension (codes "mathematica") false (reading is-application-vnd-wolfram-mathematica Text no-rows rows-txt no-rows any-lead ∷ [])
     ∷ key Extension (codes "shader") false (reading is-text-x-glsl Text no-rows rows-txt no-rows any-lead ∷ [])
     ∷ key Extension (codes "metainfo.xml") false (reading is-application-x-appdata-xml Text no-rows rows-html-txt-xhtml-xml no-rows leads-10 ∷ [])
@@ -197,6 +208,7 @@ keys =
     ∷ key Whole (codes ".jshintrc") false (reading is-application-x-jsonc Text no-rows rows-txt rows-json any-lead ∷ [])
     ∷ key Whole (codes ".jslintrc") false (reading is-application-x-jsonc Text no-rows rows-txt rows-json any-lead ∷ [])
     ∷ key Whole (codes ".pylintrc") false (reading is-text-x-ini Text no-rows rows-txt no-rows any-lead ∷ [])
+    ∷ key Extension (codes "lfp") true (reading is-image-x-lytro-lfp Signature rows-lfp no-rows no-rows any-lead ∷ [])
     ∷ key Extension (codes "mdx") false (reading is-text-mdx Text no-rows rows-html-json-php-svg-txt-xhtml-xml no-rows any-lead ∷ [])
     ∷ key Extension (codes "wren") false (reading is-text-x-wren Text no-rows rows-sh-txt no-rows any-lead ∷ [])
     ∷ key Extension (codes "jsonnet") false (reading is-application-jsonnet Text no-rows rows-sh-txt no-rows any-lead ∷ [])
@@ -233,6 +245,7 @@ keys =
     ∷ key Extension (codes "wmz") false (reading is-application-x-wmz Signature no-rows rows-gz-zip no-rows any-lead ∷ [])
     ∷ key Extension (codes "yap") false (reading is-text-x-prolog Text no-rows rows-ps-sh-txt no-rows any-lead ∷ [])
     ∷ key Whole (codes ".condarc") false (reading is-text-plain Text rows-txt no-rows text-rows any-lead ∷ [])
+    ∷ key Extension (codes "kpt") false (reading is-application-x-kpresenter Signature rows-kpr rows-gz-zip no-rows any-lead ∷ [])
     ∷ key Extension (codes "pict") false (reading is-image-x-pict Bytes no-rows no-rows no-rows any-lead ∷ [])
     ∷ key Extension (codes "zsh-theme") false (reading is-application-x-zsh Text no-rows rows-sh-txt no-rows any-lead ∷ [])
     ∷ key Extension (codes "pyx") false (reading is-text-x-cython Text no-rows rows-sh-txt no-rows any-lead ∷ [])
@@ -265,6 +278,7 @@ keys =
     ∷ key Extension (codes "oga") false (reading is-audio-ogg-as-row-oga Signature rows-oga rows-flac-ogg-opus no-rows any-lead ∷ reading is-audio-x-speex-ogg Bytes rows-spx no-rows no-rows any-lead ∷ [])
     ∷ key Extension (codes "slice") false (reading is-text-x-systemd-unit Text no-rows rows-txt no-rows any-lead ∷ [])
     ∷ key Extension (codes "spice") false (reading is-text-x-spice Text no-rows rows-txt no-rows any-lead ∷ [])
+    ∷ key Extension (codes "fds") false (reading is-application-x-fds-disk Bytes rows-fds no-rows no-rows any-lead ∷ [])
     ∷ key Extension (codes "m2v") false (reading is-video-mpeg Bytes rows-mpg no-rows no-rows any-lead ∷ [])
     ∷ key Extension (codes "sqlite") false (reading is-application-vnd-sqlite3 Signature rows-sqlite no-rows rows-aup3-fossil-gpkg-mbtiles-mtn any-lead ∷ [])
     ∷ key Extension (codes "sfv") false (reading is-text-x-checksums Text no-rows rows-txt no-rows any-lead ∷ [])

@@ -2,8 +2,8 @@
 use Rattle.std.specs.Prelude.{List, [], ◌∷◌, codes, false, true}
 use Rattle.infer_named.specs.Key.{Key, key}
 use Rattle.infer_named.specs.Listed.{reading}
-use Rattle.infer_named.specs.Sets.{any-lead, leads-10, leads-5, leads-7, leads-9, no-rows, rows-age, rows-ani, rows-apk, rows-appimage-core-cubin-o-so, rows-application-x-ole-storage, rows-application-x-ole-storage-pptx-zip, rows-application-x-ole-storage-xlsm-xlsx-zip, rows-application-x-ole-storage-zip, rows-astc, rows-avi, rows-avro, rows-awk, rows-bgzf-karbon-kil-kpr-ksp-kwd, rows-class, rows-clj, rows-cpio, rows-cr2-dng, rows-csr-p10, rows-dcr, rows-der, rows-der-pem-txt, rows-elf, rows-eps, rows-eps-pdf-ps, rows-exe, rows-exs, rows-fits, rows-fodt, rows-fpx, rows-gdbm, rows-gguf, rows-gnuplot, rows-groovy, rows-gtkbuilder, rows-gz, rows-gz-sqlite-xml, rows-hdf5, rows-html-json-php-svg-txt-xhtml-xml, rows-html-rss-txt-xml, rows-html-sh-svg-txt-xhtml-xml, rows-html-txt-xhtml-xml, rows-html-txt-xml, rows-ico, rows-ics, rows-it, rows-jar-zip, rows-jarmf, rows-jls, rows-jp2, rows-jpg, rows-jph-jpm-jpx-mj2, rows-jpx, rows-json, rows-json-sh-txt, rows-json-txt, rows-kate-oga-ogm-ogv-ogx-opus-spx-vorbis, rows-lisp, rows-luac, rows-mk, rows-mkv, rows-ml, rows-mobi, rows-n64, rows-ndjson, rows-npy, rows-ods, rows-ogg, rows-ots, rows-owx, rows-p7b-p7c, rows-pem, rows-php, rows-pl, rows-pnm, rows-ppt, rows-pptx, rows-ps, rows-ps-txt, rows-psd, rows-pst, rows-py, rows-py-sh-zip, rows-rb, rows-rkt, rows-rpm, rows-rq, rows-sav, rows-scm, rows-sh, rows-sh-txt, rows-smk, rows-so, rows-srpm, rows-tif, rows-txt, rows-vhdx, rows-vsdx, rows-vtt, rows-wav, rows-wim, rows-wmv, rows-xhtml, rows-xls, rows-zip, text-rows}
-use Rattle.infer_named.specs.Types.{is-application-bson, is-application-gzip, is-application-hjson, is-application-illustrator, is-application-its-xml, is-application-java, is-application-json, is-application-onenote, is-application-owl-xml, is-application-pkcs10, is-application-pkcs7-mime, is-application-rdf-xml, is-application-sbml-xml, is-application-sparql-query, is-application-sql, is-application-timestamp-query, is-application-timestamp-reply, is-application-toml, is-application-vnd-android-package-archive, is-application-vnd-apple-numbers, is-application-vnd-coffeescript, is-application-vnd-comicbook-zip, is-application-vnd-lotus-1-2-3, is-application-vnd-microsoft-portable-executable, is-application-vnd-ms-excel, is-application-vnd-ms-excel-template-macroenabled-12, is-application-vnd-ms-outlook-pst, is-application-vnd-ms-powerpoint, is-application-vnd-ms-visio-drawing-main-xml, is-application-vnd-oasis-opendocument-spreadsheet, is-application-vnd-oasis-opendocument-spreadsheet-flat-xml, is-application-vnd-oasis-opendocument-text-flat-xml, is-application-vnd-openxmlformats-officedocument-presentationml-presentation, is-application-vnd-openxmlformats-officedocument-presentationml-template, is-application-vnd-recordare-musicxml, is-application-vnd-wolfram-mathematica, is-application-vsix, is-application-x-ableton-live-set, is-application-x-age-encryption, is-application-x-aspx, is-application-x-avro, is-application-x-cpio, is-application-x-cue, is-application-x-desktop, is-application-x-director, is-application-x-egg-zip, is-application-x-erb, is-application-x-executable-as-row-elf, is-application-x-gdbm, is-application-x-gguf, is-application-x-glade, is-application-x-gnucash, is-application-x-gnuplot, is-application-x-grib, is-application-x-hdf5, is-application-x-hprof, is-application-x-jsonc, is-application-x-jsp, is-application-x-leveldb-table, is-application-x-lua-bytecode, is-application-x-mobipocket-ebook, is-application-x-ms-pdb, is-application-x-ms-wim, is-application-x-msbuild-xml, is-application-x-n64-rom, is-application-x-navi-animation, is-application-x-ndjson, is-application-x-npy, is-application-x-npz, is-application-x-pascal-resource-strings-json, is-application-x-precompiled-header, is-application-x-profraw, is-application-x-python-pickle, is-application-x-python-zipapp, is-application-x-resx-xml, is-application-x-rpm, is-application-x-sharedlib, is-application-x-spss-sav, is-application-x-stuffit, is-application-x-vhdx-disk, is-application-x-wheel-zip, is-application-xhtml-xml, is-application-xml, is-audio-ogg-as-row-ogg, is-audio-vnd-audible, is-audio-x-it, is-audio-x-matroska, is-audio-x-wav, is-chemical-x-mdl-sdfile, is-chemical-x-pdb, is-image-astc, is-image-fits, is-image-jls, is-image-jp2, is-image-jpeg, is-image-jpx, is-image-tiff, is-image-vnd-adobe-photoshop, is-image-vnd-fpx, is-image-vnd-microsoft-icon, is-image-x-eps, is-image-x-kodak-dcr, is-image-x-kodak-kdc, is-image-x-mamiya-mef, is-image-x-portable-bitmap, is-image-x-portable-graymap, is-image-x-tga, is-model-iges, is-text-calendar, is-text-plain, is-text-sgml, is-text-troff, is-text-turtle, is-text-vtt, is-text-x-ampl, is-text-x-apacheconf, is-text-x-apl, is-text-x-asciidoc, is-text-x-autoit, is-text-x-awk, is-text-x-bibtex, is-text-x-bugs, is-text-x-c-hdr, is-text-x-cabal, is-text-x-cairo, is-text-x-clojure, is-text-x-cobol, is-text-x-common-lisp, is-text-x-cron, is-text-x-csharp, is-text-x-csrc, is-text-x-dockerfile, is-text-x-elixir, is-text-x-fastq, is-text-x-forth, is-text-x-fountain, is-text-x-gdb, is-text-x-gerber, is-text-x-gff, is-text-x-glsl, is-text-x-gotemplate, is-text-x-groovy, is-text-x-hcl, is-text-x-hive, is-text-x-idl, is-text-x-ini, is-text-x-irclog, is-text-x-java-manifest, is-text-x-jcl, is-text-x-kickstart, is-text-x-kotlin, is-text-x-ld-script, is-text-x-lex, is-text-x-liquid, is-text-x-llvm, is-text-x-makefile, is-text-x-mako, is-text-x-meson, is-text-x-mirc, is-text-x-nim, is-text-x-nsis, is-text-x-ocaml, is-text-x-pascal, is-text-x-patch, is-text-x-perl, is-text-x-php, is-text-x-pike, is-text-x-procfile, is-text-x-python-as-row-py, is-text-x-racket, is-text-x-rdoc, is-text-x-reason, is-text-x-red, is-text-x-rexx, is-text-x-rmarkdown, is-text-x-robotframework, is-text-x-roc, is-text-x-ruby, is-text-x-scheme, is-text-x-shell-config, is-text-x-shellscript, is-text-x-slint, is-text-x-smali, is-text-x-sml, is-text-x-snakemake, is-text-x-starlark, is-text-x-swift, is-text-x-systemd-unit, is-text-x-tex, is-text-x-vagrantfile, is-text-x-vim, is-text-x-xmi, is-text-x-yacc, is-video-vnd-radgamettools-smacker, is-video-x-flic, is-video-x-ms-wmv, is-video-x-msvideo, is-video-x-nsv}
+use Rattle.infer_named.specs.Sets.{any-lead, leads-10, leads-5, leads-7, leads-9, no-rows, rows-age, rows-ani, rows-apk, rows-appimage-core-cubin-o-so, rows-application-x-ole-storage, rows-application-x-ole-storage-pptx-zip, rows-application-x-ole-storage-xlsm-xlsx-zip, rows-application-x-ole-storage-zip, rows-astc, rows-aup3, rows-avi, rows-avro, rows-awk, rows-bgzf-karbon-kil-kpr-ksp-kwd, rows-class, rows-clj, rows-cpio, rows-cr2-dng, rows-csr-p10, rows-dcr, rows-der, rows-der-pem-txt, rows-elf, rows-eps, rows-eps-pdf-ps, rows-exe, rows-exs, rows-fits, rows-flif, rows-fodt, rows-fpx, rows-gdbm, rows-gguf, rows-gnuplot, rows-groovy, rows-gtkbuilder, rows-gz, rows-gz-sqlite-xml, rows-gz-zip, rows-hdf5, rows-html-json-php-svg-txt-xhtml-xml, rows-html-rss-txt-xml, rows-html-sh-svg-txt-xhtml-xml, rows-html-txt-xhtml-xml, rows-html-txt-xml, rows-ico, rows-ics, rows-it, rows-it87, rows-jar-zip, rows-jarmf, rows-jls, rows-jp2, rows-jpg, rows-jph-jpm-jpx-mj2, rows-jpx, rows-json, rows-json-sh-txt, rows-json-txt, rows-karbon, rows-kate-oga-ogm-ogv-ogx-opus-spx-vorbis, rows-lisp, rows-luac, rows-lyx, rows-mk, rows-mkv, rows-ml, rows-mobi, rows-n64, rows-ndjson, rows-npy, rows-ods, rows-ogg, rows-ots, rows-owx, rows-p7b-p7c, rows-pem, rows-php, rows-pkpass, rows-pl, rows-pnm, rows-ppt, rows-pptx, rows-ps, rows-ps-txt, rows-psd, rows-psp, rows-pst, rows-py, rows-py-sh-zip, rows-qp, rows-rb, rows-rkt, rows-rpm, rows-rq, rows-sav, rows-scm, rows-sh, rows-sh-txt, rows-smk, rows-so, rows-sqlite, rows-srpm, rows-tif, rows-txt, rows-vhdx, rows-vsdx, rows-vtt, rows-wav, rows-wim, rows-wmv, rows-xhtml, rows-xls, rows-zip, text-rows}
+use Rattle.infer_named.specs.Types.{is-application-bson, is-application-gzip, is-application-hjson, is-application-illustrator, is-application-its-xml, is-application-java, is-application-json, is-application-onenote, is-application-owl-xml, is-application-pkcs10, is-application-pkcs7-mime, is-application-rdf-xml, is-application-sbml-xml, is-application-sparql-query, is-application-sql, is-application-timestamp-query, is-application-timestamp-reply, is-application-toml, is-application-vnd-android-package-archive, is-application-vnd-apple-numbers, is-application-vnd-apple-pkpass, is-application-vnd-coffeescript, is-application-vnd-comicbook-zip, is-application-vnd-lotus-1-2-3, is-application-vnd-microsoft-portable-executable, is-application-vnd-ms-excel, is-application-vnd-ms-excel-template-macroenabled-12, is-application-vnd-ms-outlook-pst, is-application-vnd-ms-powerpoint, is-application-vnd-ms-visio-drawing-main-xml, is-application-vnd-oasis-opendocument-spreadsheet, is-application-vnd-oasis-opendocument-spreadsheet-flat-xml, is-application-vnd-oasis-opendocument-text-flat-xml, is-application-vnd-openxmlformats-officedocument-presentationml-presentation, is-application-vnd-openxmlformats-officedocument-presentationml-template, is-application-vnd-recordare-musicxml, is-application-vnd-wolfram-mathematica, is-application-vsix, is-application-x-ableton-live-set, is-application-x-age-encryption, is-application-x-aspx, is-application-x-audacity-project-sqlite3, is-application-x-avro, is-application-x-cpio, is-application-x-cue, is-application-x-desktop, is-application-x-director, is-application-x-egg-zip, is-application-x-erb, is-application-x-executable-as-row-elf, is-application-x-gdbm, is-application-x-gguf, is-application-x-glade, is-application-x-gnucash, is-application-x-gnuplot, is-application-x-grib, is-application-x-hdf5, is-application-x-hprof, is-application-x-it87, is-application-x-jsonc, is-application-x-jsp, is-application-x-karbon, is-application-x-leveldb-table, is-application-x-lua-bytecode, is-application-x-lyx, is-application-x-mobipocket-ebook, is-application-x-ms-pdb, is-application-x-ms-wim, is-application-x-msbuild-xml, is-application-x-n64-rom, is-application-x-navi-animation, is-application-x-ndjson, is-application-x-npy, is-application-x-npz, is-application-x-pascal-resource-strings-json, is-application-x-precompiled-header, is-application-x-profraw, is-application-x-python-pickle, is-application-x-python-zipapp, is-application-x-qpress, is-application-x-resx-xml, is-application-x-rpm, is-application-x-sharedlib, is-application-x-spss-sav, is-application-x-stuffit, is-application-x-vhdx-disk, is-application-x-wheel-zip, is-application-xhtml-xml, is-application-xml, is-audio-ogg-as-row-ogg, is-audio-vnd-audible, is-audio-x-it, is-audio-x-matroska, is-audio-x-wav, is-chemical-x-mdl-sdfile, is-chemical-x-pdb, is-image-astc, is-image-fits, is-image-flif, is-image-jls, is-image-jp2, is-image-jpeg, is-image-jpx, is-image-tiff, is-image-vnd-adobe-photoshop, is-image-vnd-fpx, is-image-vnd-microsoft-icon, is-image-x-eps, is-image-x-kodak-dcr, is-image-x-kodak-kdc, is-image-x-mamiya-mef, is-image-x-paintshoppro, is-image-x-portable-bitmap, is-image-x-portable-graymap, is-image-x-tga, is-model-iges, is-text-calendar, is-text-plain, is-text-sgml, is-text-troff, is-text-turtle, is-text-vtt, is-text-x-ampl, is-text-x-apacheconf, is-text-x-apl, is-text-x-asciidoc, is-text-x-autoit, is-text-x-awk, is-text-x-bibtex, is-text-x-bugs, is-text-x-c-hdr, is-text-x-cabal, is-text-x-cairo, is-text-x-clojure, is-text-x-cobol, is-text-x-common-lisp, is-text-x-cron, is-text-x-csharp, is-text-x-csrc, is-text-x-dockerfile, is-text-x-elixir, is-text-x-fastq, is-text-x-forth, is-text-x-fountain, is-text-x-gdb, is-text-x-gerber, is-text-x-gff, is-text-x-glsl, is-text-x-gotemplate, is-text-x-groovy, is-text-x-hcl, is-text-x-hive, is-text-x-idl, is-text-x-ini, is-text-x-irclog, is-text-x-java-manifest, is-text-x-jcl, is-text-x-kickstart, is-text-x-kotlin, is-text-x-ld-script, is-text-x-lex, is-text-x-liquid, is-text-x-llvm, is-text-x-makefile, is-text-x-mako, is-text-x-meson, is-text-x-mirc, is-text-x-nim, is-text-x-nsis, is-text-x-ocaml, is-text-x-pascal, is-text-x-patch, is-text-x-perl, is-text-x-php, is-text-x-pike, is-text-x-procfile, is-text-x-python-as-row-py, is-text-x-racket, is-text-x-rdoc, is-text-x-reason, is-text-x-red, is-text-x-rexx, is-text-x-rmarkdown, is-text-x-robotframework, is-text-x-roc, is-text-x-ruby, is-text-x-scheme, is-text-x-shell-config, is-text-x-shellscript, is-text-x-slint, is-text-x-smali, is-text-x-sml, is-text-x-snakemake, is-text-x-starlark, is-text-x-swift, is-text-x-systemd-unit, is-text-x-tex, is-text-x-vagrantfile, is-text-x-vim, is-text-x-xmi, is-text-x-yacc, is-video-vnd-radgamettools-smacker, is-video-x-flic, is-video-x-ms-wmv, is-video-x-msvideo, is-video-x-nsv}
 use Rattle.infer_named.specs.declared.table.Asks.TheVariants.{Bytes, Signature, Text}
 use Rattle.infer_named.specs.declared.table.Part.TheVariants.{Extension, Whole}
 
@@ -32,6 +32,7 @@ keys =
     ∷ key Extension (codes "resi") false (reading is-text-x-reason Text no-rows rows-txt no-rows any-lead ∷ [])
     ∷ key Extension (codes "diz") false (reading is-text-plain Text rows-txt no-rows text-rows any-lead ∷ [])
     ∷ key Extension (codes "ico") false (reading is-image-vnd-microsoft-icon Signature rows-ico no-rows no-rows any-lead ∷ [])
+    ∷ key Extension (codes "karbon") false (reading is-application-x-karbon Signature rows-karbon rows-gz-zip no-rows any-lead ∷ [])
     ∷ key Extension (codes "xmi") false (reading is-text-x-xmi Text no-rows rows-html-txt-xhtml-xml no-rows leads-10 ∷ [])
     ∷ key Extension (codes "sst") false (reading is-application-x-leveldb-table Bytes no-rows no-rows no-rows any-lead ∷ [])
     ∷ key Extension (codes "cairo") false (reading is-text-x-cairo Text no-rows rows-txt no-rows any-lead ∷ [])
@@ -61,6 +62,7 @@ keys =
     ∷ key Extension (codes "acm") false (reading is-application-vnd-microsoft-portable-executable Signature rows-exe no-rows no-rows any-lead ∷ [])
     ∷ key Extension (codes "ocx") false (reading is-application-vnd-microsoft-portable-executable Signature rows-exe no-rows no-rows any-lead ∷ [])
     ∷ key Extension (codes "divx") false (reading is-video-x-msvideo Signature rows-avi no-rows no-rows any-lead ∷ [])
+    ∷ key Extension (codes "it87") false (reading is-application-x-it87 Text rows-it87 rows-txt no-rows any-lead ∷ [])
     ∷ key Extension (codes "icalendar") false (reading is-text-calendar Text rows-ics rows-txt no-rows any-lead ∷ [])
     ∷ key Extension (codes "v") false (reading is-text-plain Text rows-txt no-rows text-rows any-lead ∷ [])
     ∷ key Extension (codes "jpx") false (reading is-image-jpx Signature rows-jpx rows-jp2 no-rows any-lead ∷ [])
@@ -75,6 +77,7 @@ keys =
     ∷ key Whole (codes "gnumakefile") false (reading is-text-x-makefile Text rows-mk rows-sh-txt no-rows any-lead ∷ [])
     ∷ key Extension (codes "mrc") false (reading is-text-x-mirc Text no-rows rows-txt no-rows any-lead ∷ [])
     ∷ key Extension (codes "p7m") false (reading is-application-pkcs7-mime Bytes rows-p7b-p7c rows-pem no-rows any-lead ∷ [])
+    ∷ key Extension (codes "psp") true (reading is-image-x-paintshoppro Signature rows-psp no-rows no-rows any-lead ∷ [])
     ∷ key Extension (codes "cljx") false (reading is-text-x-clojure Text rows-clj rows-sh-txt no-rows any-lead ∷ [])
     ∷ key Extension (codes "vhdx") false (reading is-application-x-vhdx-disk Signature rows-vhdx no-rows no-rows any-lead ∷ [])
     ∷ key Extension (codes "vsdx") false (reading is-application-vnd-ms-visio-drawing-main-xml Signature rows-vsdx rows-zip no-rows any-lead ∷ [])
@@ -114,6 +117,7 @@ keys =
     ∷ key Extension (codes "scrbl") false (reading is-text-x-racket Text rows-rkt rows-sh-txt no-rows any-lead ∷ [])
     ∷ key Extension (codes "numbers") false (reading is-application-vnd-apple-numbers Signature no-rows rows-zip no-rows any-lead ∷ [])
     ∷ key Extension (codes "l") false (reading is-text-x-lex Text no-rows rows-txt no-rows any-lead ∷ [])
+    ∷ key Extension (codes "lyx") false (reading is-application-x-lyx Text rows-lyx rows-txt no-rows any-lead ∷ [])
     ∷ key Extension (codes "sparql") false (reading is-application-sparql-query Text rows-rq rows-txt no-rows any-lead ∷ [])
     ∷ key Extension (codes "gemspec") false (reading is-text-x-ruby Text rows-rb rows-sh-txt no-rows any-lead ∷ [])
     ∷ key Extension (codes "glade") false (reading is-application-x-glade Text no-rows rows-html-txt-xhtml-xml rows-gtkbuilder leads-10 ∷ [])
@@ -132,6 +136,7 @@ keys =
     ∷ key Extension (codes "resx") false (reading is-application-x-resx-xml Text no-rows rows-html-txt-xhtml-xml no-rows leads-10 ∷ [])
     ∷ key Extension (codes "astc") false (reading is-image-astc Bytes rows-astc no-rows no-rows any-lead ∷ [])
     ∷ key Extension (codes "gnucash") false (reading is-application-x-gnucash Signature no-rows rows-gz-sqlite-xml no-rows any-lead ∷ [])
+    ∷ key Extension (codes "flif") false (reading is-image-flif Signature rows-flif no-rows no-rows any-lead ∷ [])
     ∷ key Extension (codes "luac") false (reading is-application-x-lua-bytecode Signature rows-luac no-rows no-rows any-lead ∷ [])
     ∷ key Extension (codes "lpr") false (reading is-text-x-pascal Text no-rows rows-txt no-rows any-lead ∷ [])
     ∷ key Extension (codes "fodt") false (reading is-application-vnd-oasis-opendocument-text-flat-xml Text rows-fodt rows-html-txt-xhtml-xml no-rows leads-10 ∷ [])
@@ -154,6 +159,7 @@ keys =
     ∷ key Extension (codes "ltx") false (reading is-text-x-tex Text no-rows rows-ps-txt no-rows any-lead ∷ [])
     ∷ key Extension (codes "ttl") false (reading is-text-turtle Text no-rows rows-txt no-rows any-lead ∷ [])
     ∷ key Whole (codes "record") false (reading is-text-plain Text rows-txt no-rows text-rows any-lead ∷ [])
+    ∷ key Extension (codes "qp") true (reading is-application-x-qpress Signature rows-qp no-rows no-rows any-lead ∷ [])
     ∷ key Extension (codes "pks") false (reading is-application-sql Text no-rows rows-sh-txt no-rows any-lead ∷ [])
     ∷ key Extension (codes "rsj") false (reading is-application-x-pascal-resource-strings-json Text no-rows rows-json no-rows any-lead ∷ [])
     ∷ key Extension (codes "mli") false (reading is-text-x-ocaml Text rows-ml rows-sh-txt no-rows any-lead ∷ [])
@@ -193,6 +199,7 @@ keys =
     ∷ key Extension (codes "spx") true (reading is-audio-ogg-as-row-ogg Signature rows-ogg no-rows rows-kate-oga-ogm-ogv-ogx-opus-spx-vorbis any-lead ∷ [])
     ∷ key Extension (codes "jsonlines") false (reading is-application-x-ndjson Text rows-ndjson rows-json no-rows any-lead ∷ [])
     ∷ key Extension (codes "swm") false (reading is-application-x-ms-wim Signature rows-wim no-rows no-rows any-lead ∷ [])
+    ∷ key Extension (codes "aup3") false (reading is-application-x-audacity-project-sqlite3 Signature rows-aup3 rows-sqlite no-rows any-lead ∷ [])
     ∷ key Extension (codes "tiff") false (reading is-image-tiff Signature rows-tif no-rows rows-cr2-dng any-lead ∷ [])
     ∷ key Extension (codes "red") false (reading is-text-x-red Text no-rows rows-txt no-rows any-lead ∷ [])
     ∷ key Extension (codes "smali") false (reading is-text-x-smali Text no-rows rows-txt no-rows any-lead ∷ [])
@@ -223,6 +230,7 @@ keys =
     ∷ key Whole (codes "makefile.pl") false (reading is-text-x-perl Text rows-pl rows-sh-txt no-rows any-lead ∷ [])
     ∷ key Whole (codes "dockerfile") false (reading is-text-x-dockerfile Text no-rows rows-sh-txt no-rows any-lead ∷ [])
     ∷ key Extension (codes "lisp") false (reading is-text-x-common-lisp Text rows-lisp rows-sh-txt no-rows any-lead ∷ [])
+    ∷ key Extension (codes "pkpass") false (reading is-application-vnd-apple-pkpass Signature rows-pkpass rows-zip no-rows any-lead ∷ [])
     ∷ key Whole (codes "podfile") false (reading is-text-x-ruby Text rows-rb rows-sh-txt no-rows any-lead ∷ [])
     ∷ key Whole (codes "pipfile") false (reading is-application-toml Text no-rows rows-txt no-rows any-lead ∷ [])
     ∷ key Whole (codes "tox.ini") false (reading is-text-x-ini Text no-rows rows-txt no-rows any-lead ∷ [])

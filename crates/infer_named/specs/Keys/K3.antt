@@ -2,8 +2,8 @@
 use Rattle.std.specs.Prelude.{List, [], ◌∷◌, codes, false, true}
 use Rattle.infer_named.specs.Key.{Key, key}
 use Rattle.infer_named.specs.Listed.{reading}
-use Rattle.infer_named.specs.Sets.{any-lead, leads-10, leads-2, no-rows, rows-3ds, rows-3gp, rows-aac, rows-afm, rows-amr, rows-application-x-msi, rows-application-x-ole-storage, rows-application-x-ole-storage-pptm-pptx-zip, rows-application-x-ole-storage-pptx-zip, rows-ar, rows-asc, rows-atom-diashape-fb2-fodt-gpx-gtkbuilder-jnlp-kml-lingts-meta4-mml-nzb-opml-owx-plist-rss-srx-svg-ttx-xhtml-xmp, rows-aup3-fossil-gpkg-mbtiles-mtn, rows-awk, rows-bc, rows-bookmarks, rows-bz2, rows-caf, rows-cdr, rows-cmap-eps-pfa-t2t, rows-crx, rows-csr-p10, rows-dart, rows-deb-goa, rows-der-pem-txt, rows-djvm, rows-djvu, rows-docx-application-x-ole-storage-zip, rows-dwg, rows-elf, rows-elf-so, rows-eot, rows-escript, rows-exe, rows-f4v, rows-fig, rows-fish, rows-gjs-js, rows-glb, rows-gpg, rows-gpkg, rows-html, rows-html-json-php-svg-txt-xhtml-xml, rows-html-sh-svg-txt-xhtml-xml, rows-html-txt, rows-html-txt-xhtml-xml, rows-html-txt-xml, rows-icc, rows-ilbm, rows-jar-zip, rows-jks, rows-jmod, rows-json, rows-json-sh-txt, rows-jxr, rows-kml, rows-kmz, rows-kra, rows-lingts, rows-lua, rows-luks, rows-lzma, rows-m, rows-m3u8, rows-mach, rows-mk, rows-mkv, rows-ml, rows-model-step, rows-mov, rows-mp4, rows-mpc, rows-mpg, rows-mpp, rows-n64, rows-nes, rows-o, rows-obj, rows-odf, rows-odg, rows-odm-ott, rows-odp-zip, rows-odt, rows-opml, rows-otp, rows-pat, rows-pcapng, rows-pem, rows-pgp, rows-php, rows-php-svg-txt-xhtml-xml, rows-plist-txt-xml, rows-ppt, rows-pptm, rows-ppu, rows-ps, rows-ps-sh-txt, rows-ps-txt, rows-ps1, rows-psd, rows-puml, rows-py, rows-qcow2, rows-qoi, rows-r, rows-raku, rows-rb, rows-rtf, rows-scm, rows-sf2, rows-sh-txt, rows-sid, rows-sig, rows-sqlite, rows-squashfs, rows-sxi, rows-sxw, rows-sz, rows-ts, rows-txt, rows-txt-xml, rows-vhd, rows-vmdk, rows-wmv, rows-woff2, rows-xls, rows-xml, rows-zim, rows-zip, rows-zst, text-rows}
-use Rattle.infer_named.specs.Types.{is-application-dita-xml, is-application-font-woff-as-row-woff2, is-application-geopackage-sqlite3, is-application-json, is-application-mbox, is-application-metalink-xml, is-application-octet-stream, is-application-pgp-encrypted, is-application-pgp-keys-as-row-asc, is-application-pgp-keys-as-row-gpg, is-application-pgp-signature, is-application-pkcs10, is-application-postscript, is-application-rtf, is-application-sourcemap-json, is-application-vnd-adobe-xfdf, is-application-vnd-apple-mpegurl, is-application-vnd-chess-pgn, is-application-vnd-corel-draw, is-application-vnd-garmin-tcx-xml, is-application-vnd-geogebra-file, is-application-vnd-google-earth-kml-xml, is-application-vnd-google-earth-kmz, is-application-vnd-iccprofile, is-application-vnd-lotus-1-2-3, is-application-vnd-microsoft-portable-executable, is-application-vnd-ms-excel, is-application-vnd-ms-powerpoint, is-application-vnd-ms-powerpoint-presentation-macroenabled-12, is-application-vnd-ms-powerpoint-template-macroenabled-12, is-application-vnd-ms-project, is-application-vnd-oasis-opendocument-formula, is-application-vnd-oasis-opendocument-graphics, is-application-vnd-oasis-opendocument-graphics-flat-xml, is-application-vnd-oasis-opendocument-presentation-template, is-application-vnd-oasis-opendocument-text, is-application-vnd-openxmlformats-officedocument-wordprocessingml-template, is-application-vnd-sqlite3, is-application-vnd-squashfs, is-application-vnd-sun-xml-impress, is-application-vnd-sun-xml-writer, is-application-x-ant-xml, is-application-x-arb-json, is-application-x-bzip2, is-application-x-cmi, is-application-x-com-executable, is-application-x-docbook-xml, is-application-x-entitlements, is-application-x-executable-as-row-obj, is-application-x-fishscript, is-application-x-font-afm, is-application-x-font-bdf, is-application-x-gameboy-rom, is-application-x-gba-rom, is-application-x-gds, is-application-x-gdscript, is-application-x-gir-xml, is-application-x-google-chrome-extension, is-application-x-har-json, is-application-x-haskell-interface, is-application-x-intellij-xml, is-application-x-ios-app, is-application-x-java-jmod, is-application-x-java-keystore, is-application-x-jsonc, is-application-x-jsp, is-application-x-krita, is-application-x-leveldb-table, is-application-x-llvm, is-application-x-locale-archive, is-application-x-luks, is-application-x-lzma-compressed-tar, is-application-x-m4, is-application-x-mach-binary, is-application-x-mimecache, is-application-x-msbuild-xml, is-application-x-msi, is-application-x-mysql-myisam, is-application-x-n64-rom, is-application-x-nintendo-nes-rom, is-application-x-object, is-application-x-openzim, is-application-x-pascal-unit, is-application-x-pcapng, is-application-x-powershell, is-application-x-precompiled-header, is-application-x-pytorch, is-application-x-qemu-disk, is-application-x-snappy-framed, is-application-x-storyboard-xml, is-application-x-swiftmodule, is-application-x-tflite, is-application-x-thumbs-db, is-application-x-tmx-xml, is-application-x-unix-archive, is-application-x-vhd-disk, is-application-x-vim-swap, is-application-x-vmdk-disk, is-application-x-wix-xml, is-application-x-xpinstall, is-application-x-zstd-compressed-tar, is-application-xaml-xml, is-application-xliff-xml, is-application-xquery, is-audio-aac, is-audio-amr, is-audio-prs-sid, is-audio-x-caf, is-audio-x-ms-wma, is-audio-x-musepack, is-audio-x-s3m, is-audio-x-sfbk, is-image-vnd-adobe-photoshop, is-image-vnd-djvu, is-image-vnd-dwg, is-image-vnd-ms-photo, is-image-x-3ds, is-image-x-gimp-pat, is-image-x-ilbm, is-image-x-qoi, is-image-x-tga, is-image-x-xfig, is-model-gltf-binary, is-model-step, is-text-html, is-text-javascript, is-text-plain, is-text-troff, is-text-vnd-trolltech-linguist, is-text-x-asn1, is-text-x-asymptote, is-text-x-awk, is-text-x-bluespec, is-text-x-boo, is-text-x-c-src, is-text-x-checksums, is-text-x-cmake, is-text-x-cocci, is-text-x-csound, is-text-x-cuda, is-text-x-cython, is-text-x-d2, is-text-x-dart, is-text-x-dune, is-text-x-ebnf, is-text-x-eex, is-text-x-ejs, is-text-x-erlang, is-text-x-expect, is-text-x-flatbuffers, is-text-x-fortran, is-text-x-fsharp, is-text-x-genie, is-text-x-gerber, is-text-x-gleam, is-text-x-glsl, is-text-x-gomod, is-text-x-hlsl, is-text-x-hy, is-text-x-idl, is-text-x-ini, is-text-x-isabelle, is-text-x-krl, is-text-x-lex, is-text-x-lfe, is-text-x-lilypond, is-text-x-logtalk, is-text-x-lua, is-text-x-makefile, is-text-x-maven-xml, is-text-x-mermaid, is-text-x-meson, is-text-x-metafont, is-text-x-modula, is-text-x-nginx-conf, is-text-x-nix, is-text-x-ocaml, is-text-x-octave, is-text-x-opentype-feature, is-text-x-opml-xml, is-text-x-pascal, is-text-x-php, is-text-x-pic, is-text-x-plantuml, is-text-x-praat, is-text-x-preseed, is-text-x-pug, is-text-x-puppet, is-text-x-python-as-row-py, is-text-x-qmake, is-text-x-raku, is-text-x-razor, is-text-x-rsrc, is-text-x-ruby, is-text-x-sagemath, is-text-x-scheme, is-text-x-spice, is-text-x-starlark, is-text-x-stata, is-text-x-svelte, is-text-x-systemd-unit, is-text-x-tablegen, is-text-x-tex, is-text-x-tla, is-text-x-typescript, is-text-x-vhdl, is-text-x-vim, is-text-x-wkt, is-text-x-xmi, is-text-xml, is-video-3gpp, is-video-mp2t, is-video-mpeg, is-video-quicktime, is-video-x-f4v, is-video-x-matroska-3d}
+use Rattle.infer_named.specs.Sets.{any-lead, leads-10, leads-2, no-rows, rows-3ds, rows-3gp, rows-aac, rows-afm, rows-amr, rows-application-x-msi, rows-application-x-ole-storage, rows-application-x-ole-storage-pptm-pptx-zip, rows-application-x-ole-storage-pptx-zip, rows-ar, rows-asc, rows-atom-diashape-fb2-fodt-gpx-gtkbuilder-jnlp-kml-lingts-meta4-mml-nzb-opml-owx-plist-rss-srx-svg-ttx-xhtml-xmp, rows-aup3-fossil-gpkg-mbtiles-mtn, rows-awk, rows-bc, rows-bookmarks, rows-bsdiff, rows-bz2, rows-caf, rows-ccmx, rows-cdr, rows-cmap-eps-pfa-t2t, rows-crw, rows-crx, rows-csr-p10, rows-cubin, rows-dart, rows-deb-goa, rows-der-pem-txt, rows-djvm, rows-djvu, rows-docx-application-x-ole-storage-zip, rows-dwg, rows-elf, rows-elf-so, rows-eot, rows-escript, rows-exe, rows-f4v, rows-fig, rows-fish, rows-gem, rows-gjs-js, rows-glb, rows-gnd, rows-gpg, rows-gpkg, rows-gz-zip, rows-html, rows-html-json-php-svg-txt-xhtml-xml, rows-html-sh-svg-txt-xhtml-xml, rows-html-txt, rows-html-txt-xhtml-xml, rows-html-txt-xml, rows-icc, rows-ilbm, rows-info, rows-jar-zip, rows-jks, rows-jmod, rows-json, rows-json-sh-txt, rows-jxr, rows-kml, rows-kmz, rows-kon, rows-kra, rows-lingts, rows-lua, rows-lua-sh-txt, rows-luks, rows-lzma, rows-m, rows-m3u8, rows-mach, rows-mk, rows-mkv, rows-ml, rows-model-step, rows-mov, rows-mp4, rows-mpc, rows-mpg, rows-mpp, rows-n64, rows-nes, rows-o, rows-obj, rows-odf, rows-odg, rows-odm-ott, rows-odp-zip, rows-odt, rows-opml, rows-otp, rows-pat, rows-pcapng, rows-pem, rows-pgp, rows-php, rows-php-svg-txt-xhtml-xml, rows-plist-txt-xml, rows-ppt, rows-pptm, rows-ppu, rows-ps, rows-ps-sh-txt, rows-ps-txt, rows-ps1, rows-psd, rows-puml, rows-py, rows-qcow2, rows-qgz, rows-qoi, rows-qti, rows-r, rows-raku, rows-rb, rows-rpm, rows-rtf, rows-scm, rows-sf2, rows-sh-txt, rows-sid, rows-sig, rows-sk, rows-sqlite, rows-squashfs, rows-srpm, rows-sxi, rows-sxw, rows-sz, rows-tar, rows-texlua, rows-ts, rows-txt, rows-txt-xml, rows-vhd, rows-vmdk, rows-wmv, rows-woff2, rows-wpl, rows-xls, rows-xml, rows-zim, rows-zip, rows-zst, text-rows}
+use Rattle.infer_named.specs.Types.{is-application-dita-xml, is-application-font-woff-as-row-woff2, is-application-geopackage-sqlite3, is-application-gnunet-directory, is-application-json, is-application-mbox, is-application-metalink-xml, is-application-octet-stream, is-application-pgp-encrypted, is-application-pgp-keys-as-row-asc, is-application-pgp-keys-as-row-gpg, is-application-pgp-signature, is-application-pkcs10, is-application-postscript, is-application-rtf, is-application-sourcemap-json, is-application-vnd-adobe-xfdf, is-application-vnd-apple-mpegurl, is-application-vnd-chess-pgn, is-application-vnd-corel-draw, is-application-vnd-garmin-tcx-xml, is-application-vnd-geogebra-file, is-application-vnd-google-earth-kml-xml, is-application-vnd-google-earth-kmz, is-application-vnd-iccprofile, is-application-vnd-lotus-1-2-3, is-application-vnd-microsoft-portable-executable, is-application-vnd-ms-excel, is-application-vnd-ms-powerpoint, is-application-vnd-ms-powerpoint-presentation-macroenabled-12, is-application-vnd-ms-powerpoint-template-macroenabled-12, is-application-vnd-ms-project, is-application-vnd-ms-wpl, is-application-vnd-oasis-opendocument-formula, is-application-vnd-oasis-opendocument-graphics, is-application-vnd-oasis-opendocument-graphics-flat-xml, is-application-vnd-oasis-opendocument-presentation-template, is-application-vnd-oasis-opendocument-text, is-application-vnd-openxmlformats-officedocument-wordprocessingml-template, is-application-vnd-sqlite3, is-application-vnd-squashfs, is-application-vnd-sun-xml-impress, is-application-vnd-sun-xml-writer, is-application-x-ant-xml, is-application-x-arb-json, is-application-x-bsdiff, is-application-x-bzip2, is-application-x-ccmx, is-application-x-cmi, is-application-x-com-executable, is-application-x-cubin, is-application-x-docbook-xml, is-application-x-entitlements, is-application-x-executable-as-row-obj, is-application-x-fishscript, is-application-x-font-afm, is-application-x-font-bdf, is-application-x-gameboy-rom, is-application-x-gba-rom, is-application-x-gds, is-application-x-gdscript, is-application-x-gir-xml, is-application-x-google-chrome-extension, is-application-x-har-json, is-application-x-haskell-interface, is-application-x-intellij-xml, is-application-x-ios-app, is-application-x-java-jmod, is-application-x-java-keystore, is-application-x-jsonc, is-application-x-jsp, is-application-x-kontour, is-application-x-krita, is-application-x-leveldb-table, is-application-x-llvm, is-application-x-locale-archive, is-application-x-luks, is-application-x-lzma-compressed-tar, is-application-x-m4, is-application-x-mach-binary, is-application-x-mimecache, is-application-x-msbuild-xml, is-application-x-msi, is-application-x-mysql-myisam, is-application-x-n64-rom, is-application-x-nintendo-nes-rom, is-application-x-object, is-application-x-openzim, is-application-x-pascal-unit, is-application-x-pcapng, is-application-x-powershell, is-application-x-precompiled-header, is-application-x-pytorch, is-application-x-qemu-disk, is-application-x-qgis-project-as-row-qgz, is-application-x-qtiplot, is-application-x-ruby-gem, is-application-x-snappy-framed, is-application-x-source-rpm, is-application-x-storyboard-xml, is-application-x-swiftmodule, is-application-x-tflite, is-application-x-thumbs-db, is-application-x-tmx-xml, is-application-x-unix-archive, is-application-x-vhd-disk, is-application-x-vim-swap, is-application-x-vmdk-disk, is-application-x-wix-xml, is-application-x-xpinstall, is-application-x-zstd-compressed-tar, is-application-xaml-xml, is-application-xliff-xml, is-application-xquery, is-audio-aac, is-audio-amr, is-audio-prs-sid, is-audio-x-caf, is-audio-x-ms-wma, is-audio-x-musepack, is-audio-x-s3m, is-audio-x-sfbk, is-image-vnd-adobe-photoshop, is-image-vnd-djvu, is-image-vnd-dwg, is-image-vnd-ms-photo, is-image-x-3ds, is-image-x-canon-crw, is-image-x-gimp-pat, is-image-x-ilbm, is-image-x-qoi, is-image-x-skencil, is-image-x-tga, is-image-x-xfig, is-model-gltf-binary, is-model-step, is-text-html, is-text-javascript, is-text-plain, is-text-troff, is-text-vnd-trolltech-linguist, is-text-x-asn1, is-text-x-asymptote, is-text-x-awk, is-text-x-bluespec, is-text-x-boo, is-text-x-c-src, is-text-x-checksums, is-text-x-cmake, is-text-x-cocci, is-text-x-csound, is-text-x-cuda, is-text-x-cython, is-text-x-d2, is-text-x-dart, is-text-x-dune, is-text-x-ebnf, is-text-x-eex, is-text-x-ejs, is-text-x-erlang, is-text-x-expect, is-text-x-flatbuffers, is-text-x-fortran, is-text-x-fsharp, is-text-x-genie, is-text-x-gerber, is-text-x-gleam, is-text-x-glsl, is-text-x-gomod, is-text-x-hlsl, is-text-x-hy, is-text-x-idl, is-text-x-info, is-text-x-ini, is-text-x-isabelle, is-text-x-krl, is-text-x-lex, is-text-x-lfe, is-text-x-lilypond, is-text-x-logtalk, is-text-x-lua, is-text-x-luatex, is-text-x-makefile, is-text-x-maven-xml, is-text-x-mermaid, is-text-x-meson, is-text-x-metafont, is-text-x-modula, is-text-x-nginx-conf, is-text-x-nix, is-text-x-ocaml, is-text-x-octave, is-text-x-opentype-feature, is-text-x-opml-xml, is-text-x-pascal, is-text-x-php, is-text-x-pic, is-text-x-plantuml, is-text-x-praat, is-text-x-preseed, is-text-x-pug, is-text-x-puppet, is-text-x-python-as-row-py, is-text-x-qmake, is-text-x-raku, is-text-x-razor, is-text-x-rsrc, is-text-x-ruby, is-text-x-sagemath, is-text-x-scheme, is-text-x-spice, is-text-x-starlark, is-text-x-stata, is-text-x-svelte, is-text-x-systemd-unit, is-text-x-tablegen, is-text-x-tex, is-text-x-tla, is-text-x-typescript, is-text-x-vhdl, is-text-x-vim, is-text-x-wkt, is-text-x-xmi, is-text-xml, is-video-3gpp, is-video-mp2t, is-video-mpeg, is-video-quicktime, is-video-x-f4v, is-video-x-matroska-3d}
 use Rattle.infer_named.specs.declared.table.Asks.TheVariants.{Bytes, Nothing, Signature, Text}
 use Rattle.infer_named.specs.declared.table.Part.TheVariants.{Extension, Whole}
 
@@ -21,6 +21,7 @@ keys =
     ∷ key Extension (codes "sqlproj") false (reading is-application-x-msbuild-xml Text no-rows rows-html-txt-xhtml-xml no-rows leads-10 ∷ [])
     ∷ key Whole (codes "api-extractor.json") false (reading is-application-x-jsonc Text no-rows rows-txt rows-json any-lead ∷ [])
     ∷ key Extension (codes "py3") false (reading is-text-x-python-as-row-py Text rows-py rows-json-sh-txt no-rows any-lead ∷ [])
+    ∷ key Extension (codes "sk1") false (reading is-image-x-skencil Text rows-sk rows-txt no-rows any-lead ∷ [])
     ∷ key Extension (codes "fea") false (reading is-text-x-opentype-feature Text no-rows rows-txt no-rows any-lead ∷ [])
     ∷ key Extension (codes "lex") false (reading is-text-x-lex Text no-rows rows-txt no-rows any-lead ∷ [])
     ∷ key Extension (codes "ppt") false (reading is-application-vnd-ms-powerpoint Signature rows-ppt rows-application-x-ole-storage no-rows any-lead ∷ [])
@@ -35,9 +36,12 @@ keys =
     ∷ key Extension (codes "mermaid") false (reading is-text-x-mermaid Text no-rows rows-txt no-rows any-lead ∷ [])
     ∷ key Extension (codes "fig") false (reading is-image-x-xfig Text rows-fig rows-txt no-rows any-lead ∷ [])
     ∷ key Extension (codes "msm") false (reading is-application-x-msi Signature rows-application-x-msi rows-application-x-ole-storage no-rows any-lead ∷ [])
+    ∷ key Extension (codes "texlua") false (reading is-text-x-luatex Text rows-texlua rows-lua-sh-txt no-rows any-lead ∷ [])
     ∷ key Extension (codes "cmake") false (reading is-text-x-cmake Text no-rows rows-txt no-rows any-lead ∷ [])
     ∷ key Extension (codes "puppet") false (reading is-text-x-puppet Text no-rows rows-txt no-rows any-lead ∷ [])
     ∷ key Extension (codes "ckpt") false (reading is-application-x-pytorch Bytes no-rows rows-zip no-rows any-lead ∷ [])
+    ∷ key Extension (codes "crw") false (reading is-image-x-canon-crw Signature rows-crw no-rows no-rows any-lead ∷ [])
+    ∷ key Extension (codes "gnd") true (reading is-application-gnunet-directory Signature rows-gnd no-rows no-rows any-lead ∷ [])
     ∷ key Extension (codes "pgn") false (reading is-application-vnd-chess-pgn Text no-rows rows-txt no-rows any-lead ∷ [])
     ∷ key Extension (codes "tar.lzma") false (reading is-application-x-lzma-compressed-tar Signature no-rows rows-lzma no-rows any-lead ∷ [])
     ∷ key Extension (codes "d2") false (reading is-text-x-d2 Text no-rows rows-txt no-rows any-lead ∷ [])
@@ -59,6 +63,7 @@ keys =
     ∷ key Extension (codes "tga") false (reading is-image-x-tga Bytes no-rows no-rows no-rows any-lead ∷ [])
     ∷ key Extension (codes "ecore") false (reading is-text-x-xmi Text no-rows rows-html-txt-xhtml-xml no-rows leads-10 ∷ [])
     ∷ key Extension (codes "opml") false (reading is-text-x-opml-xml Text rows-opml rows-html-txt-xhtml-xml no-rows leads-10 ∷ [])
+    ∷ key Extension (codes "bsdiff") false (reading is-application-x-bsdiff Signature rows-bsdiff no-rows no-rows any-lead ∷ [])
     ∷ key Extension (codes "pri") false (reading is-text-x-qmake Text no-rows rows-txt no-rows any-lead ∷ [])
     ∷ key Whole (codes "fstab") false (reading is-text-plain Text rows-txt no-rows text-rows any-lead ∷ [])
     ∷ key Whole (codes "package-lock.json") false (reading is-application-json Text rows-json no-rows no-rows any-lead ∷ [])
@@ -78,6 +83,7 @@ keys =
     ∷ key Extension (codes "luks") false (reading is-application-x-luks Signature rows-luks no-rows no-rows any-lead ∷ [])
     ∷ key Extension (codes "phtml") false (reading is-text-x-php Text rows-php rows-html-sh-svg-txt-xhtml-xml no-rows any-lead ∷ [])
     ∷ key Extension (codes "xq") false (reading is-application-xquery Text no-rows rows-txt-xml no-rows any-lead ∷ [])
+    ∷ key Extension (codes "kon") false (reading is-application-x-kontour Signature rows-kon rows-gz-zip no-rows any-lead ∷ [])
     ∷ key Extension (codes "dart") false (reading is-text-x-dart Text rows-dart rows-sh-txt no-rows any-lead ∷ [])
     ∷ key Extension (codes "pic") false (reading is-text-x-pic Text no-rows rows-txt no-rows any-lead ∷ [])
     ∷ key Extension (codes "jsonc") false (reading is-application-x-jsonc Text no-rows rows-txt rows-json any-lead ∷ [])
@@ -93,6 +99,7 @@ keys =
     ∷ key Extension (codes "lbm") false (reading is-image-x-ilbm Bytes rows-ilbm no-rows no-rows any-lead ∷ [])
     ∷ key Extension (codes "sls") false (reading is-text-x-scheme Text rows-scm rows-sh-txt no-rows any-lead ∷ [])
     ∷ key Extension (codes "mpeg") false (reading is-video-mpeg Bytes rows-mpg no-rows no-rows any-lead ∷ [])
+    ∷ key Extension (codes "cubin") false (reading is-application-x-cubin Signature rows-cubin rows-elf no-rows any-lead ∷ [])
     ∷ key Extension (codes "sha1") false (reading is-text-x-checksums Text no-rows rows-txt no-rows any-lead ∷ [])
     ∷ key Extension (codes "3ga") false (reading is-video-3gpp Bytes rows-3gp rows-mp4 no-rows any-lead ∷ [])
     ∷ key Extension (codes "icc") false (reading is-application-vnd-iccprofile Bytes rows-icc no-rows no-rows any-lead ∷ [])
@@ -103,6 +110,7 @@ keys =
     ∷ key Extension (codes "cginc") false (reading is-text-x-hlsl Text no-rows rows-txt no-rows any-lead ∷ [])
     ∷ key Extension (codes "ts") false (reading is-video-mp2t Bytes rows-ts no-rows no-rows any-lead ∷ reading is-text-x-typescript Text no-rows rows-sh-txt no-rows any-lead ∷ reading is-text-vnd-trolltech-linguist Text rows-lingts rows-html-txt-xhtml-xml no-rows leads-10 ∷ [])
     ∷ key Extension (codes "sqsh") false (reading is-application-vnd-squashfs Signature rows-squashfs no-rows no-rows any-lead ∷ [])
+    ∷ key Extension (codes "src.rpm") false (reading is-application-x-source-rpm Signature rows-srpm rows-rpm no-rows any-lead ∷ [])
     ∷ key Extension (codes "gba") false (reading is-application-x-gba-rom Bytes no-rows no-rows no-rows any-lead ∷ [])
     ∷ key Extension (codes "mbx") false (reading is-application-mbox Text no-rows rows-txt no-rows any-lead ∷ [])
     ∷ key Extension (codes "geom") false (reading is-text-x-glsl Text no-rows rows-txt no-rows any-lead ∷ [])
@@ -113,6 +121,7 @@ keys =
     ∷ key Extension (codes "asn1") false (reading is-text-x-asn1 Text no-rows rows-txt no-rows any-lead ∷ [])
     ∷ key Extension (codes "re") true (reading is-text-plain Text rows-txt no-rows text-rows any-lead ∷ [])
     ∷ key Extension (codes "n64") false (reading is-application-x-n64-rom Bytes rows-n64 no-rows no-rows any-lead ∷ [])
+    ∷ key Extension (codes "qti") true (reading is-application-x-qtiplot Text rows-qti no-rows no-rows any-lead ∷ [])
     ∷ key Extension (codes "fish") false (reading is-application-x-fishscript Text rows-fish rows-sh-txt no-rows any-lead ∷ [])
     ∷ key Extension (codes "gs") false (reading is-text-x-genie Text no-rows rows-txt no-rows any-lead ∷ [])
     ∷ key Extension (codes "e") false (reading is-text-plain Text rows-txt no-rows text-rows any-lead ∷ [])
@@ -126,6 +135,7 @@ keys =
     ∷ key Extension (codes "nginx") false (reading is-text-x-nginx-conf Text no-rows rows-txt no-rows any-lead ∷ [])
     ∷ key Extension (codes "tcx") false (reading is-application-vnd-garmin-tcx-xml Text no-rows rows-html-txt-xhtml-xml no-rows leads-10 ∷ [])
     ∷ key Whole (codes ".irbrc") false (reading is-text-x-ruby Text rows-rb rows-sh-txt no-rows any-lead ∷ [])
+    ∷ key Extension (codes "wpl") false (reading is-application-vnd-ms-wpl Text rows-wpl rows-html-txt-xml no-rows leads-10 ∷ [])
     ∷ key Extension (codes "step") false (reading is-model-step Text rows-model-step rows-txt no-rows any-lead ∷ [])
     ∷ key Extension (codes "dbk") false (reading is-application-x-docbook-xml Text no-rows rows-html-txt-xhtml-xml no-rows leads-10 ∷ [])
     ∷ key Extension (codes "ipa") false (reading is-application-x-ios-app Signature no-rows rows-zip no-rows any-lead ∷ [])
@@ -174,7 +184,10 @@ keys =
     ∷ key Extension (codes "sage") false (reading is-text-x-sagemath Text no-rows rows-sh-txt no-rows any-lead ∷ [])
     ∷ key Extension (codes "arb") false (reading is-application-x-arb-json Text no-rows rows-json no-rows any-lead ∷ [])
     ∷ key Extension (codes "caf") false (reading is-audio-x-caf Bytes rows-caf no-rows no-rows any-lead ∷ [])
+    ∷ key Extension (codes "gem") true (reading is-application-x-ruby-gem Signature rows-gem rows-tar no-rows any-lead ∷ [])
+    ∷ key Extension (codes "info") true (reading is-text-x-info Text rows-info no-rows no-rows any-lead ∷ [])
     ∷ key Extension (codes "preseed") false (reading is-text-x-preseed Text no-rows rows-txt no-rows any-lead ∷ [])
+    ∷ key Extension (codes "sk") true (reading is-image-x-skencil Text rows-sk no-rows no-rows any-lead ∷ [])
     ∷ key Extension (codes "glb") false (reading is-model-gltf-binary Signature rows-glb no-rows no-rows any-lead ∷ [])
     ∷ key Extension (codes "mly") false (reading is-text-x-ocaml Text rows-ml rows-sh-txt no-rows any-lead ∷ [])
     ∷ key Extension (codes "otp") false (reading is-application-vnd-oasis-opendocument-presentation-template Signature rows-otp rows-odp-zip no-rows any-lead ∷ [])
@@ -194,6 +207,7 @@ keys =
     ∷ key Extension (codes "map") true (reading is-application-sourcemap-json Text no-rows rows-json no-rows any-lead ∷ reading is-text-plain Text rows-txt no-rows text-rows any-lead ∷ [])
     ∷ key Extension (codes "cocci") false (reading is-text-x-cocci Text no-rows rows-txt no-rows any-lead ∷ [])
     ∷ key Whole (codes "requirements-dev.txt") false (reading is-text-plain Text rows-txt no-rows text-rows any-lead ∷ [])
+    ∷ key Extension (codes "qgz") false (reading is-application-x-qgis-project-as-row-qgz Signature rows-qgz rows-zip no-rows any-lead ∷ [])
     ∷ key Extension (codes "pd_lua") false (reading is-text-x-lua Text rows-lua rows-sh-txt no-rows any-lead ∷ [])
     ∷ key Extension (codes "m2") false (reading is-text-x-modula Text no-rows rows-txt no-rows any-lead ∷ [])
     ∷ key Extension (codes "asy") false (reading is-text-x-asymptote Text no-rows rows-txt no-rows any-lead ∷ [])
@@ -227,6 +241,7 @@ keys =
     ∷ key Extension (codes "ko") true (reading is-application-x-object Signature rows-o rows-elf no-rows any-lead ∷ [])
     ∷ key Extension (codes "bz2") false (reading is-application-x-bzip2 Signature rows-bz2 no-rows no-rows any-lead ∷ [])
     ∷ key Extension (codes "odg") false (reading is-application-vnd-oasis-opendocument-graphics Signature rows-odg rows-zip no-rows any-lead ∷ [])
+    ∷ key Extension (codes "ccmx") false (reading is-application-x-ccmx Text rows-ccmx rows-txt no-rows any-lead ∷ [])
     ∷ key Extension (codes "jmod") false (reading is-application-x-java-jmod Signature rows-jmod no-rows no-rows any-lead ∷ [])
     ∷ key Extension (codes "gds") false (reading is-application-x-gds Bytes no-rows no-rows no-rows any-lead ∷ [])
     ∷ key Extension (codes "tflite") false (reading is-application-x-tflite Bytes no-rows no-rows no-rows any-lead ∷ [])

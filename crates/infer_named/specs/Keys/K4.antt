@@ -2,8 +2,8 @@
 use Rattle.std.specs.Prelude.{List, [], ◌∷◌, codes, false, true}
 use Rattle.infer_named.specs.Key.{Key, key}
 use Rattle.infer_named.specs.Listed.{reading}
-use Rattle.infer_named.specs.Sets.{any-lead, leads-10, leads-11, no-rows, rows-3g2-3gp-f4v-m4a-m4b-m4v-mov, rows-3mf-apk-application-vnd-apple-keynote-chrt-docx-epub-fbz-fcstd-flw-iwa-jar-karbon-kfo-kmz-kon-kpr-kra-ksp-kwd-mscz-odb-odc-odf-odg-odi-odp-ods-odt-ora-otg-otp-ots-ott-pkpass-pptx-qgz-sxc-sxd-sxi-sxm-sxw-vsdx-xap-xlsx, rows-7z, rows-accdb, rows-age-asc-cms-crl-application-x-pem-key-csr-openssh-p7c-param-pgp-pubkey-sig-sshsig, rows-amr, rows-apk-jar-zip, rows-application-x-msi, rows-application-x-ole-storage, rows-arrow, rows-asc, rows-avi, rows-bmp, rows-bplist, rows-bz2, rows-bz2-gz-xz, rows-bz3, rows-cr2, rows-cr2-dng, rows-cr3, rows-crl, rows-csr-p10, rows-der-pem-txt, rows-dex, rows-epub, rows-escript, rows-exe, rows-fits, rows-gbr, rows-gif, rows-gjs-js, rows-gnuplot, rows-gpg, rows-gpx, rows-gz, rows-gz-xml, rows-hdf5, rows-heic, rows-heics-heif, rows-heif, rows-hs, rows-html-json-php-svg-txt-xhtml-xml, rows-html-txt-xhtml-xml, rows-html-txt-xml, rows-ics, rows-jceks, rows-json, rows-json-plist-txt-xml, rows-json-sh-txt, rows-json-txt, rows-jxl, rows-lz, rows-lzh, rows-m3u8, rows-m4a, rows-m4b-m4v-mp4, rows-mk, rows-ml, rows-mmf, rows-mp4, rows-odi, rows-ora, rows-p7b-p7c, rows-par2, rows-pcx, rows-pem, rows-pfa-pfb, rows-pgp, rows-pl, rows-plist, rows-ps-sh-txt, rows-ps-txt, rows-pst, rows-py, rows-py-sh-zip, rows-pyc, rows-qcow2, rows-ra, rows-rb, rows-rpm, rows-scala, rows-sed, rows-sgf, rows-sh, rows-sh-txt, rows-shp, rows-shx, rows-srpm, rows-svg, rows-swf, rows-tcl, rows-tif, rows-tta, rows-ttc, rows-txt, rows-txt-xml, rows-tzif, rows-usdc, rows-vhd, rows-vsdx-zip, rows-warc, rows-wv, rows-xls, rows-xm, rows-xpm, rows-xz, rows-z, rows-zip, text-rows}
-use Rattle.infer_named.specs.Types.{is-application-atomsvc-xml, is-application-bpmn-xml, is-application-epub-zip, is-application-geo-json, is-application-gml-xml, is-application-gpx-xml, is-application-json, is-application-mbox, is-application-n-triples, is-application-pgp-encrypted, is-application-pgp-keys-as-row-asc, is-application-pgp-keys-as-row-gpg, is-application-pkcs10, is-application-pkcs7-mime, is-application-pkix-crl, is-application-toml, is-application-topo-json, is-application-trig, is-application-ttml-xml, is-application-tzif, is-application-vnd-android-dex, is-application-vnd-apache-arrow-file, is-application-vnd-bzip3, is-application-vnd-coffeescript, is-application-vnd-lotus-1-2-3, is-application-vnd-microsoft-portable-executable, is-application-vnd-ms-excel, is-application-vnd-ms-outlook-pst, is-application-vnd-ms-visio-drawing-macroenabled-main-xml, is-application-vnd-oasis-opendocument-image, is-application-vnd-shp, is-application-vnd-smaf, is-application-vnd-wordperfect, is-application-warc, is-application-x-apkm, is-application-x-apple-diskimage, is-application-x-arc, is-application-x-archive-dar, is-application-x-bash, is-application-x-bplist, is-application-x-bzip-compressed-tar, is-application-x-bzip2, is-application-x-cb7, is-application-x-cd-image, is-application-x-compressed-tar, is-application-x-devhelp-xml, is-application-x-dia-diagram, is-application-x-eclipse-xml, is-application-x-erb, is-application-x-font-type1, is-application-x-gameboy-rom, is-application-x-gnuplot, is-application-x-go-sgf, is-application-x-godot-package, is-application-x-gschema-xml, is-application-x-jasper-xml, is-application-x-java-jce-keystore, is-application-x-java-serialized-object, is-application-x-jsonc, is-application-x-kdenlive, is-application-x-kerberos-keytab, is-application-x-ksh, is-application-x-lzh-compressed, is-application-x-lzip-compressed-tar, is-application-x-msaccess-as-row-accdb, is-application-x-msbuild-xml, is-application-x-msi, is-application-x-netcdf, is-application-x-par2, is-application-x-phylip, is-application-x-plist, is-application-x-pov, is-application-x-ps1xml, is-application-x-python-bytecode, is-application-x-python-zipapp, is-application-x-qemu-disk, is-application-x-r-data, is-application-x-rpm, is-application-x-sas-data, is-application-x-shockwave-flash, is-application-x-tarz, is-application-x-theme-xml, is-application-x-unity-asset, is-application-x-usdc, is-application-x-vhd-disk, is-application-x-vim-spell, is-application-x-vim-swap, is-application-x-virtualbox-saved-state, is-application-x-wix-xml, is-application-x-x509-ca-cert-as-row-pem, is-application-x-xz, is-application-x-xz-compressed-tar, is-application-xml, is-application-zip, is-audio-amr, is-audio-m4a, is-audio-sf2, is-audio-vnd-rn-realaudio, is-audio-x-mpegurl, is-audio-x-tta, is-audio-x-wavpack, is-audio-x-xm, is-font-collection, is-image-bmp, is-image-fits, is-image-geotiff, is-image-gif, is-image-heic, is-image-jxl, is-image-openraster, is-image-svg-xml, is-image-tiff, is-image-vnd-zbrush-pcx, is-image-x-canon-cr2, is-image-x-canon-cr3, is-image-x-gimp-gbr, is-image-x-nikon-nef, is-model-vnd-collada-xml, is-model-x3d-vrml, is-multipart-related, is-text-calendar, is-text-css, is-text-javascript, is-text-markdown, is-text-plain, is-text-troff, is-text-wgsl, is-text-x-agda, is-text-x-aidl, is-text-x-apacheconf, is-text-x-asm, is-text-x-autoconf, is-text-x-basic, is-text-x-bitbake, is-text-x-blade, is-text-x-c-hdr, is-text-x-c-src, is-text-x-chdr, is-text-x-checksums, is-text-x-cmake, is-text-x-cppconf, is-text-x-csharp, is-text-x-csound, is-text-x-cuda, is-text-x-cwl, is-text-x-debian-control, is-text-x-dimacs, is-text-x-dockerfile, is-text-x-dotenv, is-text-x-ebnf, is-text-x-erlang, is-text-x-factor, is-text-x-fortran, is-text-x-fsharp, is-text-x-gdb, is-text-x-gerber, is-text-x-gherkin, is-text-x-gitignore, is-text-x-glsl, is-text-x-go, is-text-x-gosum, is-text-x-gotemplate, is-text-x-gradle, is-text-x-haskell, is-text-x-hcl, is-text-x-idris, is-text-x-kconfig, is-text-x-ld-script, is-text-x-less, is-text-x-lilypond, is-text-x-livescript, is-text-x-makefile, is-text-x-mediawiki, is-text-x-ms-regedit, is-text-x-newick, is-text-x-ocaml, is-text-x-ooc, is-text-x-oz, is-text-x-perl, is-text-x-postcss, is-text-x-puppet, is-text-x-python-as-row-py, is-text-x-readline, is-text-x-rmarkdown, is-text-x-rpm-spec, is-text-x-ruby, is-text-x-scala, is-text-x-sed, is-text-x-shell-config, is-text-x-shellscript, is-text-x-sourcepawn, is-text-x-starlark, is-text-x-stata, is-text-x-svhdr, is-text-x-svsrc, is-text-x-tcl, is-text-x-thrift, is-text-x-twig, is-text-x-typst, is-text-x-uri, is-text-x-vhdl, is-text-x-xcu-rng, is-text-x-xonsh, is-video-mp4, is-video-x-msvideo}
+use Rattle.infer_named.specs.Sets.{any-lead, leads-10, leads-11, no-rows, rows-3g2-3gp-f4v-m4a-m4b-m4v-mov, rows-3mf-apk-application-vnd-apple-keynote-chrt-docx-epub-fbz-fcstd-flw-iwa-jar-karbon-kfo-kmz-kon-kpr-kra-ksp-kwd-mscz-odb-odc-odf-odg-odi-odp-ods-odt-ora-otg-otp-ots-ott-pkpass-pptx-qgz-sxc-sxd-sxi-sxm-sxw-vsdx-xap-xlsx, rows-7z, rows-accdb, rows-age-asc-cms-crl-application-x-pem-key-csr-openssh-p7c-param-pgp-pubkey-sig-sshsig, rows-amr, rows-apk-jar-zip, rows-application-x-msi, rows-application-x-ole-storage, rows-arrow, rows-asc, rows-avi, rows-bmp, rows-bplist, rows-bz2, rows-bz2-gz-xz, rows-bz3, rows-cr2, rows-cr2-dng, rows-cr3, rows-crl, rows-csr-p10, rows-czi, rows-der-pem-txt, rows-dex, rows-epub, rows-escript, rows-exe, rows-fits, rows-gbr, rows-gif, rows-gjs-js, rows-gnuplot, rows-gpg, rows-gpx, rows-gz, rows-gz-xml, rows-hdf5, rows-heic, rows-heics-heif, rows-heif, rows-hfe, rows-hs, rows-html-json-php-svg-txt-xhtml-xml, rows-html-txt-xhtml-xml, rows-html-txt-xml, rows-ics, rows-jceks, rows-jp2, rows-jpm, rows-json, rows-json-plist-txt-xml, rows-json-sh-txt, rows-json-txt, rows-jxl, rows-lz, rows-lzh, rows-m3u8, rows-m4a, rows-m4b-m4v-mp4, rows-mk, rows-ml, rows-mmf, rows-mp4, rows-nzb, rows-odi, rows-ora, rows-p7b-p7c, rows-pack200, rows-par2, rows-pcx, rows-pem, rows-pfa-pfb, rows-pgp, rows-pl, rows-plist, rows-ps-sh-txt, rows-ps-txt, rows-pst, rows-py, rows-py-sh-zip, rows-pyc, rows-qcow2, rows-r3d, rows-ra, rows-rb, rows-rpm, rows-scala, rows-sdw, rows-sed, rows-sgf, rows-sh, rows-sh-txt, rows-shp, rows-shx, rows-srpm, rows-svg, rows-swf, rows-tcl, rows-tif, rows-tta, rows-ttc, rows-txt, rows-txt-xml, rows-tzif, rows-usdc, rows-vhd, rows-vsdx-zip, rows-warc, rows-wv, rows-xls, rows-xm, rows-xpm, rows-xz, rows-z, rows-zip, text-rows}
+use Rattle.infer_named.specs.Types.{is-application-atomsvc-xml, is-application-bpmn-xml, is-application-epub-zip, is-application-geo-json, is-application-gml-xml, is-application-gpx-xml, is-application-json, is-application-mbox, is-application-n-triples, is-application-pgp-encrypted, is-application-pgp-keys-as-row-asc, is-application-pgp-keys-as-row-gpg, is-application-pkcs10, is-application-pkcs7-mime, is-application-pkix-crl, is-application-toml, is-application-topo-json, is-application-trig, is-application-ttml-xml, is-application-tzif, is-application-vnd-android-dex, is-application-vnd-apache-arrow-file, is-application-vnd-bzip3, is-application-vnd-coffeescript, is-application-vnd-lotus-1-2-3, is-application-vnd-microsoft-portable-executable, is-application-vnd-ms-excel, is-application-vnd-ms-outlook-pst, is-application-vnd-ms-visio-drawing-macroenabled-main-xml, is-application-vnd-oasis-opendocument-image, is-application-vnd-shp, is-application-vnd-smaf, is-application-vnd-stardivision-writer, is-application-vnd-wordperfect, is-application-warc, is-application-x-apkm, is-application-x-apple-diskimage, is-application-x-arc, is-application-x-archive-dar, is-application-x-bash, is-application-x-bplist, is-application-x-bzip-compressed-tar, is-application-x-bzip2, is-application-x-cb7, is-application-x-cd-image, is-application-x-compressed-tar, is-application-x-devhelp-xml, is-application-x-dia-diagram, is-application-x-eclipse-xml, is-application-x-erb, is-application-x-font-type1, is-application-x-gameboy-rom, is-application-x-gnuplot, is-application-x-go-sgf, is-application-x-godot-package, is-application-x-gschema-xml, is-application-x-hfe-floppy-image, is-application-x-jasper-xml, is-application-x-java-jce-keystore, is-application-x-java-pack200, is-application-x-java-serialized-object, is-application-x-jsonc, is-application-x-kdenlive, is-application-x-kerberos-keytab, is-application-x-ksh, is-application-x-lzh-compressed, is-application-x-lzip-compressed-tar, is-application-x-msaccess-as-row-accdb, is-application-x-msbuild-xml, is-application-x-msi, is-application-x-netcdf, is-application-x-nzb, is-application-x-par2, is-application-x-phylip, is-application-x-plist, is-application-x-pov, is-application-x-ps1xml, is-application-x-python-bytecode, is-application-x-python-zipapp, is-application-x-qemu-disk, is-application-x-r-data, is-application-x-rpm, is-application-x-sas-data, is-application-x-shockwave-flash, is-application-x-tarz, is-application-x-theme-xml, is-application-x-unity-asset, is-application-x-usdc, is-application-x-vhd-disk, is-application-x-vim-spell, is-application-x-vim-swap, is-application-x-virtualbox-saved-state, is-application-x-wix-xml, is-application-x-x509-ca-cert-as-row-pem, is-application-x-xz, is-application-x-xz-compressed-tar, is-application-xml, is-application-zip, is-audio-amr, is-audio-m4a, is-audio-sf2, is-audio-vnd-rn-realaudio, is-audio-x-mpegurl, is-audio-x-tta, is-audio-x-wavpack, is-audio-x-xm, is-font-collection, is-image-bmp, is-image-fits, is-image-geotiff, is-image-gif, is-image-heic, is-image-jpm, is-image-jxl, is-image-openraster, is-image-svg-xml, is-image-tiff, is-image-vnd-zbrush-pcx, is-image-x-canon-cr2, is-image-x-canon-cr3, is-image-x-gimp-gbr, is-image-x-nikon-nef, is-image-x-zeiss-czi, is-model-vnd-collada-xml, is-model-x3d-vrml, is-multipart-related, is-text-calendar, is-text-css, is-text-javascript, is-text-markdown, is-text-plain, is-text-troff, is-text-wgsl, is-text-x-agda, is-text-x-aidl, is-text-x-apacheconf, is-text-x-asm, is-text-x-autoconf, is-text-x-basic, is-text-x-bitbake, is-text-x-blade, is-text-x-c-hdr, is-text-x-c-src, is-text-x-chdr, is-text-x-checksums, is-text-x-cmake, is-text-x-cppconf, is-text-x-csharp, is-text-x-csound, is-text-x-cuda, is-text-x-cwl, is-text-x-debian-control, is-text-x-dimacs, is-text-x-dockerfile, is-text-x-dotenv, is-text-x-ebnf, is-text-x-erlang, is-text-x-factor, is-text-x-fortran, is-text-x-fsharp, is-text-x-gdb, is-text-x-gerber, is-text-x-gherkin, is-text-x-gitignore, is-text-x-glsl, is-text-x-go, is-text-x-gosum, is-text-x-gotemplate, is-text-x-gradle, is-text-x-haskell, is-text-x-hcl, is-text-x-idris, is-text-x-kconfig, is-text-x-ld-script, is-text-x-less, is-text-x-lilypond, is-text-x-livescript, is-text-x-makefile, is-text-x-mediawiki, is-text-x-ms-regedit, is-text-x-newick, is-text-x-ocaml, is-text-x-ooc, is-text-x-oz, is-text-x-perl, is-text-x-postcss, is-text-x-puppet, is-text-x-python-as-row-py, is-text-x-readline, is-text-x-rmarkdown, is-text-x-rpm-spec, is-text-x-ruby, is-text-x-scala, is-text-x-sed, is-text-x-shell-config, is-text-x-shellscript, is-text-x-sourcepawn, is-text-x-starlark, is-text-x-stata, is-text-x-svhdr, is-text-x-svsrc, is-text-x-tcl, is-text-x-thrift, is-text-x-twig, is-text-x-typst, is-text-x-uri, is-text-x-vhdl, is-text-x-xcu-rng, is-text-x-xonsh, is-video-mp4, is-video-x-msvideo, is-video-x-red-r3d}
 use Rattle.infer_named.specs.declared.table.Asks.TheVariants.{Bytes, Signature, Text}
 use Rattle.infer_named.specs.declared.table.Part.TheVariants.{Extension, Whole}
 
@@ -21,6 +21,7 @@ keys =
     ∷ key Extension (codes "css") false (reading is-text-css Text no-rows rows-txt no-rows any-lead ∷ [])
     ∷ key Extension (codes "dia") false (reading is-application-x-dia-diagram Signature no-rows rows-gz-xml no-rows any-lead ∷ [])
     ∷ key Extension (codes "cfg") false (reading is-text-plain Text rows-txt no-rows text-rows any-lead ∷ [])
+    ∷ key Extension (codes "jpm") false (reading is-image-jpm Signature rows-jpm rows-jp2 no-rows any-lead ∷ [])
     ∷ key Extension (codes "flf") false (reading is-text-x-xcu-rng Text no-rows rows-txt no-rows any-lead ∷ [])
     ∷ key Extension (codes "bbclass") false (reading is-text-x-bitbake Text no-rows rows-txt no-rows any-lead ∷ [])
     ∷ key Whole (codes "guardfile") false (reading is-text-x-ruby Text rows-rb rows-sh-txt no-rows any-lead ∷ [])
@@ -42,6 +43,7 @@ keys =
     ∷ key Extension (codes "p7b") false (reading is-application-pkcs7-mime Bytes rows-p7b-p7c rows-pem no-rows any-lead ∷ [])
     ∷ key Extension (codes "vsdm") false (reading is-application-vnd-ms-visio-drawing-macroenabled-main-xml Signature no-rows rows-vsdx-zip no-rows any-lead ∷ [])
     ∷ key Extension (codes "glslf") false (reading is-text-x-glsl Text no-rows rows-txt no-rows any-lead ∷ [])
+    ∷ key Extension (codes "hfe") false (reading is-application-x-hfe-floppy-image Bytes rows-hfe no-rows no-rows any-lead ∷ [])
     ∷ key Extension (codes "h") false (reading is-text-x-chdr Text no-rows rows-txt rows-xpm any-lead ∷ [])
     ∷ key Extension (codes "mht") false (reading is-multipart-related Text no-rows rows-txt no-rows any-lead ∷ [])
     ∷ key Extension (codes "spec") false (reading is-text-x-rpm-spec Text no-rows rows-txt no-rows any-lead ∷ [])
@@ -58,6 +60,7 @@ keys =
     ∷ key Extension (codes "dsp") false (reading is-text-plain Text rows-txt no-rows text-rows any-lead ∷ [])
     ∷ key Extension (codes "cuh") false (reading is-text-x-cuda Text no-rows rows-txt no-rows any-lead ∷ [])
     ∷ key Extension (codes "blade.php") false (reading is-text-x-blade Text no-rows rows-html-json-php-svg-txt-xhtml-xml no-rows any-lead ∷ [])
+    ∷ key Extension (codes "sdw") false (reading is-application-vnd-stardivision-writer Signature rows-sdw rows-application-x-ole-storage no-rows any-lead ∷ [])
     ∷ key Extension (codes "fx") false (reading is-text-plain Text rows-txt no-rows text-rows any-lead ∷ [])
     ∷ key Extension (codes "pem") false (reading is-application-x-x509-ca-cert-as-row-pem Text rows-pem rows-txt rows-age-asc-cms-crl-application-x-pem-key-csr-openssh-p7c-param-pgp-pubkey-sig-sshsig any-lead ∷ [])
     ∷ key Extension (codes "factor") false (reading is-text-x-factor Text no-rows rows-sh-txt no-rows any-lead ∷ [])
@@ -70,6 +73,7 @@ keys =
     ∷ key Whole (codes ".classpath") false (reading is-application-x-eclipse-xml Text no-rows rows-html-txt-xhtml-xml no-rows leads-10 ∷ [])
     ∷ key Extension (codes "hsc") false (reading is-text-x-haskell Text rows-hs rows-sh-txt no-rows any-lead ∷ [])
     ∷ key Extension (codes "pgp") true (reading is-application-pgp-keys-as-row-asc Text rows-asc no-rows no-rows any-lead ∷ reading is-application-pgp-encrypted Text rows-pgp no-rows no-rows any-lead ∷ reading is-application-pgp-keys-as-row-gpg Bytes rows-gpg no-rows no-rows any-lead ∷ [])
+    ∷ key Extension (codes "r3d") true (reading is-video-x-red-r3d Signature rows-r3d no-rows no-rows any-lead ∷ [])
     ∷ key Extension (codes "povray") false (reading is-application-x-pov Text no-rows rows-txt no-rows any-lead ∷ [])
     ∷ key Extension (codes "sas7bdat") false (reading is-application-x-sas-data Bytes no-rows no-rows no-rows any-lead ∷ [])
     ∷ key Extension (codes "sublime-project") false (reading is-application-x-jsonc Text no-rows rows-txt rows-json any-lead ∷ [])
@@ -176,6 +180,7 @@ keys =
     ∷ key Extension (codes "nef") false (reading is-image-x-nikon-nef Signature no-rows rows-tif no-rows any-lead ∷ [])
     ∷ key Extension (codes "ld") true (reading is-text-x-ld-script Text no-rows rows-txt no-rows any-lead ∷ [])
     ∷ key Extension (codes "ksh") false (reading is-application-x-ksh Text no-rows rows-sh-txt no-rows any-lead ∷ [])
+    ∷ key Extension (codes "czi") false (reading is-image-x-zeiss-czi Signature rows-czi no-rows no-rows any-lead ∷ [])
     ∷ key Extension (codes "xpy") false (reading is-text-x-python-as-row-py Text rows-py rows-json-sh-txt no-rows any-lead ∷ [])
     ∷ key Extension (codes "ls") false (reading is-text-x-livescript Text no-rows rows-sh-txt no-rows any-lead ∷ [])
     ∷ key Extension (codes "mbox") false (reading is-application-mbox Text no-rows rows-txt no-rows any-lead ∷ [])
@@ -205,6 +210,7 @@ keys =
     ∷ key Extension (codes "warc") false (reading is-application-warc Signature rows-warc no-rows no-rows any-lead ∷ [])
     ∷ key Extension (codes "pck") false (reading is-application-x-godot-package Bytes no-rows no-rows no-rows any-lead ∷ [])
     ∷ key Extension (codes "xapk") false (reading is-application-x-apkm Signature no-rows rows-apk-jar-zip no-rows any-lead ∷ [])
+    ∷ key Extension (codes "pack") true (reading is-application-x-java-pack200 Signature rows-pack200 no-rows no-rows any-lead ∷ [])
     ∷ key Whole (codes "cmakelists.txt") false (reading is-text-x-cmake Text no-rows rows-txt no-rows any-lead ∷ [])
     ∷ key Extension (codes "msp") false (reading is-application-x-msi Signature rows-application-x-msi rows-application-x-ole-storage no-rows any-lead ∷ [])
     ∷ key Extension (codes "pyo") false (reading is-application-x-python-bytecode Bytes rows-pyc no-rows no-rows any-lead ∷ [])
@@ -247,6 +253,7 @@ keys =
     ∷ key Extension (codes "twig") false (reading is-text-x-twig Text no-rows rows-html-json-php-svg-txt-xhtml-xml no-rows any-lead ∷ [])
     ∷ key Extension (codes "feature") false (reading is-text-x-gherkin Text no-rows rows-txt no-rows any-lead ∷ [])
     ∷ key Extension (codes "m4p") false (reading is-audio-m4a Bytes rows-m4a rows-m4b-m4v-mp4 no-rows any-lead ∷ [])
+    ∷ key Extension (codes "nzb") false (reading is-application-x-nzb Text rows-nzb rows-html-txt-xhtml-xml no-rows leads-10 ∷ [])
     ∷ key Extension (codes "odi") false (reading is-application-vnd-oasis-opendocument-image Signature rows-odi rows-zip no-rows any-lead ∷ [])
     ∷ key Extension (codes "shp") false (reading is-application-vnd-shp Signature rows-shp no-rows rows-shx any-lead ∷ [])
     ∷ key Extension (codes "nasm") false (reading is-text-x-asm Text no-rows rows-txt no-rows any-lead ∷ [])

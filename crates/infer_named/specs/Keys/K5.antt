@@ -2,8 +2,8 @@
 use Rattle.std.specs.Prelude.{List, [], ◌∷◌, codes, false, true}
 use Rattle.infer_named.specs.Key.{Key, key}
 use Rattle.infer_named.specs.Listed.{reading}
-use Rattle.infer_named.specs.Sets.{any-lead, leads-10, leads-7, no-rows, rows-3g2, rows-3gp-mp4, rows-3mf-apk-application-vnd-apple-keynote-chrt-docx-epub-fbz-fcstd-flw-iwa-jar-karbon-kfo-kmz-kon-kpr-kra-ksp-kwd-mscz-odb-odc-odf-odg-odi-odp-ods-odt-ora-otg-otp-ots-ott-pkpass-pptx-qgz-sxc-sxd-sxi-sxm-sxw-vsdx-xap-xlsx, rows-7z, rows-accdb, rows-anim, rows-apk-jar-zip, rows-apng, rows-appimage, rows-application-x-ole-storage, rows-application-x-ole-storage-zip, rows-ar, rows-aup3-fossil-gpkg-mbtiles-mtn, rows-beam, rows-bgzf-karbon-kil-kpr-ksp-kwd, rows-blend, rows-bmp, rows-bookmarks, rows-bz2, rows-bz2-gz-xz, rows-chm, rows-csh, rows-deb-goa, rows-der-p7b-pem, rows-dff, rows-docm-docx-application-x-ole-storage-zip, rows-docx, rows-dts, rows-elf, rows-emf, rows-escript, rows-evtx, rows-flv, rows-gbs, rows-gjs-js, rows-groovy, rows-gz, rows-gz-zst, rows-hdf5, rows-hdr, rows-heics, rows-heif, rows-hlp, rows-hs, rows-html, rows-html-json-php-svg-txt-xhtml-xml, rows-html-sh-svg-txt-xhtml-xml, rows-html-txt-xhtml-xml, rows-ilbm, rows-jls, rows-jp2, rows-jpg, rows-json, rows-json-ndjson-txt, rows-json-plist-txt-xml, rows-json-sh-txt, rows-json-txt, rows-kate-oga-ogm-ogv-ogx-opus-spx-vorbis, rows-kra, rows-lrz, rows-lua, rows-lz4, rows-m4a-mp4, rows-m4b, rows-mdb, rows-mj2, rows-mk, rows-mkv, rows-ml, rows-mo3, rows-mpg, rows-mpp, rows-ndjson, rows-o, rows-ods-zip, rows-odt-zip, rows-ogg, rows-ogv, rows-orc, rows-ots, rows-ott, rows-p12, rows-pdf, rows-php, rows-php-svg-txt-xhtml-xml, rows-pl, rows-plist-txt-xml, rows-pls, rows-png, rows-ps-sh-txt, rows-ps-txt, rows-puml, rows-py, rows-r, rows-raku, rows-rar, rows-rb, rows-safetensors, rows-scala, rows-sgi, rows-sh-txt, rows-sqlite, rows-t2t, rows-tcl, rows-texi, rows-tif, rows-tscn, rows-ttc, rows-txt, rows-txt-yaml, rows-vcf, rows-vsdx-zip, rows-wasm, rows-webm, rows-wim, rows-xls, rows-xlsx, rows-xpm, rows-yaml, rows-zip, text-rows}
-use Rattle.infer_named.specs.Types.{is-application-atomcat-xml, is-application-edn, is-application-gzip, is-application-onnx, is-application-pdf, is-application-pkcs12, is-application-pkcs7-signature, is-application-schema-json, is-application-smil-xml, is-application-vnd-appimage, is-application-vnd-apple-pages, is-application-vnd-comicbook-rar, is-application-vnd-hp-pcl, is-application-vnd-lotus-1-2-3, is-application-vnd-mozilla-xul-xml, is-application-vnd-ms-excel, is-application-vnd-ms-htmlhelp, is-application-vnd-ms-project, is-application-vnd-ms-visio-template-main-xml, is-application-vnd-ms-word-template-macroenabled-12, is-application-vnd-nintendo-snes-rom, is-application-vnd-oasis-opendocument-spreadsheet-template, is-application-vnd-oasis-opendocument-text-template, is-application-vnd-openxmlformats-officedocument-spreadsheetml-sheet, is-application-vnd-openxmlformats-officedocument-wordprocessingml-document, is-application-vnd-sqlite3, is-application-vnd-wordperfect, is-application-wasm, is-application-winhlp, is-application-wsdl-xml, is-application-x-7z-compressed, is-application-x-ace, is-application-x-apkm, is-application-x-blender, is-application-x-bzip-compressed-tar, is-application-x-cml-xml, is-application-x-csh, is-application-x-device-tree-blob, is-application-x-entitlements, is-application-x-erlang-beam, is-application-x-glib-typelib, is-application-x-godot-scene, is-application-x-hdf5, is-application-x-intellij-xml, is-application-x-krita, is-application-x-lrzip, is-application-x-lz4-compressed-tar, is-application-x-matlab-data, is-application-x-ms-evtx, is-application-x-ms-registry-hive, is-application-x-ms-wim, is-application-x-msaccess-as-row-accdb, is-application-x-msaccess-as-row-mdb, is-application-x-msbuild-xml, is-application-x-ndjson, is-application-x-netcdf, is-application-x-nuspec-xml, is-application-x-object, is-application-x-orc, is-application-x-profraw, is-application-x-quattropro, is-application-x-r-data, is-application-x-safetensors, is-application-x-scxml-xml, is-application-x-shared-library-la, is-application-x-theme-xml, is-application-x-unix-archive, is-application-x-urdf-xml, is-application-xliff-xml, is-application-xproc-xml, is-application-xslt-xml, is-application-yaml, is-application-zip, is-audio-ogg-as-row-ogg, is-audio-vnd-audible, is-audio-vnd-dts, is-audio-x-dff, is-audio-x-gbs, is-audio-x-m4b, is-audio-x-mo3, is-audio-x-scpls, is-chemical-x-cif, is-chemical-x-mdl-molfile, is-font-collection, is-image-bmp, is-image-emf, is-image-heic-sequence, is-image-jpeg, is-image-png, is-image-vnd-radiance, is-image-x-epson-erf, is-image-x-ilbm, is-image-x-minolta-mrw, is-image-x-sgi, is-image-x-tga, is-image-x-xpixmap, is-model-mtl, is-multipart-related, is-text-csv, is-text-html, is-text-javascript, is-text-plain, is-text-tab-separated-values, is-text-uri-list, is-text-vcard, is-text-vnd-familysearch-gedcom, is-text-x-abap, is-text-x-asn1, is-text-x-ballerina, is-text-x-bats, is-text-x-bed, is-text-x-bicep, is-text-x-bpftrace, is-text-x-cfm, is-text-x-cobol, is-text-x-csound, is-text-x-cypher, is-text-x-dune, is-text-x-ebnf, is-text-x-ejs, is-text-x-emacs-lisp, is-text-x-erlang, is-text-x-fennel, is-text-x-freemarker, is-text-x-gerber, is-text-x-gettext-translation, is-text-x-gitconfig, is-text-x-gitignore, is-text-x-glsl, is-text-x-gn, is-text-x-groovy, is-text-x-handlebars, is-text-x-haskell, is-text-x-hunspell-affix, is-text-x-idl, is-text-x-jinja, is-text-x-kotlin, is-text-x-ld-script, is-text-x-ldif, is-text-x-lex, is-text-x-lua, is-text-x-makefile, is-text-x-maven-xml, is-text-x-maxima, is-text-x-metafont, is-text-x-metal, is-text-x-mib, is-text-x-nim, is-text-x-ocaml, is-text-x-pascal, is-text-x-patch, is-text-x-pawn, is-text-x-perl, is-text-x-php, is-text-x-pig, is-text-x-plantuml, is-text-x-protobuf, is-text-x-psv, is-text-x-python-as-row-py, is-text-x-ragel, is-text-x-raku, is-text-x-razor, is-text-x-reason, is-text-x-rebol, is-text-x-rsrc, is-text-x-ruby, is-text-x-sam, is-text-x-scala, is-text-x-scons, is-text-x-setext, is-text-x-shell-config, is-text-x-sieve, is-text-x-sml, is-text-x-snakemake, is-text-x-stan, is-text-x-systemd-unit, is-text-x-tcl, is-text-x-tex, is-text-x-texinfo, is-text-x-textproto, is-text-x-tmux-conf, is-text-x-txt2tags, is-text-x-unity, is-text-x-verilog, is-text-x-vue, is-text-x-vyper, is-text-x-wdl, is-text-x-xresources, is-video-3gpp2, is-video-h265, is-video-mj2, is-video-mpeg, is-video-ogg, is-video-x-anim, is-video-x-flic, is-video-x-flv, is-video-x-matroska}
+use Rattle.infer_named.specs.Sets.{any-lead, leads-10, leads-7, no-rows, rows-3g2, rows-3gp-mp4, rows-3mf-apk-application-vnd-apple-keynote-chrt-docx-epub-fbz-fcstd-flw-iwa-jar-karbon-kfo-kmz-kon-kpr-kra-ksp-kwd-mscz-odb-odc-odf-odg-odi-odp-ods-odt-ora-otg-otp-ots-ott-pkpass-pptx-qgz-sxc-sxd-sxi-sxm-sxw-vsdx-xap-xlsx, rows-7z, rows-accdb, rows-anim, rows-apk-jar-zip, rows-apng, rows-appimage, rows-application-x-ole-storage, rows-application-x-ole-storage-zip, rows-ar, rows-aup3-fossil-gpkg-mbtiles-mtn, rows-beam, rows-bgzf-karbon-kil-kpr-ksp-kwd, rows-blend, rows-bmp, rows-bookmarks, rows-bz2, rows-bz2-gz-xz, rows-chm, rows-csh, rows-deb-goa, rows-der-p7b-pem, rows-dff, rows-docm-docx-application-x-ole-storage-zip, rows-docx, rows-dts, rows-elf, rows-emf, rows-escript, rows-evtx, rows-fbz, rows-flv, rows-flw, rows-gbs, rows-gjs-js, rows-groovy, rows-gz, rows-gz-zip, rows-gz-zst, rows-hdf5, rows-hdr, rows-heics, rows-heif, rows-hlp, rows-hs, rows-html, rows-html-json-php-svg-txt-xhtml-xml, rows-html-sh-svg-txt-xhtml-xml, rows-html-txt-xhtml-xml, rows-html-txt-xml, rows-ilbm, rows-ips, rows-jls, rows-jp2, rows-jpg, rows-json, rows-json-ndjson-txt, rows-json-plist-txt-xml, rows-json-sh-txt, rows-json-txt, rows-kate-oga-ogm-ogv-ogx-opus-spx-vorbis, rows-kra, rows-lrz, rows-lua, rows-lz4, rows-m4a-mp4, rows-m4b, rows-mdb, rows-miff, rows-mj2, rows-mk, rows-mkv, rows-ml, rows-mo3, rows-mpg, rows-mpp, rows-ndjson, rows-o, rows-ods-zip, rows-odt-zip, rows-ogg, rows-ogv, rows-orc, rows-ots, rows-ott, rows-p12, rows-pdf, rows-php, rows-php-svg-txt-xhtml-xml, rows-pl, rows-plist-txt-xml, rows-pls, rows-png, rows-ps-sh-txt, rows-ps-txt, rows-puml, rows-py, rows-pysu, rows-qtl, rows-r, rows-raku, rows-rar, rows-rb, rows-safetensors, rows-scala, rows-scc, rows-sgi, rows-sh-txt, rows-sqlite, rows-sqlite2, rows-t2t, rows-tcl, rows-texi, rows-tif, rows-tscn, rows-ttc, rows-txt, rows-txt-yaml, rows-vcf, rows-vsdx-zip, rows-wasm, rows-webm, rows-wim, rows-wtv, rows-xls, rows-xlsx, rows-xpm, rows-yaml, rows-zip, text-rows}
+use Rattle.infer_named.specs.Types.{is-application-atomcat-xml, is-application-edn, is-application-gzip, is-application-onnx, is-application-pdf, is-application-pkcs12, is-application-pkcs7-signature, is-application-schema-json, is-application-smil-xml, is-application-vnd-appimage, is-application-vnd-apple-pages, is-application-vnd-comicbook-rar, is-application-vnd-hp-pcl, is-application-vnd-lotus-1-2-3, is-application-vnd-mozilla-xul-xml, is-application-vnd-ms-excel, is-application-vnd-ms-htmlhelp, is-application-vnd-ms-project, is-application-vnd-ms-visio-template-main-xml, is-application-vnd-ms-word-template-macroenabled-12, is-application-vnd-nintendo-snes-rom, is-application-vnd-oasis-opendocument-spreadsheet-template, is-application-vnd-oasis-opendocument-text-template, is-application-vnd-openxmlformats-officedocument-spreadsheetml-sheet, is-application-vnd-openxmlformats-officedocument-wordprocessingml-document, is-application-vnd-sqlite3, is-application-vnd-wordperfect, is-application-wasm, is-application-winhlp, is-application-wsdl-xml, is-application-x-7z-compressed, is-application-x-ace, is-application-x-apkm, is-application-x-blender, is-application-x-bzip-compressed-tar, is-application-x-cml-xml, is-application-x-csh, is-application-x-device-tree-blob, is-application-x-entitlements, is-application-x-erlang-beam, is-application-x-glib-typelib, is-application-x-godot-scene, is-application-x-hdf5, is-application-x-intellij-xml, is-application-x-ips-patch, is-application-x-kivio, is-application-x-krita, is-application-x-lrzip, is-application-x-lz4-compressed-tar, is-application-x-matlab-data, is-application-x-ms-evtx, is-application-x-ms-registry-hive, is-application-x-ms-wim, is-application-x-msaccess-as-row-accdb, is-application-x-msaccess-as-row-mdb, is-application-x-msbuild-xml, is-application-x-ndjson, is-application-x-netcdf, is-application-x-nuspec-xml, is-application-x-object, is-application-x-orc, is-application-x-profraw, is-application-x-pyspread-spreadsheet, is-application-x-quattropro, is-application-x-quicktime-media-link, is-application-x-r-data, is-application-x-safetensors, is-application-x-scxml-xml, is-application-x-shared-library-la, is-application-x-sqlite2, is-application-x-theme-xml, is-application-x-unix-archive, is-application-x-urdf-xml, is-application-x-zip-compressed-fb2, is-application-xliff-xml, is-application-xproc-xml, is-application-xslt-xml, is-application-yaml, is-application-zip, is-audio-ogg-as-row-ogg, is-audio-vnd-audible, is-audio-vnd-dts, is-audio-x-dff, is-audio-x-gbs, is-audio-x-m4b, is-audio-x-mo3, is-audio-x-scpls, is-chemical-x-cif, is-chemical-x-mdl-molfile, is-font-collection, is-image-bmp, is-image-emf, is-image-heic-sequence, is-image-jpeg, is-image-png, is-image-vnd-radiance, is-image-x-epson-erf, is-image-x-ilbm, is-image-x-miff, is-image-x-minolta-mrw, is-image-x-sgi, is-image-x-tga, is-image-x-xpixmap, is-model-mtl, is-multipart-related, is-text-csv, is-text-html, is-text-javascript, is-text-plain, is-text-tab-separated-values, is-text-uri-list, is-text-vcard, is-text-vnd-familysearch-gedcom, is-text-x-abap, is-text-x-asn1, is-text-x-ballerina, is-text-x-bats, is-text-x-bed, is-text-x-bicep, is-text-x-bpftrace, is-text-x-cfm, is-text-x-cobol, is-text-x-csound, is-text-x-cypher, is-text-x-dune, is-text-x-ebnf, is-text-x-ejs, is-text-x-emacs-lisp, is-text-x-erlang, is-text-x-fennel, is-text-x-freemarker, is-text-x-gerber, is-text-x-gettext-translation, is-text-x-gitconfig, is-text-x-gitignore, is-text-x-glsl, is-text-x-gn, is-text-x-groovy, is-text-x-handlebars, is-text-x-haskell, is-text-x-hunspell-affix, is-text-x-idl, is-text-x-jinja, is-text-x-kotlin, is-text-x-ld-script, is-text-x-ldif, is-text-x-lex, is-text-x-lua, is-text-x-makefile, is-text-x-maven-xml, is-text-x-maxima, is-text-x-metafont, is-text-x-metal, is-text-x-mib, is-text-x-nim, is-text-x-ocaml, is-text-x-pascal, is-text-x-patch, is-text-x-pawn, is-text-x-perl, is-text-x-php, is-text-x-pig, is-text-x-plantuml, is-text-x-protobuf, is-text-x-psv, is-text-x-python-as-row-py, is-text-x-ragel, is-text-x-raku, is-text-x-razor, is-text-x-reason, is-text-x-rebol, is-text-x-rsrc, is-text-x-ruby, is-text-x-sam, is-text-x-scala, is-text-x-scc, is-text-x-scons, is-text-x-setext, is-text-x-shell-config, is-text-x-sieve, is-text-x-sml, is-text-x-snakemake, is-text-x-stan, is-text-x-systemd-unit, is-text-x-tcl, is-text-x-tex, is-text-x-texinfo, is-text-x-textproto, is-text-x-tmux-conf, is-text-x-txt2tags, is-text-x-unity, is-text-x-verilog, is-text-x-vue, is-text-x-vyper, is-text-x-wdl, is-text-x-xresources, is-video-3gpp2, is-video-h265, is-video-mj2, is-video-mpeg, is-video-ogg, is-video-x-anim, is-video-x-flic, is-video-x-flv, is-video-x-matroska, is-video-x-ms-wtv}
 use Rattle.infer_named.specs.declared.table.Asks.TheVariants.{Bytes, Signature, Text}
 use Rattle.infer_named.specs.declared.table.Part.TheVariants.{Extension, Whole}
 
@@ -33,6 +33,8 @@ keys =
     ∷ key Whole (codes "constraints.txt") false (reading is-text-plain Text rows-txt no-rows text-rows any-lead ∷ [])
     ∷ key Extension (codes "m4b") false (reading is-audio-x-m4b Bytes rows-m4b rows-m4a-mp4 no-rows any-lead ∷ [])
     ∷ key Extension (codes "mpe") false (reading is-video-mpeg Bytes rows-mpg no-rows no-rows any-lead ∷ [])
+    ∷ key Extension (codes "qtl") false (reading is-application-x-quicktime-media-link Text rows-qtl rows-html-txt-xml no-rows leads-10 ∷ [])
+    ∷ key Extension (codes "fb2.zip") false (reading is-application-x-zip-compressed-fb2 Signature rows-fbz rows-zip no-rows any-lead ∷ [])
     ∷ key Extension (codes "wp6") false (reading is-application-vnd-wordperfect Bytes no-rows no-rows no-rows any-lead ∷ [])
     ∷ key Extension (codes "cfml") false (reading is-text-x-cfm Text no-rows rows-html-json-php-svg-txt-xhtml-xml no-rows any-lead ∷ [])
     ∷ key Extension (codes "profraw") false (reading is-application-x-profraw Bytes no-rows no-rows no-rows any-lead ∷ [])
@@ -49,6 +51,7 @@ keys =
     ∷ key Extension (codes "xslt") false (reading is-application-xslt-xml Text no-rows rows-html-txt-xhtml-xml no-rows leads-10 ∷ [])
     ∷ key Extension (codes "onnx") false (reading is-application-onnx Bytes no-rows no-rows no-rows any-lead ∷ [])
     ∷ key Extension (codes "glslv") false (reading is-text-x-glsl Text no-rows rows-txt no-rows any-lead ∷ [])
+    ∷ key Extension (codes "pysu") false (reading is-application-x-pyspread-spreadsheet Text rows-pysu rows-txt no-rows any-lead ∷ [])
     ∷ key Extension (codes "wlua") false (reading is-text-x-lua Text rows-lua rows-sh-txt no-rows any-lead ∷ [])
     ∷ key Extension (codes "cdf") false (reading is-application-x-netcdf Bytes no-rows rows-hdf5 no-rows any-lead ∷ [])
     ∷ key Extension (codes "tar.lz4") false (reading is-application-x-lz4-compressed-tar Signature no-rows rows-lz4 no-rows any-lead ∷ [])
@@ -79,6 +82,7 @@ keys =
     ∷ key Extension (codes "webidl") false (reading is-text-x-idl Text no-rows rows-txt no-rows any-lead ∷ [])
     ∷ key Extension (codes "xpl") false (reading is-application-xproc-xml Text no-rows rows-html-txt-xhtml-xml no-rows leads-10 ∷ [])
     ∷ key Extension (codes "nims") false (reading is-text-x-nim Text no-rows rows-sh-txt no-rows any-lead ∷ [])
+    ∷ key Extension (codes "sqlite2") false (reading is-application-x-sqlite2 Signature rows-sqlite2 no-rows no-rows any-lead ∷ [])
     ∷ key Extension (codes "pcl") false (reading is-application-vnd-hp-pcl Bytes no-rows no-rows no-rows any-lead ∷ [])
     ∷ key Extension (codes "dff") false (reading is-audio-x-dff Bytes rows-dff no-rows no-rows any-lead ∷ [])
     ∷ key Extension (codes "mdb") false (reading is-application-x-msaccess-as-row-mdb Signature rows-mdb no-rows no-rows any-lead ∷ [])
@@ -148,11 +152,13 @@ keys =
     ∷ key Extension (codes "el") false (reading is-text-x-emacs-lisp Text no-rows rows-sh-txt no-rows any-lead ∷ [])
     ∷ key Extension (codes "gitignore") false (reading is-text-x-gitignore Text no-rows rows-txt no-rows any-lead ∷ [])
     ∷ key Extension (codes "pm") false (reading is-text-x-perl Text rows-pl rows-sh-txt no-rows any-lead ∷ [])
+    ∷ key Extension (codes "ips") true (reading is-application-x-ips-patch Signature rows-ips no-rows no-rows any-lead ∷ [])
     ∷ key Extension (codes "pfx") false (reading is-application-pkcs12 Bytes rows-p12 no-rows no-rows any-lead ∷ [])
     ∷ key Extension (codes "xlsx") false (reading is-application-vnd-openxmlformats-officedocument-spreadsheetml-sheet Signature rows-xlsx rows-application-x-ole-storage-zip no-rows any-lead ∷ [])
     ∷ key Extension (codes "abap") false (reading is-text-x-abap Text no-rows rows-txt no-rows any-lead ∷ [])
     ∷ key Extension (codes "jflex") false (reading is-text-x-lex Text no-rows rows-txt no-rows any-lead ∷ [])
     ∷ key Extension (codes "mustache") false (reading is-text-x-handlebars Text no-rows rows-html-json-php-svg-txt-xhtml-xml no-rows any-lead ∷ [])
+    ∷ key Extension (codes "flw") false (reading is-application-x-kivio Signature rows-flw rows-gz-zip no-rows any-lead ∷ [])
     ∷ key Extension (codes "txi") false (reading is-text-x-texinfo Text rows-texi rows-txt no-rows any-lead ∷ [])
     ∷ key Extension (codes "ldif") false (reading is-text-x-ldif Text no-rows rows-txt no-rows any-lead ∷ [])
     ∷ key Extension (codes "yml") false (reading is-application-yaml Text rows-yaml rows-json-ndjson-txt no-rows any-lead ∷ [])
@@ -188,10 +194,12 @@ keys =
     ∷ key Extension (codes "chm") false (reading is-application-vnd-ms-htmlhelp Signature rows-chm no-rows no-rows any-lead ∷ [])
     ∷ key Extension (codes "itk") false (reading is-text-x-tcl Text rows-tcl rows-sh-txt no-rows any-lead ∷ [])
     ∷ key Extension (codes "t2t") false (reading is-text-x-txt2tags Text rows-t2t rows-txt no-rows any-lead ∷ [])
+    ∷ key Extension (codes "wtv") false (reading is-video-x-ms-wtv Signature rows-wtv no-rows no-rows any-lead ∷ [])
     ∷ key Extension (codes "fnl") false (reading is-text-x-fennel Text no-rows rows-sh-txt no-rows any-lead ∷ [])
     ∷ key Whole (codes ".eslintignore") false (reading is-text-x-gitignore Text no-rows rows-txt no-rows any-lead ∷ [])
     ∷ key Extension (codes "mo3") false (reading is-audio-x-mo3 Bytes rows-mo3 no-rows no-rows any-lead ∷ [])
     ∷ key Extension (codes "ogv") false (reading is-video-ogg Signature rows-ogv rows-ogg no-rows any-lead ∷ [])
+    ∷ key Extension (codes "scc") true (reading is-text-x-scc Text rows-scc no-rows no-rows any-lead ∷ [])
     ∷ key Extension (codes "cob") false (reading is-text-x-cobol Text no-rows rows-txt no-rows any-lead ∷ [])
     ∷ key Extension (codes "hevc") false (reading is-video-h265 Bytes no-rows no-rows no-rows any-lead ∷ [])
     ∷ key Extension (codes "bicep") false (reading is-text-x-bicep Text no-rows rows-txt no-rows any-lead ∷ [])
@@ -229,6 +237,7 @@ keys =
     ∷ key Extension (codes "tpl") false (reading is-text-plain Text rows-txt no-rows text-rows any-lead ∷ [])
     ∷ key Extension (codes "target") false (reading is-text-x-systemd-unit Text no-rows rows-txt no-rows any-lead ∷ [])
     ∷ key Extension (codes "gni") false (reading is-text-x-gn Text no-rows rows-txt no-rows any-lead ∷ [])
+    ∷ key Extension (codes "miff") true (reading is-image-x-miff Signature rows-miff no-rows no-rows any-lead ∷ [])
     ∷ key Extension (codes "tmpl") false (reading is-text-plain Text rows-txt no-rows text-rows any-lead ∷ [])
     ∷ key Extension (codes "atomcat") false (reading is-application-atomcat-xml Text no-rows rows-html-txt-xhtml-xml no-rows leads-10 ∷ [])
     ∷ key Extension (codes "mat") true (reading is-application-x-matlab-data Bytes no-rows rows-hdf5 no-rows any-lead ∷ [])

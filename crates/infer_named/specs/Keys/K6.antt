@@ -2,8 +2,8 @@
 use Rattle.std.specs.Prelude.{List, [], ◌∷◌, codes, false, true}
 use Rattle.infer_named.specs.Key.{Key, key}
 use Rattle.infer_named.specs.Listed.{reading}
-use Rattle.infer_named.specs.Sets.{any-lead, leads-10, no-rows, rows-3g2-3gp-f4v-m4a-m4b-m4v-mov, rows-aac, rows-aifc, rows-aiff, rows-alz, rows-ape, rows-apk-jar-zip, rows-application-x-ole-storage, rows-application-x-ole-storage-pptx-zip, rows-application-x-ole-storage-xlsm-xlsx-zip, rows-ar, rows-asar, rows-avif, rows-awk, rows-bc, rows-bookmarks, rows-clj, rows-dds, rows-dsf, rows-elf-so, rows-eps, rows-escript, rows-exe, rows-ext2, rows-fbx-fbxtext, rows-hdf4, rows-hdf5, rows-heic, rows-heif, rows-html, rows-html-json-php-svg-txt-xhtml-xml, rows-html-rss-txt-xml, rows-html-sh-svg-txt-xhtml-xml, rows-html-txt-xhtml-xml, rows-ilbm, rows-j2c, rows-jar-zip, rows-jks, rows-jl, rows-jp2, rows-jph-jpm-jpx-mj2, rows-json, rows-json-ndjson-txt, rows-json-plist-txt-xml, rows-kate-oga-ogm-ogv-ogx-opus-spx-vorbis, rows-ktx2, rows-lisp, rows-lua, rows-lz, rows-m4a, rows-m4b-m4v-mp4, rows-mach, rows-mbtiles, rows-meta4, rows-midi, rows-mk, rows-mkv, rows-mo, rows-mp3, rows-mp4, rows-mpg, rows-mtm, rows-odg-zip, rows-ogg, rows-otf, rows-otg, rows-p12, rows-parquet, rows-php, rows-php-svg-txt-xhtml-xml, rows-pl, rows-ps, rows-ps-sh-txt, rows-py, rows-pyc, rows-qml, rows-rar, rows-ras, rows-rb, rows-rkt, rows-scala, rows-sh, rows-sh-txt, rows-sqlite, rows-squashfs, rows-srt, rows-subviewer, rows-swf, rows-tar, rows-tres, rows-ttf, rows-txt, rows-txt-xml, rows-txt-yaml, rows-vsd, rows-webm, rows-wmf, rows-xls, rows-yaml, rows-z, rows-zip, text-rows}
-use Rattle.infer_named.specs.Types.{is-application-brotli, is-application-cbor, is-application-dita-xml, is-application-font-sfnt-as-row-otf, is-application-graphql, is-application-hta, is-application-metalink4-xml, is-application-pkcs12, is-application-rdf-xml, is-application-relax-ng-compact-syntax, is-application-sql, is-application-tei-xml, is-application-vnd-apache-parquet, is-application-vnd-coffeescript, is-application-vnd-mbtiles, is-application-vnd-microsoft-portable-executable, is-application-vnd-mozilla-webapp-json, is-application-vnd-ms-excel, is-application-vnd-ms-excel-addin-macroenabled-12, is-application-vnd-oasis-opendocument-graphics-template, is-application-vnd-openxmlformats-officedocument-presentationml-slideshow, is-application-vnd-osm-xml, is-application-vnd-rar, is-application-vnd-snap, is-application-vnd-visio, is-application-vnd-wordperfect, is-application-x-alz, is-application-x-android-archive, is-application-x-apkm, is-application-x-asar, is-application-x-asp, is-application-x-avro-schema-json, is-application-x-cbt, is-application-x-cmi, is-application-x-dbus-gvdb, is-application-x-desktop, is-application-x-eclipse-xml, is-application-x-erb, is-application-x-ext-filesystem, is-application-x-fbx, is-application-x-genesis-rom, is-application-x-gettext-translation, is-application-x-godot-resource, is-application-x-grib, is-application-x-gschema-xml, is-application-x-hdf, is-application-x-hdf5, is-application-x-hwpx, is-application-x-hxml, is-application-x-java-enterprise-archive, is-application-x-java-keystore, is-application-x-jsa, is-application-x-jsonc, is-application-x-llvm, is-application-x-lzip, is-application-x-mach-binary, is-application-x-maya-binary, is-application-x-ms-registry-hive, is-application-x-msbuild-xml, is-application-x-mswinurl, is-application-x-osm-pbf, is-application-x-python-bytecode, is-application-x-python-pickle, is-application-x-quake-pak, is-application-x-quattropro, is-application-x-rust-rlib, is-application-x-shapefile-index, is-application-x-shockwave-flash, is-application-x-sketch, is-application-x-sketchup, is-application-x-stata-dta, is-application-x-sublime-syntax, is-application-x-subrip, is-application-x-swiftmodule, is-application-x-tarz, is-application-x-terraform-state-json, is-application-x-tex-pk, is-application-x-tex-tfm, is-application-x-theme-xml, is-application-x-urdf-xml, is-application-xproc-xml, is-application-xslt-xml, is-application-yaml, is-audio-aac, is-audio-m4a, is-audio-midi, is-audio-mpeg, is-audio-ogg-as-row-ogg, is-audio-x-aifc, is-audio-x-ape, is-audio-x-dsf, is-audio-x-mod, is-image-heif, is-image-jp2, is-image-ktx2, is-image-vnd-dxf, is-image-vnd-ms-dds, is-image-wmf, is-image-x-cmu-raster, is-image-x-eps, is-image-x-ilbm, is-image-x-jp2-codestream, is-text-html, is-text-markdown, is-text-plain, is-text-troff, is-text-turtle, is-text-velocity, is-text-vnd-familysearch-gedcom, is-text-vnd-graphviz, is-text-x-adasrc, is-text-x-agda, is-text-x-apex, is-text-x-asm, is-text-x-awk, is-text-x-bc, is-text-x-c-src, is-text-x-chapel, is-text-x-checksums, is-text-x-chuck, is-text-x-clojure, is-text-x-common-lisp, is-text-x-coq, is-text-x-csharp, is-text-x-cython, is-text-x-dns-zone, is-text-x-dune, is-text-x-ebuild, is-text-x-editorconfig, is-text-x-eex, is-text-x-elm, is-text-x-erlang, is-text-x-fasta, is-text-x-forth, is-text-x-fortran, is-text-x-gap, is-text-x-gcode, is-text-x-gerber, is-text-x-gff, is-text-x-gitconfig, is-text-x-gitignore, is-text-x-haml, is-text-x-hcl, is-text-x-http, is-text-x-idris, is-text-x-igor, is-text-x-ini, is-text-x-java, is-text-x-jelly, is-text-x-jinja, is-text-x-julia, is-text-x-kaitai-struct, is-text-x-kotlin, is-text-x-lean, is-text-x-lua, is-text-x-makefile, is-text-x-matlab, is-text-x-mlir, is-text-x-moonscript, is-text-x-newick, is-text-x-nginx-conf, is-text-x-ninja, is-text-x-opencl-src, is-text-x-perl, is-text-x-php, is-text-x-pike, is-text-x-pod, is-text-x-python-as-row-py, is-text-x-qml, is-text-x-racket, is-text-x-razor, is-text-x-reject, is-text-x-rexx, is-text-x-ruby, is-text-x-scala, is-text-x-scilab, is-text-x-shell-config, is-text-x-shellscript, is-text-x-slim, is-text-x-stata, is-text-x-subviewer, is-text-x-supercollider, is-text-x-systemd-unit, is-text-x-textile, is-text-x-tsx, is-text-x-unity, is-text-x-vala, is-text-x-vim, is-text-x-xmi, is-text-x-yang, is-text-x-zig, is-video-mp4, is-video-mpeg, is-video-x-matroska}
+use Rattle.infer_named.specs.Sets.{any-lead, leads-10, no-rows, rows-3g2-3gp-f4v-m4a-m4b-m4v-mov, rows-aac, rows-aifc, rows-aiff, rows-alz, rows-ape, rows-apk-jar-zip, rows-application-x-ole-storage, rows-application-x-ole-storage-pptx-zip, rows-application-x-ole-storage-xlsm-xlsx-zip, rows-ar, rows-asar, rows-avif, rows-awk, rows-bc, rows-bookmarks, rows-clj, rows-dds, rows-dsf, rows-elf-so, rows-eps, rows-escript, rows-exe, rows-ext2, rows-fbx-fbxtext, rows-gx, rows-hdf4, rows-hdf5, rows-heic, rows-heif, rows-html, rows-html-json-php-svg-txt-xhtml-xml, rows-html-rss-txt-xml, rows-html-sh-svg-txt-xhtml-xml, rows-html-txt-xhtml-xml, rows-ilbm, rows-j2c, rows-jar-zip, rows-jks, rows-jl, rows-jp2, rows-jph-jpm-jpx-mj2, rows-json, rows-json-ndjson-txt, rows-json-plist-txt-xml, rows-kate-oga-ogm-ogv-ogx-opus-spx-vorbis, rows-ktx2, rows-lisp, rows-lua, rows-lz, rows-m4a, rows-m4b-m4v-mp4, rows-mach, rows-mbtiles, rows-meta4, rows-midi, rows-mk, rows-mkv, rows-mo, rows-mp3, rows-mp4, rows-mpg, rows-mtm, rows-mtn, rows-odg-zip, rows-ogg, rows-otf, rows-otg, rows-p12, rows-parquet, rows-pgf, rows-php, rows-php-svg-txt-xhtml-xml, rows-pl, rows-ps, rows-ps-sh-txt, rows-psw, rows-py, rows-pyc, rows-qml, rows-rar, rows-ras, rows-rb, rows-rkt, rows-scala, rows-sh, rows-sh-txt, rows-slk, rows-sqlite, rows-squashfs, rows-srt, rows-subviewer, rows-swf, rows-sxm, rows-tar, rows-tres, rows-ttf, rows-txt, rows-txt-xml, rows-txt-yaml, rows-vsd, rows-webm, rows-wmf, rows-xls, rows-xmp, rows-yaml, rows-z, rows-zip, text-rows}
+use Rattle.infer_named.specs.Types.{is-application-brotli, is-application-cbor, is-application-dita-xml, is-application-font-sfnt-as-row-otf, is-application-graphql, is-application-hta, is-application-metalink4-xml, is-application-pkcs12, is-application-rdf-xml, is-application-relax-ng-compact-syntax, is-application-sql, is-application-tei-xml, is-application-vnd-apache-parquet, is-application-vnd-coffeescript, is-application-vnd-mbtiles, is-application-vnd-microsoft-portable-executable, is-application-vnd-mozilla-webapp-json, is-application-vnd-ms-excel, is-application-vnd-ms-excel-addin-macroenabled-12, is-application-vnd-oasis-opendocument-graphics-template, is-application-vnd-openxmlformats-officedocument-presentationml-slideshow, is-application-vnd-osm-xml, is-application-vnd-rar, is-application-vnd-snap, is-application-vnd-sun-xml-math, is-application-vnd-visio, is-application-vnd-wordperfect, is-application-x-alz, is-application-x-android-archive, is-application-x-apkm, is-application-x-asar, is-application-x-asp, is-application-x-avro-schema-json, is-application-x-cbt, is-application-x-cmi, is-application-x-dbus-gvdb, is-application-x-desktop, is-application-x-eclipse-xml, is-application-x-erb, is-application-x-ext-filesystem, is-application-x-fbx, is-application-x-genesis-rom, is-application-x-gettext-translation, is-application-x-godot-resource, is-application-x-grib, is-application-x-gschema-xml, is-application-x-hdf, is-application-x-hdf5, is-application-x-hwpx, is-application-x-hxml, is-application-x-java-enterprise-archive, is-application-x-java-keystore, is-application-x-jsa, is-application-x-jsonc, is-application-x-llvm, is-application-x-lzip, is-application-x-mach-binary, is-application-x-maya-binary, is-application-x-monotone-database, is-application-x-ms-registry-hive, is-application-x-msbuild-xml, is-application-x-mswinurl, is-application-x-osm-pbf, is-application-x-pocket-word, is-application-x-python-bytecode, is-application-x-python-pickle, is-application-x-quake-pak, is-application-x-quattropro, is-application-x-rust-rlib, is-application-x-shapefile-index, is-application-x-shockwave-flash, is-application-x-sketch, is-application-x-sketchup, is-application-x-stata-dta, is-application-x-sublime-syntax, is-application-x-subrip, is-application-x-swiftmodule, is-application-x-tarz, is-application-x-terraform-state-json, is-application-x-tex-pk, is-application-x-tex-tfm, is-application-x-theme-xml, is-application-x-urdf-xml, is-application-x-xmp-xml, is-application-xproc-xml, is-application-xslt-xml, is-application-yaml, is-audio-aac, is-audio-m4a, is-audio-midi, is-audio-mpeg, is-audio-ogg-as-row-ogg, is-audio-x-aifc, is-audio-x-ape, is-audio-x-dsf, is-audio-x-mod, is-image-heif, is-image-jp2, is-image-ktx2, is-image-vnd-dxf, is-image-vnd-ms-dds, is-image-wmf, is-image-x-cmu-raster, is-image-x-eps, is-image-x-ilbm, is-image-x-jp2-codestream, is-image-x-pgf, is-text-html, is-text-markdown, is-text-plain, is-text-spreadsheet, is-text-troff, is-text-turtle, is-text-velocity, is-text-vnd-familysearch-gedcom, is-text-vnd-graphviz, is-text-x-adasrc, is-text-x-agda, is-text-x-apex, is-text-x-asm, is-text-x-awk, is-text-x-bc, is-text-x-c-src, is-text-x-chapel, is-text-x-checksums, is-text-x-chuck, is-text-x-clojure, is-text-x-common-lisp, is-text-x-coq, is-text-x-csharp, is-text-x-cython, is-text-x-dns-zone, is-text-x-dune, is-text-x-ebuild, is-text-x-editorconfig, is-text-x-eex, is-text-x-elm, is-text-x-erlang, is-text-x-fasta, is-text-x-forth, is-text-x-fortran, is-text-x-gap, is-text-x-gcode, is-text-x-gcode-gx, is-text-x-gerber, is-text-x-gff, is-text-x-gitconfig, is-text-x-gitignore, is-text-x-haml, is-text-x-hcl, is-text-x-http, is-text-x-idris, is-text-x-igor, is-text-x-ini, is-text-x-java, is-text-x-jelly, is-text-x-jinja, is-text-x-julia, is-text-x-kaitai-struct, is-text-x-kotlin, is-text-x-lean, is-text-x-lua, is-text-x-makefile, is-text-x-matlab, is-text-x-mlir, is-text-x-moonscript, is-text-x-newick, is-text-x-nginx-conf, is-text-x-ninja, is-text-x-opencl-src, is-text-x-perl, is-text-x-php, is-text-x-pike, is-text-x-pod, is-text-x-python-as-row-py, is-text-x-qml, is-text-x-racket, is-text-x-razor, is-text-x-reject, is-text-x-rexx, is-text-x-ruby, is-text-x-scala, is-text-x-scilab, is-text-x-shell-config, is-text-x-shellscript, is-text-x-slim, is-text-x-stata, is-text-x-subviewer, is-text-x-supercollider, is-text-x-systemd-unit, is-text-x-textile, is-text-x-tsx, is-text-x-unity, is-text-x-vala, is-text-x-vim, is-text-x-xmi, is-text-x-yang, is-text-x-zig, is-video-mp4, is-video-mpeg, is-video-x-matroska}
 use Rattle.infer_named.specs.declared.table.Asks.TheVariants.{Bytes, Signature, Text}
 use Rattle.infer_named.specs.declared.table.Part.TheVariants.{Extension, Whole}
 
@@ -11,11 +11,14 @@ unfoldable pub keys : List Key
 keys =
     key Extension (codes "yang") false (reading is-text-x-yang Text no-rows rows-txt no-rows any-lead ∷ [])
     ∷ key Extension (codes "otf") false (reading is-application-font-sfnt-as-row-otf Bytes rows-otf rows-ttf no-rows any-lead ∷ [])
+    ∷ key Extension (codes "sxm") false (reading is-application-vnd-sun-xml-math Signature rows-sxm rows-zip no-rows any-lead ∷ [])
     ∷ key Extension (codes "graphql") false (reading is-application-graphql Text no-rows rows-txt no-rows any-lead ∷ [])
     ∷ key Extension (codes "pyc") false (reading is-application-x-python-bytecode Bytes rows-pyc no-rows no-rows any-lead ∷ [])
     ∷ key Extension (codes "rar") false (reading is-application-vnd-rar Signature rows-rar no-rows no-rows any-lead ∷ [])
+    ∷ key Extension (codes "xmp") false (reading is-application-x-xmp-xml Text rows-xmp rows-html-txt-xhtml-xml no-rows leads-10 ∷ [])
     ∷ key Extension (codes "txx") false (reading is-text-x-c-src Text no-rows rows-txt no-rows any-lead ∷ [])
     ∷ key Extension (codes "gi") false (reading is-text-x-gap Text no-rows rows-txt no-rows any-lead ∷ [])
+    ∷ key Extension (codes "gx") true (reading is-text-x-gcode-gx Signature rows-gx no-rows no-rows any-lead ∷ [])
     ∷ key Extension (codes "smd") false (reading is-application-x-genesis-rom Bytes no-rows no-rows no-rows any-lead ∷ [])
     ∷ key Extension (codes "ear") false (reading is-application-x-java-enterprise-archive Signature no-rows rows-jar-zip no-rows any-lead ∷ [])
     ∷ key Extension (codes "hlean") false (reading is-text-x-lean Text no-rows rows-txt no-rows any-lead ∷ [])
@@ -65,6 +68,7 @@ keys =
     ∷ key Extension (codes "meta4") false (reading is-application-metalink4-xml Text rows-meta4 rows-html-txt-xhtml-xml no-rows leads-10 ∷ [])
     ∷ key Extension (codes "pxi") false (reading is-text-x-cython Text no-rows rows-sh-txt no-rows any-lead ∷ [])
     ∷ key Extension (codes "aac") false (reading is-audio-aac Bytes rows-aac no-rows no-rows any-lead ∷ [])
+    ∷ key Extension (codes "psw") true (reading is-application-x-pocket-word Signature rows-psw no-rows no-rows any-lead ∷ [])
     ∷ key Extension (codes "uml") false (reading is-text-x-xmi Text no-rows rows-html-txt-xhtml-xml no-rows leads-10 ∷ [])
     ∷ key Whole (codes "contributors") false (reading is-text-plain Text rows-txt no-rows text-rows any-lead ∷ [])
     ∷ key Whole (codes "nginx.conf") false (reading is-text-x-nginx-conf Text no-rows rows-txt no-rows any-lead ∷ [])
@@ -161,6 +165,7 @@ keys =
     ∷ key Extension (codes "m2p") false (reading is-video-mpeg Bytes rows-mpg no-rows no-rows any-lead ∷ [])
     ∷ key Extension (codes "xproc") false (reading is-application-xproc-xml Text no-rows rows-html-txt-xhtml-xml no-rows leads-10 ∷ [])
     ∷ key Whole (codes ".swcrc") false (reading is-application-x-jsonc Text no-rows rows-txt rows-json any-lead ∷ [])
+    ∷ key Extension (codes "pgf") true (reading is-image-x-pgf Signature rows-pgf no-rows no-rows any-lead ∷ [])
     ∷ key Extension (codes "vsd") false (reading is-application-vnd-visio Signature rows-vsd rows-application-x-ole-storage no-rows any-lead ∷ [])
     ∷ key Extension (codes "launch") false (reading is-application-x-eclipse-xml Text no-rows rows-html-txt-xhtml-xml no-rows leads-10 ∷ [])
     ∷ key Whole (codes ".jscsrc") false (reading is-application-x-jsonc Text no-rows rows-txt rows-json any-lead ∷ [])
@@ -210,9 +215,12 @@ keys =
     ∷ key Extension (codes "xsl") false (reading is-application-xslt-xml Text no-rows rows-html-txt-xhtml-xml no-rows leads-10 ∷ [])
     ∷ key Extension (codes "jsa") false (reading is-application-x-jsa Bytes no-rows no-rows no-rows any-lead ∷ [])
     ∷ key Extension (codes "mbtiles") false (reading is-application-vnd-mbtiles Signature rows-mbtiles rows-sqlite no-rows any-lead ∷ [])
+    ∷ key Extension (codes "mtn") false (reading is-application-x-monotone-database Signature rows-mtn rows-sqlite no-rows any-lead ∷ [])
+    ∷ key Extension (codes "slk") false (reading is-text-spreadsheet Text rows-slk rows-txt no-rows any-lead ∷ [])
     ∷ key Extension (codes "rnc") false (reading is-application-relax-ng-compact-syntax Text no-rows rows-txt no-rows any-lead ∷ [])
     ∷ key Extension (codes "ppsx") false (reading is-application-vnd-openxmlformats-officedocument-presentationml-slideshow Signature no-rows rows-application-x-ole-storage-pptx-zip no-rows any-lead ∷ [])
     ∷ key Extension (codes "sttheme") false (reading is-application-x-theme-xml Text no-rows rows-json-plist-txt-xml no-rows leads-10 ∷ [])
+    ∷ key Extension (codes "sylk") false (reading is-text-spreadsheet Text rows-slk rows-txt no-rows any-lead ∷ [])
     ∷ key Extension (codes "csx") false (reading is-text-x-csharp Text no-rows rows-txt no-rows any-lead ∷ [])
     ∷ key Extension (codes "b2sum") false (reading is-text-x-checksums Text no-rows rows-txt no-rows any-lead ∷ [])
     ∷ key Extension (codes "cjsx") false (reading is-application-vnd-coffeescript Text no-rows rows-sh-txt no-rows any-lead ∷ [])
