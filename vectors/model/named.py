@@ -140,7 +140,7 @@ def name_of(rng, listed):
     elif kind == 1:
         name += b"." + rng.choice(listed)[1]
     elif kind == 2:
-        name = name.rpartition(b".")[0] + rng.choice([b".so.6", b".so.1.10", b".so.", b".so.1x", b".SO.3", b".so"])
+        name = name.rpartition(b".")[0] + rng.choice([b".so.6", b".so.1.10", b".so.", b".so.1x", b".SO.3", b".so", b".so" + b".10" * rng.randrange(1, 16)])
     elif kind == 3:
         name = bytes(rng.randrange(256) for _ in range(rng.randrange(1, 9))) + name
     elif kind == 4 and name:
@@ -151,7 +151,7 @@ def name_of(rng, listed):
     elif kind == 6:
         name = name + rng.choice([b".", b" ", b"/", b"\\", b"\0", b"\0.txt", b"..", b"~.bak"])
     elif kind == 7:
-        name = b"a" * rng.choice([20, 26, 27, 28, 29, 63, 64, 65, 300]) + b"." * rng.randrange(2) + name
+        name = b"a" * rng.choice([*range(16, 36), 63, 64, 65, 300]) + b"." * rng.randrange(2) + name
     folder = rng.choice([b"", b"", b"a/", b"C:\\x.y\\", b"/usr/a.b/", b"f/" * rng.randrange(1, 60)])
     return cased(rng, folder + name)
 
