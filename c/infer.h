@@ -230,7 +230,8 @@ size_t infer_types_check(const void *text, size_t text_len, size_t *line, size_t
 int32_t infer_types_get(const void *text, size_t text_len, const void *buf, size_t len, char *mime_type, size_t mime_type_size, char *extension, size_t extension_size);
 
 /* Which line that is: the number, from 1, of the line whose type infer_types_get gives, and 0 if it gives the wider answer
- * or none. So a type of your own is told from a further one that has the same MIME type and extension. */
+ * or none. So a type of your own is told from a further one that has the same MIME type and extension. Where a file has a
+ * name too, ask infer_named if this is 0: a line of your own wins over names, since who wrote it knows the files. */
 size_t infer_types_line(const void *text, size_t text_len, const void *buf, size_t len);
 
 /* A NAME AND ITS BYTES. The bytes win: a name only chooses among what they leave open, and the standing says what it did.
