@@ -411,7 +411,7 @@ module _ (index : Parentless) (all : FindsParentless index) (b : List ℕ) (byte
         | inr (inr (e, p)) ↦ omega arith
       ]))
 
--- as computed of each row: a refusal shows the numbers of the rows that are not found
+-- as computed of each row
 each_found : (test : ℕ → Further → Bool) → refused test 0 further ≡ [] → (i : ℕ) → IsTrue (option_map_or (test i) (slice_get further i) true)
 each_found test none i = let e : 0 + i ≡ i = omega arith in subst (λ k. IsTrue (option_map_or (test k) (slice_get further i) true)) e (each_passes test 0 further none i)
 
