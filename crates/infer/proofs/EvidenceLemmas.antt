@@ -64,23 +64,32 @@ module _ (lasts : (s : BuiltIn) → Lasts (IsAccepted s)) where
         | inr never ↦ (λ h. absurd (never (w, more, h)), λ h. absurd (never (v, bytes, h)))
       ]
 
-  pub front_tells : (b c : List ℕ) (n i : ℕ) → IsBuffer b → IsBuffer c → n ≤ length b → IsTold (take n b) i
-      → ((k : ℕ) → k < n → (k < length c) × (get_or c k 0 ≡ get_or b k 0)) → RowHas (Accepts c) i ↔ RowHas (Accepts b) i
-  front_tells b c n i bytes others le told same =
-      let f = take n b in
-      let long : length f ≡ n = length-take-le n b le in
-      let begins : c ≡ f ++ drop (length f) c =
-      front_from_reads 0 c f (grind (arith, same (n - 1))) (λ k lt. grind (arith, same k, get_or-take)) in
-      subst (λ x. RowHas (Accepts x) i ↔ RowHas (Accepts b) i) (sym begins)
-      (subst (λ y. RowHas (Accepts (f ++ drop (length f) c)) i ↔ RowHas (Accepts y) i) (take-append-drop n b)
-      (row_told (slice_get table i) f (drop n b) (drop (length f) c) (All-drop (λ x. x < 256) n b bytes) (All-drop (λ x. x < 256) (length f) c others) told))
+-- what holds of two buffers that are a front with more bytes behind it holds of two that have it in common
+pub buffers_with : (P : List ℕ → List ℕ → Type 0) (b c : List ℕ) (n : ℕ) → IsBuffer b → IsBuffer c → n ≤ length b
+    → ((k : ℕ) → k < n → (k < length c) × (get_or c k 0 ≡ get_or b k 0))
+    → ((v w : List ℕ) → IsBuffer v → IsBuffer w → P (take n b ++ v) (take n b ++ w)) → P b c
+buffers_with P b c n bytes others le same holds =
+    let f = take n b in
+    let long : length f ≡ n = length-take-le n b le in
+    let begins : c ≡ f ++ drop (length f) c =
+    front_from_reads 0 c f (grind (arith, same (n - 1))) (λ k lt. grind (arith, same k, get_or-take)) in
+    subst (P b) (sym begins)
+    (subst (λ y. P y (f ++ drop (length f) c)) (take-append-drop n b)
+    (holds (drop n b) (drop (length f) c) (All-drop (λ x. x < 256) n b bytes) (All-drop (λ x. x < 256) (length f) c others)))
+
+pub front_tells : (lasts : (s : BuiltIn) → Lasts (IsAccepted s)) (b c : List ℕ) (n i : ℕ) → IsBuffer b → IsBuffer c → n ≤ length b → IsTold (take n b) i
+    → ((k : ℕ) → k < n → (k < length c) × (get_or c k 0 ≡ get_or b k 0)) → RowHas (Accepts c) i ↔ RowHas (Accepts b) i
+front_tells lasts b c n i bytes others le told same =
+    buffers_with (λ y z. RowHas (Accepts z) i ↔ RowHas (Accepts y) i) b c n bytes others le same
+    (λ v w of more. row_told lasts (slice_get table i) (take n b) v w of more told)
 
 -- what has all bytes of a buffer, and its length, is the buffer
+pub same_by_reads : (b c : List ℕ) → length c ≡ length b → ((k : ℕ) → k < length b → (k < length c) × (get_or c k 0 ≡ get_or b k 0)) → c ≡ b
+same_by_reads b c long same = same_number_lists c b long (λ k lt. (same k (omega (arith, long))).1)
+
 pub whole_tells : (b c : List ℕ) (i : ℕ) → length c ≡ length b → ((k : ℕ) → k < length b → (k < length c) × (get_or c k 0 ≡ get_or b k 0))
     → RowHas (Accepts c) i ↔ RowHas (Accepts b) i
-whole_tells b c i long same =
-    let is : c ≡ b = same_number_lists c b long (λ k lt. (same k (omega (arith, long))).1) in
-    subst (λ x. RowHas (Accepts x) i ↔ RowHas (Accepts b) i) (sym is) (λ h. h, λ h. h)
+whole_tells b c i long same = subst (λ x. RowHas (Accepts x) i ↔ RowHas (Accepts b) i) (sym (same_by_reads b c long same)) (λ h. h, λ h. h)
 
 -- the bytes of a buffer are bytes
 pub buffer_by_reads : (b : List ℕ) → ((i : ℕ) → get_or b i 0 < 256) → IsBuffer b

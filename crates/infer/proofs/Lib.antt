@@ -19,4 +19,4 @@ pub mod AskLemmas
 pub mod SlotLemmas
 pub mod DecidedLemmas
 pub mod FirstByteLemmas
-mod EvidenceLemmas
+pub mod EvidenceLemmas

@@ -1,5 +1,5 @@
-mod Common
-mod ListLemmas
+pub mod Common
+pub mod ListLemmas
 mod RangeLemmas
 mod PartLemmas
-mod ListedLemmas
+pub mod ListedLemmas

@@ -29,3 +29,4 @@ pub mod DecidedLemmas
 pub mod DescribedLemmas
 pub mod OwnSizeLemmas
 pub mod AnswerLineLemmas
+pub mod WhyLemmas

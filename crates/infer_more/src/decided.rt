@@ -49,7 +49,7 @@ fn is_first_for_good(i: usize, parent: Option<usize>, buf: &[u8]) -> bool
 }
 
 /// Whether the row accepts the buffer, whatever bytes follow.
-fn is_stable(row: &FurtherRow, buf: &[u8]) -> bool
+pub(super) fn is_stable(row: &FurtherRow, buf: &[u8]) -> bool
     requires closed { IsTrue (is_row_closed (row_listed row.now)) }
     requires sound { IsTrue (is_row_sound (row_listed row.now)) }
     ensures { IsTrue result → Stays (Accepted (row_listed row.now).signature) buf.now }

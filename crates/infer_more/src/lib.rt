@@ -11,7 +11,7 @@
 //! function for each of them; `index`, which rows are asked; `answers`, what they answer, and each row by its number;
 //! `types`, those that a text describes; `added`, the rows of a caller; `read`, the front of a file or of a reader; `laws`,
 //! facts about all of these; `samples`; `open`, what the bytes after a buffer can bring a signature; `decided`, what they
-//! can change of the answer.
+//! can change of the answer; `why`, which bytes decide it.
 #![tactic(auto)]
 
 ghost use Rattle.std.specs.Prelude.{◌≡◌, ◌+◌, ◌<◌, ◌≤◌, ◌↔◌, ◌⊎◌, IfOk, IfSome, IsTrue, None, option_map, slice_get};
@@ -38,6 +38,7 @@ mod samples;
 mod signature;
 mod table;
 pub mod types;
+mod why;
 
 pub use index::FURTHER_COUNT;
 use infer::{FRONT, Fault, Infer, Type, Watched};
@@ -50,6 +51,7 @@ use std::io::Read;
 use std::rt::Files;
 pub use table::EndedTexts;
 pub use types::{Mistake, Rows, Types};
+pub use why::evidence;
 
 /// The type of the wider answer of `buf`, and `None` exactly if no row accepts it.
 ///

@@ -1,0 +1,162 @@
+-- A front that tells of a row, and the whole buffer.
+use Rattle.infer_more.proofs.Common.{◌≡◌, ◌↔◌, ◌+◌, ◌<◌, ◌≤◌, ◌∷◌, ◌++◌, ◌∙◌, ◌==◌, ℕ, zero, suc, Bool, true, false, IsTrue, List, [], Option, None, Some, MatchOption, inl, inr, ap, refl, subst, sym, arith, if◌then◌else◌, length, take, get_or, and_parts, and_from, eqb-true, le-leb, leb-true, lt-ltb, IsBuffer, Accepted, Further, further, Fits, alternative_listed, part_listed, signature_listed, slice_get_read, has_part, allows, between, IsFirst, IsFirstOf, Widens, WidensAt, cases_lt}
+use Rattle.std.proofs.Common.{slice_get}
+use Rattle.std.proofs.lemmas.Bool.{ltb-true}
+use Rattle.std.proofs.lemmas.List.Elements.{All-head, All-tail}
+use Rattle.std.specs.Prelude.{All, Any}
+use Rattle.infer.proofs.CandidateLemmas.{read_has}
+use Rattle.infer.proofs.ListLemmas.{HoldsAt-read}
+use Rattle.infer.proofs.EvidenceLemmas.{buffers_with, same_by_reads}
+use Rattle.infer_evidence.proofs.ListedLemmas.{all_told}
+use Rattle.infer_evidence.specs.Weighed.{HasPart, HasParts}
+use Rattle.infer_sig.specs.Places.{StandsByPlace}
+use Rattle.infer_sig.specs.Signature as fixed
+use Rattle.infer_sig.specs.Signature.{any_of, byte, fits, stands, text}
+use Rattle.infer_more.proofs.AcceptedLemmas.{accepted_at}
+use Rattle.infer_more.specs.Listed.{bytes_listed}
+use Rattle.infer_more.specs.Why.{IsAlikeAt, IsTold, IsToldAt, LacksBytes, part_of}
+use Rattle.infer_more.specs.declared.signature.Alternative.{Alternative}
+use Rattle.infer_more.specs.declared.signature.Alternative.TheVariants.{BinaryBytes, Bytes, Related}
+use Rattle.infer_more.specs.declared.signature.Bytes as listed
+use Rattle.infer_more.specs.declared.signature.Piece.{Piece}
+use Rattle.infer_more.specs.declared.signature.Piece.TheVariants.{At, Between, OneOf}
+
+-- buffers that begin with what tells of a row are accepted alike
+alike_with : (o : Option Further) (f v w : List ℕ) → IsBuffer v → IsBuffer w → MatchOption o (Unit {0}) (λ r. IsTold r.signature f)
+    → MatchOption o (Unit {0}) (λ r. Accepted r.signature (f ++ w) ↔ Accepted r.signature (f ++ v))
+alike_with None f v w bytes more told = tt
+alike_with (Some r) f v w bytes more told =
+    elim told as (λ t. Accepted r.signature (f ++ w) ↔ Accepted r.signature (f ++ v)) [
+      | inl stays ↦ (λ h. stays v bytes, λ h. stays w more)
+      | inr never ↦ (λ h. absurd (never (w, more, h)), λ h. absurd (never (v, bytes, h)))
+    ]
+
+pub front_tells : (i : ℕ) (b c : List ℕ) (n : ℕ) → IsBuffer b → IsBuffer c → n ≤ length b → IsToldAt i (take n b)
+    → ((k : ℕ) → k < n → (k < length c) × (get_or c k 0 ≡ get_or b k 0)) → IsAlikeAt i b c
+front_tells i b c n bytes others le told same =
+    buffers_with (IsAlikeAt i) b c n bytes others le same (λ v w of more. alike_with (slice_get further i) (take n b) v w of more told)
+
+alike_itself : (o : Option Further) (b : List ℕ) → MatchOption o (Unit {0}) (λ r. Accepted r.signature b ↔ Accepted r.signature b)
+alike_itself None b = tt
+alike_itself (Some r) b = (λ h. h, λ h. h)
+
+pub whole_tells : (i : ℕ) (b c : List ℕ) → length c ≡ length b → ((k : ℕ) → k < length b → (k < length c) × (get_or c k 0 ≡ get_or b k 0)) → IsAlikeAt i b c
+whole_tells i b c long same = subst (IsAlikeAt i b) (sym (same_by_reads b c long same)) (alike_itself (slice_get further i) b)
+
+-- with what it means that a text stands somewhere
+module _ (by_place : (place : ℕ) (t b : List ℕ) → IsTrue (stands place t b) ↔ StandsByPlace place t b) (b : List ℕ) where
+  -- a byte of a set, and one of a range, which may be one byte
+  byte_told : (place : ℕ) (set : fixed.Bytes) → IsTrue (has_part b (byte place set)) ↔ ((place < length b) × IsTrue (allows set (get_or b place 0)))
+  byte_told place set = (
+    λ h. let both = and_parts _ _ h in (ltb-true place (length b) both.0, both.1),
+    λ has. and_from _ _ (lt-ltb place (length b) has.0) has.1,
+  )
+
+  one_byte : (place low : ℕ) → place < length b → get_or b place 0 ≡ low → (k : ℕ) → k < 1
+      → (place + k < length b) × (get_or b (place + k) 0 ≡ get_or (low ∷ []) k 0)
+  one_byte place low lt value zero less = let at : place + zero ≡ place = omega arith in (omega arith, ap (λ j. get_or b j 0) at ∙ value)
+  one_byte place low lt value (suc k) less = absurd (omega arith)
+
+  range_told : (place low high : ℕ) (t : Bool) → (low == high) ≡ t
+      → IsTrue (has_part b (if t then text place (low ∷ []) else byte place (between low high))) ↔ ((place < length b) × IsTrue (allows (between low high) (get_or b place 0)))
+  range_told place low high false e = byte_told place (between low high)
+  range_told place low high true e =
+      let same : low ≡ high = eqb-true low high e in
+      let told = by_place place (low ∷ []) b in (
+        λ h. let here = told.0 h 0 (omega arith) in
+            let at : place + 0 ≡ place = omega arith in
+            let value : get_or b place 0 ≡ low = sym (ap (λ k. get_or b k 0) at) ∙ here.1 in
+            (let within = here.0 in omega arith, and_from _ _ (le-leb low (get_or b place 0) (omega arith)) (le-leb (get_or b place 0) high (omega arith))),
+        λ has. let both = and_parts _ _ has.1 in
+            let least : low ≤ get_or b place 0 = leb-true _ _ both.0 in
+            let most : get_or b place 0 ≤ high = leb-true _ _ both.1 in
+            let value : get_or b place 0 ≡ low = omega arith in
+            told.1 (λ k lt. one_byte place low has.0 value k lt),
+      )
+
+  piece_told : (p : Piece) → IsTrue (has_part b (part_listed p)) ↔ HasPart b (part_of p)
+  piece_told (At place t) = by_place place t.now b
+  piece_told (OneOf place xs) = byte_told place (any_of xs.now)
+  piece_told (Between place low high) = range_told place low high (low == high) refl
+
+  pub bytes_told : (a : listed.Bytes) → IsTrue (fits b (bytes_listed a)) ↔ HasParts part_of b a.least a.pieces.now
+  bytes_told a =
+      let pieces = all_told (has_part b) part_listed (λ p. HasPart b (part_of p)) piece_told a.pieces.now in (
+        λ h. let both = and_parts _ _ h in (leb-true a.least (length b) both.0, pieces.0 both.1),
+        λ has. and_from _ _ (le-leb a.least (length b) has.0) (pieces.1 has.1),
+      )
+
+  lacks_one : (a : Alternative) → LacksBytes b a → ¬ Fits (alternative_listed a) b
+  lacks_one (Bytes a) lacks h = lacks ((bytes_told a).0 h)
+  lacks_one (BinaryBytes a) lacks h = lacks
+  lacks_one (Related r) lacks h = lacks
+
+  -- a buffer that lacks the bytes of each alternative is not accepted, and one that has those of some alternative is
+  pub lacks_all : (xs : List Alternative) → All (LacksBytes b) xs → ¬ Accepted (signature_listed xs) b
+  lacks_all [] all h = h
+  lacks_all (x ∷ xs) all h = elim h [
+    | inl here ↦ lacks_one x (All-head (LacksBytes b) x xs all) here
+    | inr later ↦ lacks_all xs (All-tail (LacksBytes b) x xs all) later
+  ]
+
+  pub has_some : (xs : List Alternative) (a : listed.Bytes) → Any (λ x. x ≡ Bytes a) xs → HasParts part_of b a.least a.pieces.now → Accepted (signature_listed xs) b
+  has_some xs a found has =
+      let is : slice_get xs found.0 ≡ Some found.1 = slice_get_read xs (length xs) found.0 found.1 refl found.2 (sym found.3) in
+      accepted_at b xs found.0 (subst (λ o. MatchOption o ⊥ (λ x. Fits (alternative_listed x) b)) (sym is)
+      (subst (λ x. Fits (alternative_listed x) b) (sym found.4) ((bytes_told a).1 has)))
+
+-- of the row with that number
+pub alike_at : (i : ℕ) (r : Further) (b c : List ℕ) → slice_get further i ≡ Some r → Accepted r.signature c ↔ Accepted r.signature b → IsAlikeAt i b c
+alike_at i r b c e same = subst (λ o. MatchOption o (Unit {0}) (λ r. Accepted r.signature c ↔ Accepted r.signature b)) (sym e) same
+
+-- what a row's number says of the row that is there
+module _ (parent : Option ℕ) (i : ℕ) where
+  widens_read : (o : Option Further) → slice_get further i ≡ o → (b : List ℕ) → WidensAt parent b i ↔ MatchOption o ⊥ (Widens parent b)
+  widens_read o e b =
+      let read = read_has (Widens parent b) further i in
+      (λ w. subst (λ p. MatchOption p ⊥ (Widens parent b)) e (read.1 w), λ h. read.0 (subst (λ p. MatchOption p ⊥ (Widens parent b)) (sym e) h))
+
+  alike_of : (o : Option Further) (b c : List ℕ) → MatchOption o (Unit {0}) (λ r. Accepted r.signature c ↔ Accepted r.signature b)
+      → MatchOption o ⊥ (Widens parent c) ↔ MatchOption o ⊥ (Widens parent b)
+  alike_of None b c same = (λ h. h, λ h. h)
+  alike_of (Some r) b c same = (λ w. (w.0, same.0 w.1), λ w. (w.0, same.1 w.1))
+
+  -- what is accepted alike widens alike
+  pub widens_alike : (b c : List ℕ) → IsAlikeAt i b c → WidensAt parent c i ↔ WidensAt parent b i
+  widens_alike b c same =
+      let there = widens_read (slice_get further i) refl c in
+      let here = widens_read (slice_get further i) refl b in
+      let alike = alike_of (slice_get further i) b c same in
+      (λ w. here.1 (alike.0 (there.0 w)), λ w. there.1 (alike.1 (here.0 w)))
+
+  -- a row with this parent widens what it accepts, one with another widens nothing, and so does no row
+  pub widens_accepted : (r : Further) → slice_get further i ≡ Some r → r.parent ≡ parent → (b : List ℕ) → Accepted r.signature b ↔ WidensAt parent b i
+  widens_accepted r e own b = let read = widens_read (Some r) e b in (λ h. read.1 (own, h), λ w. (read.0 w).1)
+
+  pub other_parent : (r : Further) → slice_get further i ≡ Some r → ¬ (r.parent ≡ parent) → (b : List ℕ) → ¬ WidensAt parent b i
+  other_parent r e other b w = other ((widens_read (Some r) e b).0 w).0
+
+  pub no_row : slice_get further i ≡ None → (b : List ℕ) → ¬ WidensAt parent b i
+  no_row e b w = (widens_read None e b).0 w
+
+-- what never holds does so alike
+pub never_alike : {P Q : Type 0} → ¬ P → ¬ Q → P ↔ Q
+never_alike p q = (λ h. absurd (p h), λ h. absurd (q h))
+
+-- of one number more it is known
+pub none_more : (P : ℕ → Type 0) (i : ℕ) → ((k : ℕ) → k < i → ¬ P k) → ¬ P i → (k : ℕ) → k < i + 1 → ¬ P k
+none_more P i before here k lt p = elim (cases_lt k i) [
+  | inl less ↦ before k less p
+  | inr more ↦ here (let e : k ≡ i = omega arith in subst P e p)
+]
+
+-- the first of the rows that widen
+pub first_widens : (parent : Option ℕ) (b : List ℕ) (i : ℕ) → ((k : ℕ) → k < i → ¬ WidensAt parent b k) → WidensAt parent b i → IsFirst (Widens parent b) further i
+first_widens parent b i before here = record {
+  within = here.0;
+  here = here.1;
+  before = λ k d low lt p. before k lt (let within = here.0 in omega arith, HoldsAt-read (Widens parent b) further k d (let within = here.0 in omega arith) p);
+}
+
+pub none_widens : (parent : Option ℕ) (b : List ℕ) (i : ℕ) → length further ≤ i → ((k : ℕ) → k < i → ¬ WidensAt parent b k) → IsFirstOf (Widens parent b) further None
+none_widens parent b i all before k d low lt p = before k (omega arith) (lt, HoldsAt-read (Widens parent b) further k d lt p)

@@ -1,0 +1,227 @@
+//! The bytes of a buffer that decide its wider answer.
+ghost use Rattle.std.specs.Prelude.{◌≡◌, ◌↔◌, ◌+◌, ◌<◌, All, Any, IfSome, IsTrue, Some, slice_get};
+ghost use Rattle.infer.specs.First.{IsFirstOf};
+ghost use Rattle.infer.specs.declared.table.rows.TheConstants.{ROW_COUNT};
+ghost use Rattle.infer_evidence.specs.Evidence.{IsOf};
+ghost use Rattle.infer_evidence.specs.Weighed.{HasParts};
+ghost use Rattle.infer_notation.specs.Alternative.{Accepted};
+ghost use Rattle.infer_more.specs.Listed.{row_listed, signature_listed};
+ghost use Rattle.infer_more.specs.Open.{is_row_sound};
+ghost use Rattle.infer_more.specs.Row.{is_row_closed};
+ghost use Rattle.infer_more.specs.Table.{further};
+ghost use Rattle.infer_more.specs.Why.{Decides, IsAlikeAt, IsTold, IsToldAt, LacksBytes, Tells, part_of};
+ghost use Rattle.infer_more.specs.Wider.{IsWider, Widens, WidensAt};
+ghost use Rattle.infer_more.specs.declared.index.generated.TheConstants.{FURTHER_COUNT};
+ghost use Rattle.infer_more.specs.declared.signature.Alternative.TheVariants as listed;
+
+use crate::decided::is_stable;
+use crate::index::FURTHER_COUNT;
+use crate::open::may_become_accepted;
+use crate::signature;
+use crate::signature::{ANY, Alternative, Bytes, Piece};
+use crate::table::{FurtherRow, row_at};
+use infer::rows::{ROW_COUNT, numbers as law_numbers};
+use infer_evidence::{
+    AsPart, Evidence, Part, Range, Set, Told, accept, fits, refuse, shortest_front,
+};
+
+impl AsPart for Piece {
+    ghost part = { λ p. part_of p };
+
+    fn part(&self) -> Part {
+        match self {
+            Piece::OneOf(place, bytes) => Part::Byte(*place, Set::AnyOf(bytes)),
+            Piece::At(place, text) => Part::Text(*place, text),
+            Piece::Between(place, low, high) => Part::Byte(*place, Set::Between(*low, *high)),
+        }
+    }
+}
+
+/// Whether the front tells if the row accepts.
+fn tells(row: &FurtherRow, front: &[u8]) -> bool
+    requires closed { IsTrue (is_row_closed (row_listed row.now)) }
+    requires sound { IsTrue (is_row_sound (row_listed row.now)) }
+    ensures { IsTrue result → IsTold (row_listed row.now).signature front.now }
+{
+    is_stable(row, front) || !may_become_accepted(row.signature, front)
+}
+
+/// Whether the further row with this number accepts.
+#[derive(Drop)]
+struct Acceptance(usize);
+
+impl Told for Acceptance {
+    ghost tells = { λ s front. IsToldAt s.0 front };
+
+    #[tactic(auto, using(crate::proofs::NamedLemmas::row_passes, crate::proofs::TableLemmas::all_sound))]
+    fn is_told(&self, front: &[u8]) -> bool {
+        match row_at(self.0) {
+            Some(row) => tells(row, front),
+            None => true,
+        }
+    }
+}
+
+/// Asks for the shortest front that tells if the row accepts, and for the whole buffer if none does.
+fn weigh_front(i: usize, buf: &[u8], evidence: &mut Evidence)
+    ensures tells { Tells evidence.old evidence.new buf.now (IsAlikeAt i buf.now) }
+    ensures inside { IsOf evidence.old buf.now → IsOf evidence.new buf.now }
+{
+    match shortest_front(&Acceptance(i), buf) {
+        Some(len) => evidence.ask(front(len, i)),
+        None => {
+            evidence.ask(front(buf.len(), i));
+            evidence.ask_exact();
+        }
+    }
+}
+
+/// The bytes of a front, which tell of the row.
+fn front(len: usize, i: usize) -> Range
+    ensures place { result.place ≡ 0 }
+    ensures len { result.len ≡ len }
+{
+    Range {
+        place: 0,
+        len,
+        row: number(i),
+    }
+}
+
+/// The number of a further row among all.
+fn number(i: usize) -> Option<usize>
+    ensures { i < FURTHER_COUNT → result ≡ Some (ROW_COUNT + i) }
+{
+    if i < FURTHER_COUNT {
+        Some(ROW_COUNT + i)
+    } else {
+        None
+    }
+}
+
+/// The first alternative of bytes at fixed places that the buffer has.
+fn bytes_held<'a>(signature: &'a [Alternative], buf: &[u8]) -> Option<&'a Bytes>
+    ensures { IfSome result (λ held. HasParts part_of buf.now held.now.least held.now.pieces.now
+        × Any (λ a. a ≡ listed.Bytes held.now) signature.now) }
+{
+    for alternative in signature {
+        if let Alternative::Bytes(bytes) = alternative
+            && fits(bytes.least, bytes.pieces, buf)
+        {
+            return Some(bytes);
+        }
+    }
+    None
+}
+
+/// Whether each alternative asks for bytes at fixed places alone, none of which the buffer has.
+fn lacks_bytes(signature: &[Alternative], buf: &[u8]) -> bool
+    ensures { IsTrue result → All (LacksBytes buf.now) signature.now }
+{
+    for alternative in signature {
+        match alternative {
+            Alternative::Bytes(bytes) if !fits(bytes.least, bytes.pieces, buf) => {}
+            _ => return false,
+        }
+    }
+    true
+}
+
+/// Asks for that by which the buffer lacks the bytes of an alternative.
+fn refuse_bytes(alternative: &Alternative, i: usize, buf: &[u8], evidence: &mut Evidence)
+    requires { LacksBytes buf.now alternative.now }
+    ensures tells { Tells evidence.old evidence.new buf.now (λ c. LacksBytes c alternative.now) }
+    ensures inside { IsOf evidence.old buf.now → IsOf evidence.new buf.now }
+{
+    if let Alternative::Bytes(bytes) = alternative {
+        refuse(bytes.least, bytes.pieces, buf, number(i), evidence);
+    }
+}
+
+/// Asks for that by which it lacks the bytes of each.
+fn refuse_all(signature: &[Alternative], i: usize, buf: &[u8], evidence: &mut Evidence)
+    requires { All (LacksBytes buf.now) signature.now }
+    ensures tells { Tells evidence.old evidence.new buf.now
+        (λ c. All (LacksBytes c) signature.now) }
+    ensures inside { IsOf evidence.old buf.now → IsOf evidence.new buf.now }
+{
+    for alternative in signature {
+        refuse_bytes(alternative, i, buf, evidence);
+    }
+}
+
+/// Whether the row, which has this number among the further ones, accepts the buffer, and asks for what tells it.
+fn weigh_row(row: &FurtherRow, i: usize, buf: &[u8], evidence: &mut Evidence) -> bool
+    requires closed { IsTrue (is_row_closed (row_listed row.now)) }
+    requires listed { slice_get further i ≡ Some (row_listed row.now) }
+    ensures answer { IsTrue result ↔ Accepted (row_listed row.now).signature buf.now }
+    ensures tells { Tells evidence.old evidence.new buf.now (IsAlikeAt i buf.now) }
+    ensures inside { IsOf evidence.old buf.now → IsOf evidence.new buf.now }
+{
+    infer_sig::laws::by_place();
+    if let Some(bytes) = bytes_held(row.signature, buf) {
+        accept(bytes.least, bytes.pieces, buf, number(i), evidence);
+        return true;
+    }
+    if lacks_bytes(row.signature, buf) {
+        refuse_all(row.signature, i, buf, evidence);
+        return false;
+    }
+    weigh_front(i, buf, evidence);
+    signature::accepts::<ANY>(row.signature, buf)
+}
+
+/// Whether the row has this parent.
+fn has_parent(row: &FurtherRow, parent: Option<usize>) -> bool
+    ensures { IsTrue result ↔ ((row_listed row.now).parent ≡ parent) }
+{
+    row.parent == parent
+}
+
+/// Whether further row `i` widens this answer, and asks for what tells it.
+fn weigh_at(i: usize, parent: Option<usize>, buf: &[u8], evidence: &mut Evidence) -> bool
+    ensures answer { IsTrue result ↔ WidensAt parent buf.now i }
+    ensures tells { Tells evidence.old evidence.new buf.now
+        (λ c. WidensAt parent c i ↔ WidensAt parent buf.now i) }
+    ensures inside { IsOf evidence.old buf.now → IsOf evidence.new buf.now }
+{
+    match row_at(i) {
+        Some(row) => has_parent(row, parent) && weigh_row(row, i, buf, evidence),
+        None => false,
+    }
+}
+
+/// The first further row that widens this answer, and asks for what tells that it is.
+fn widen(parent: Option<usize>, buf: &[u8], evidence: &mut Evidence) -> Option<usize>
+    ensures first { IsFirstOf (Widens parent buf.now) further result }
+    ensures bound { IfSome result (λ i. i < FURTHER_COUNT) }
+    ensures tells { Tells evidence.old evidence.new buf.now
+        (λ c. IsFirstOf (Widens parent c) further result) }
+    ensures inside { IsOf evidence.old buf.now → IsOf evidence.new buf.now }
+{
+    for i in 0..FURTHER_COUNT {
+        if weigh_at(i, parent, buf, evidence) {
+            return Some(i);
+        }
+    }
+    None
+}
+
+/// The number of the wider answer of `buf`, as [`position`](crate::position) answers, and what decides it: the bytes of
+/// ranges, and what is needed of the length. Every buffer with the same bytes in these ranges and such a length has the same
+/// answer, unless more ranges are wanted than there is room for.
+///
+/// A further row that asks for bytes at fixed places has the bytes that it asks for, or one that is another. Of every other
+/// row they are the shortest front that tells, and the whole buffer if more bytes may always change it, as of text.
+pub fn evidence(buf: &[u8], evidence: &mut Evidence) -> Option<usize>
+    ensures wider { IsWider buf.now result }
+    ensures decides { Decides evidence.new buf.now result }
+    ensures inside { IsOf evidence.new buf.now }
+{
+    law_numbers();
+    let parent = infer::evidence(buf, evidence);
+    match widen(parent, buf, evidence) {
+        Some(i) => Some(ROW_COUNT + i),
+        None => parent,
+    }
+}
