@@ -13,3 +13,4 @@ pub mod BlankLemmas
 pub mod NamedLemmas
 pub mod PiecesLemmas
 pub mod ExtractedLemmas
+pub mod TokenLemmas

@@ -1,6 +1,6 @@
 //! Parts of a text.
 ghost use Rattle.std.specs.Prelude.{◌≡◌, ◌==◌, ◌≤◌, drop, length};
-ghost use Rattle.std.specs.List.{list_all};
+ghost use Rattle.std.specs.List.{list_all, prefix_len};
 ghost use Rattle.mime_types.specs.Bytes.{is_token};
 ghost use Rattle.mime_types.specs.Text.{before, behind, front, is_a_token, trim, trim_end, trim_start};
 
@@ -50,20 +50,43 @@ pub(crate) fn cut(text: &[u8], byte: u8) -> (&[u8], &[u8])
     ensures front { result.0.now ≡ front (λ x. x == byte) text.now }
     ensures behind { result.1.now ≡ behind (λ x. x == byte) text.now }
 {
-    let end = find(text, byte);
+    cut_from(text, 0, byte)
+}
+
+/// The same, where it is known of so many bytes that they are others.
+pub(crate) fn cut_from(text: &[u8], start: usize, byte: u8) -> (&[u8], &[u8])
+    requires { start ≤ before (λ x. x == byte) text.now }
+    ensures front { result.0.now ≡ front (λ x. x == byte) text.now }
+    ensures behind { result.1.now ≡ behind (λ x. x == byte) text.now }
+{
+    let end = find(text, start, byte);
     if end == text.len() {
         return (text, &[]);
     }
     (&text[..end], &text[end + 1..])
 }
 
-/// How many bytes stand before the first such byte, or how many there are.
-fn find(text: &[u8], byte: u8) -> usize
+/// How many bytes stand before the first such byte, or how many there are. So many are known to be others.
+fn find(text: &[u8], start: usize, byte: u8) -> usize
+    requires { start ≤ before (λ x. x == byte) text.now }
     ensures value { result ≡ before (λ x. x == byte) text.now }
     ensures bound { result ≤ length text.now }
 {
-    for at in 0..text.len() {
+    for at in start..text.len() {
         if text[at] == byte {
+            return at;
+        }
+    }
+    text.len()
+}
+
+/// How many bytes of tokens the text begins with.
+pub(crate) fn token_len(text: &[u8]) -> usize
+    ensures value { result ≡ prefix_len is_token text.now }
+    ensures bound { result ≤ length text.now }
+{
+    for at in 0..text.len() {
+        if !is_token(text[at]) {
             return at;
         }
     }
