@@ -8,3 +8,4 @@ pub mod ComputedLemmas
 pub mod GrowthLemmas
 pub mod DecidedLemmas
 pub mod SnifferLemmas
+pub mod ScriptLemmas

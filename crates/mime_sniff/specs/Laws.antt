@@ -1,5 +1,6 @@
 -- Laws of content types and of computed types.
 use Rattle.std.specs.Prelude.{◌≡◌, ◌↔◌, ◌⊎◌, Any, IsTrue, List, Option, None, Some, ℕ}
+use Rattle.mime_types.specs.Groups.{IsJavaScript, essence}
 use Rattle.mime_types.specs.Mime.{Kind}
 use Rattle.mime_sniff.specs.Computed.{IsAskedOf, IsComputed, IsSuppliedScriptable, IsUnknown, Supply, TellsScriptable, otherwise, rules_of}
 use Rattle.mime_sniff.specs.Go.{IsContentType}
@@ -43,3 +44,7 @@ StaysOfItsKind =
 abbrev pub StaysIfForbidden : Type 0
 StaysIfForbidden =
     (s : Supply) (k : Kind) (b : List ℕ) (told : Option (List ℕ)) → s.kind ≡ Some k → (¬ IsUnknown s.kind) → IsTrue s.no_sniff → IsComputed s b told → told ≡ None
+
+-- a type that is told in place of the supplied one is no JavaScript
+abbrev pub TellsNoScript : Type 0
+TellsNoScript = (s : Supply) (b t : List ℕ) (k : Kind) → IsComputed s b (Some t) → essence k ≡ t → ¬ IsJavaScript k

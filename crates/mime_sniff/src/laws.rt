@@ -1,5 +1,5 @@
 //! Facts about the definitions, each the contract of a function that does nothing beside. To use a law, call it.
-ghost use Rattle.mime_sniff.specs.Laws.{ComputesOne, Escalates, HasOneType, HeaderComputes, HeaderDecides, StaysIfForbidden, StaysOfItsKind};
+ghost use Rattle.mime_sniff.specs.Laws.{ComputesOne, Escalates, HasOneType, HeaderComputes, HeaderDecides, StaysIfForbidden, StaysOfItsKind, TellsNoScript};
 
 /// No buffer has two content types.
 pub fn one_type()
@@ -36,4 +36,9 @@ pub fn of_its_kind()
 /// Where sniffing is forbidden, a supplied type that tells something stays, whatever the bytes are.
 pub fn stays_if_forbidden()
     ensures { StaysIfForbidden }
+{}
+
+/// No type that is told in place of the supplied one is JavaScript, so what is computed is JavaScript only if that was supplied.
+pub fn tells_no_script()
+    ensures { TellsNoScript }
 {}
