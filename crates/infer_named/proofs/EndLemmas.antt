@@ -1,5 +1,5 @@
 -- Bytes at the end of a base that is longer than a key, and that settle its extension.
-use Rattle.std.proofs.Common.{◌≡◌, ◌+◌, ◌-◌, ◌<◌, ◌≤◌, ◌∙◌, ◌&&◌, ℕ, Bool, true, false, IfSome, List, Option, MatchOption, None, Some, ap, ap₂, arith, codes, drop, get_or, if◌then◌else◌, inl, inr, is_some, length, not, option_map, refl, subst, sym, take, unwrap_or}
+use Rattle.std.proofs.Common.{◌≡◌, ◌+◌, ◌-◌, ◌<◌, ◌≤◌, ◌∙◌, ◌&&◌, ℕ, Bool, true, IfSome, List, Option, MatchOption, None, Some, ap, ap₂, arith, codes, drop, get_or, if◌then◌else◌, inl, inr, is_some, length, not, option_map, refl, subst, sym, take, unwrap_or}
 use Rattle.std.proofs.lemmas.Bool.{cases_lt, lt-ltb}
 use Rattle.std.proofs.lemmas.List.{drop-drop, drop-take, get_or-drop, length-drop, length-map, length-take-le, take_all}
 use Rattle.std.specs.Char.{to_ascii_lowercase}
@@ -8,12 +8,12 @@ use Rattle.std.specs.Prelude.{nat_lt}
 use Rattle.std.specs.Str.{bytes_eq}
 use Rattle.memchr.proofs.lemmas.ValueLemmas.{IsLastByte-value}
 use Rattle.memchr.specs.Find.{IsFirstByte, IsLastByte, is_byte, is_byte3}
-use Rattle.infer_named.proofs.DotLemmas.{far_none, near_key, none_long}
+use Rattle.infer_named.proofs.DotLemmas.{near_key, none_long}
 use Rattle.infer_named.proofs.EdgeLemmas.{base_of, end_of_base, key_of_none, last_near, no_zero, none_behind}
 use Rattle.infer_named.proofs.TableLemmas.{all_right}
 use Rattle.infer_named.specs.Dots.{HasEdge, IsNear, IsSettled}
 use Rattle.infer_named.specs.Key.{Key}
-use Rattle.infer_named.specs.Names.{IsBase, IsDottedKey, IsExtensionKey, IsKey, IsLastDot, IsStemKey, IsVersioned, behind, copy_length, ends_in, entry, extension_at, is_version, is_version_byte, small, stem_of, up_to}
+use Rattle.infer_named.specs.Names.{IsDottedKey, IsExtensionKey, IsKey, IsLastDot, IsStemKey, IsVersioned, behind, copy_length, ends_in, entry, extension_at, is_version, is_version_byte, small, stem_of, up_to}
 use Rattle.infer_named.specs.Table.{keys}
 use Rattle.infer_named.specs.declared.table.Part.TheVariants.{Extension, Whole}
 

@@ -8,6 +8,7 @@ pub mod Placed
 pub mod PlacedLemmas
 pub mod TableLemmas
 pub mod EdgeLemmas
+pub mod PartLemmas
 pub mod DotLemmas
 pub mod EndLemmas
 pub mod KindLemmas

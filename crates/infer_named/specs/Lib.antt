@@ -15,6 +15,7 @@ pub mod Asks
 pub mod Join
 pub mod Named
 pub mod Own
+pub mod Parts
 pub mod Odd
 pub mod Reading
 pub mod Laws

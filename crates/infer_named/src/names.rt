@@ -1,12 +1,14 @@
 //! The key of a name.
-ghost use Rattle.std.specs.Prelude.{◌≡◌, ◌-◌, ◌<◌, ◌≤◌, ◌==◌, ℕ, IfSome, Option, IsTrue, None, Some, drop, false, if◌then◌else◌, is_some, length, map, not, option_map, true};
+ghost use Rattle.std.specs.Prelude.{◌≡◌, ◌+◌, ◌-◌, ◌<◌, ◌≤◌, ◌==◌, ℕ, IfSome, Option, IsTrue, None, Some, drop, false, if◌then◌else◌, is_some, length, map, not, option_map, true};
+ghost use Rattle.std.specs.Bool.{OnTrue};
 ghost use Rattle.std.specs.Char.{to_ascii_lowercase};
 ghost use Rattle.std.specs.List.{find, list_any};
 ghost use Rattle.std.specs.Str.{bytes_eq};
-ghost use Rattle.memchr.specs.Find.{IsFirstByte, IsLastByte, is_byte, is_byte3};
+ghost use Rattle.memchr.specs.Find.{IsFirstByte, IsLastByte, Nowhere, Passes, is_byte, is_byte3};
 ghost use Rattle.infer_named.specs.Dots.{HasEdge, IsNear, IsSettled};
 ghost use Rattle.infer_named.specs.Listed.{key_listed};
 ghost use Rattle.infer_named.specs.Marks.{mark_of};
+ghost use Rattle.infer_named.specs.Parts.{ArePartsAmong, are_parts_from};
 ghost use Rattle.infer_named.specs.Names.{IsBase, IsDottedKey, IsExtensionKey, IsKey, IsLastDot, IsMakerKey, IsStemKey, IsVersioned, are_parts, copy_length, ends_copy, ends_in, entry, extension_at, is_digit, is_key, is_version, is_version_byte, makers, same_part, slot_of, small, stem_of};
 ghost use Rattle.infer_named.specs.Table.{keys};
 ghost use Rattle.infer_named.specs.declared.table.Part.TheVariants.{Whole};
@@ -23,6 +25,9 @@ const FAR: usize = 28;
 
 /// A first dot that does not stand among so many bytes has more before it than a maker has.
 const MAKER_FRONT: usize = 14;
+
+/// So many bytes of a long version are read at once.
+const BLOCK: usize = 64;
 
 /// The key of the name, and `None` exactly if it has none. Most bases are short, so its last bytes are searched by themselves.
 pub fn key(name: &[u8]) -> Option<&'static Key>
@@ -324,7 +329,7 @@ fn is_versioned(stem: &[u8]) -> bool
 fn version_edge(stem: &[u8]) -> Option<usize>
     ensures { IsLastByte (λ x. not (is_version_byte x)) stem.now result }
 {
-    let mut edge = stem.len();
+    let mut edge = before_blocks(stem);
     while edge > 0 {
         edge -= 1;
         if !is_version_byte(stem[edge]) {
@@ -332,6 +337,32 @@ fn version_edge(stem: &[u8]) -> Option<usize>
         }
     }
     None
+}
+
+/// What stands before whole blocks of digits and dots at the end, as none but a name that is to cost much has them.
+fn before_blocks(stem: &[u8]) -> usize
+    ensures within { result ≤ length stem.now }
+    ensures digits { Nowhere (Passes (λ x. not (is_version_byte x)) stem.now) result (length stem.now) }
+{
+    let mut edge = stem.len();
+    while BLOCK <= edge && is_block(stem, edge - BLOCK) {
+        edge -= BLOCK;
+    }
+    edge
+}
+
+/// Whether a block from this place on is digits and dots.
+#[inline(always)]
+fn is_block(stem: &[u8], from: usize) -> bool
+    requires { from + 64 ≤ length stem.now }
+    ensures { OnTrue result (Nowhere (Passes (λ x. not (is_version_byte x)) stem.now) from (from + 64)) }
+{
+    // No early exit: of a loop whose length is known the compiler makes vectors.
+    let mut all = true;
+    for i in 0..BLOCK {
+        all &= is_version_byte(stem[from + i]);
+    }
+    all
 }
 
 fn is_version_byte(byte: u8) -> bool
@@ -347,20 +378,58 @@ fn is_digit(byte: u8) -> bool
 }
 
 /// Whether the text is parts of digits only, each behind a dot.
+#[tactic(auto, using(crate::proofs::PartLemmas::version_by_parts))]
 fn is_version(text: &[u8]) -> bool
     ensures { result ≡ is_version text.now }
 {
     match text {
-        [first, rest @ ..] => *first == b'.' && are_parts(rest),
+        [first, ..] => *first == b'.' && are_parts_behind(text),
         [] => false,
     }
 }
 
-/// Whether these are digits and dots, a digit first and one behind each dot.
-fn are_parts(text: &[u8]) -> bool
-    ensures { result ≡ are_parts true text.now }
+/// Whether these are such parts behind the first byte, in which a digit is due if it is none.
+fn are_parts_behind(text: &[u8]) -> bool
+    requires { 0 < length text.now }
+    ensures { result ≡ are_parts_from text.now 1 }
 {
-    let mut due = true;
+    let start = after_blocks(text);
+    are_parts(!is_digit(text[start - 1]), &text[start..])
+}
+
+/// A place up to which the first byte has whole blocks of such parts behind it. Few names have one.
+#[tactic(auto, using(crate::proofs::PartLemmas::parts_past))]
+fn after_blocks(text: &[u8]) -> usize
+    requires { 0 < length text.now }
+    ensures some { 0 < result }
+    ensures within { result ≤ length text.now }
+    ensures same { are_parts_from text.now result ≡ are_parts_from text.now 1 }
+{
+    let mut at = 1;
+    while BLOCK <= text.len() - at && has_parts(text, at) {
+        at += BLOCK;
+    }
+    at
+}
+
+/// Whether each byte of the block from this place on is a digit, or a dot behind one.
+#[inline(always)]
+fn has_parts(text: &[u8], from: usize) -> bool
+    requires some { 0 < from }
+    requires within { from + 64 ≤ length text.now }
+    ensures { OnTrue result (ArePartsAmong text.now from (from + 64)) }
+{
+    let mut all = true;
+    for i in 0..BLOCK {
+        all &= is_digit(text[from + i]) | ((text[from + i] == b'.') & is_digit(text[from + i - 1]));
+    }
+    all
+}
+
+/// Whether these are digits and dots with a digit behind each dot, and first if one is due.
+fn are_parts(mut due: bool, text: &[u8]) -> bool
+    ensures { result ≡ are_parts due text.now }
+{
     for byte in text {
         if is_digit(*byte) {
             due = false;
