@@ -18,7 +18,7 @@ use Rattle.infer_named.specs.Asks.{admits}
 use Rattle.infer_named.specs.Join.{Answer, answer, fits, is_among, join, joined_with, joined_without, of_bytes, of_name, reading_of, reading_without, takes}
 use Rattle.infer_named.specs.Key.{Key, Reading}
 use Rattle.infer_named.specs.Bytes.{HasZero, lead_of, shown, unmarked, without_white}
-use Rattle.infer_named.specs.Laws.{AnswersLast, KindsLast, LeadsLast, LiesStayVisible, NothingIsInvented, OnlyTheKeyCounts, OnlyThreeCount, SilenceIsExact, TheBytesWin, has_no_leads, is_silent, tells_bytes}
+use Rattle.infer_named.specs.Laws.{AnswersLast, AnswersLastByKind, DecidedAnswersLast, KindsLast, LeadsLast, LiesStayVisible, NothingIsInvented, OnlyTheKeyCounts, OnlyThreeCount, SilenceIsExact, TheBytesWin, has_no_leads, is_silent, tells_bytes}
 use Rattle.infer_named.specs.Named.{key_of}
 use Rattle.infer_named.specs.declared.bytes.Kind.{Kind}
 use Rattle.infer_named.specs.declared.join.Standing.TheVariants.{Agree, BytesRefine, Contradicts, NameAlone, NameRefines, Nothing}
@@ -311,3 +311,20 @@ answers_last name b more n m t kind other is later f g wide wider_later two apar
     f.is kind is ∙ (ap (λ k. join k f.wider kind (lead_of b)) same ∙ (ap (λ o. join (key_of m) o kind (lead_of b)) w
     ∙ (any_kind (key_of m) t kind other (lead_of b) ∙ (ap (λ l. join (key_of m) (Some t) other l) (sym (leads_last b more two apart))
     ∙ (ap (λ o. join (key_of m) o other (lead_of (b ++ more))) (sym v) ∙ sym (g.is other later))))))
+
+pub answers_last_by_kind : AnswersLastByKind
+answers_last_by_kind name b more n m o kind is later f g wide wider_later two apart same =
+    let w = one_wider b f.wider o f.is_wider wide in
+    let v = one_wider (b ++ more) g.wider o g.is_wider wider_later in
+    f.is kind is ∙ (ap (λ k. join k f.wider kind (lead_of b)) same ∙ (ap (λ p. join (key_of m) p kind (lead_of b)) w
+    ∙ (ap (λ l. join (key_of m) o kind l) (sym (leads_last b more two apart))
+    ∙ (ap (λ p. join (key_of m) p kind (lead_of (b ++ more))) (sym v) ∙ sym (g.is kind later)))))
+
+pub decided_answers_last : DecidedAnswersLast
+decided_answers_last name b more n m t kind other decided buffer is later f g wide two apart same =
+    let stays : IsWiderAnswer (b ++ more) (Some t) = record {
+      number = wide.number;
+      is_wider = decided more wide.number buffer wide.is_wider;
+      is_shown = wide.is_shown;
+    } in
+    answers_last name b more n m t kind other is later f g wide stays two apart same

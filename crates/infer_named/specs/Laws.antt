@@ -2,8 +2,10 @@
 use Rattle.std.specs.Prelude.{All, ◌==◌, ◌&&◌, ◌||◌, if◌then◌else◌, nat_le, nat_lt, ◌≡◌, ◌≢◌, ◌↔◌, ◌<◌, ◌++◌, ℕ, Bool, false, true, IsTrue, List, [], ◌∷◌, Option, None, Some, length, not, option_map}
 use Rattle.std.specs.List.{list_all, list_any}
 use Rattle.std.specs.Option.{option_map_or}
+use Rattle.infer.specs.Buffer.{IsBuffer}
 use Rattle.infer.specs.Triple.{Triple}
 use Rattle.infer_formats.specs.Text.{IsText}
+use Rattle.infer_more.specs.Decided.{IsDecided}
 use Rattle.infer_more.specs.Wider.{IsWiderAnswer}
 use Rattle.infer_named.specs.Asks.{admits}
 use Rattle.infer_named.specs.Bytes.{IsKind, lead_of}
@@ -93,6 +95,20 @@ abbrev pub AnswersLast : Type 0
 AnswersLast =
     (name b more : List ℕ) (n m : Named) (t : Triple) (kind other : Kind) → IsKind b kind → IsKind (b ++ more) other
     → IsNamed name b n → IsNamed name (b ++ more) m → IsWiderAnswer b (Some t) → IsWiderAnswer (b ++ more) (Some t)
+    → length (lead_of b) ≡ 2 → b ≢ (0xEF ∷ 0xBB ∷ []) → key_of n ≡ key_of m → answer_of n ≡ answer_of m
+
+-- While the kind stays too, that holds of bytes without a type as well.
+abbrev pub AnswersLastByKind : Type 0
+AnswersLastByKind =
+    (name b more : List ℕ) (n m : Named) (o : Option Triple) (kind : Kind) → IsKind b kind → IsKind (b ++ more) kind
+    → IsNamed name b n → IsNamed name (b ++ more) m → IsWiderAnswer b o → IsWiderAnswer (b ++ more) o
+    → length (lead_of b) ≡ 2 → b ≢ (0xEF ∷ 0xBB ∷ []) → key_of n ≡ key_of m → answer_of n ≡ answer_of m
+
+-- The type of bytes whose wider answer is decided stays, so the answer about them does.
+abbrev pub DecidedAnswersLast : Type 0
+DecidedAnswersLast =
+    (name b more : List ℕ) (n m : Named) (t : Triple) (kind other : Kind) → IsDecided b → IsBuffer more → IsKind b kind → IsKind (b ++ more) other
+    → IsNamed name b n → IsNamed name (b ++ more) m → IsWiderAnswer b (Some t)
     → length (lead_of b) ≡ 2 → b ≢ (0xEF ∷ 0xBB ∷ []) → key_of n ≡ key_of m → answer_of n ≡ answer_of m
 
 -- a byte that a key may have: a visible one of ASCII but / and \ and capital letters
