@@ -118,6 +118,8 @@ unfolding {unfolded}
 returns-in_default c =
     (None, none_below_others ({parents} ∷ []) refl c.args.row {differ} c.args.buf.now, refl)
 """
+# What is computed of each row, sixteen rows a step, with room for 1024: a refusal shows the rows that fail.
+EACH_ROW = "(\n" + 4 * f"      {16 * '(refl, '}tt{16 * ')'},\n" + "    )"
 # The answers of the functions of lists, which compute that each row is found.
 COMPUTED = """-- Made by `tools/tables` from the further rows: computed of each.
 use Rattle.infer_more.proofs.Common.{{{words}refl}}
@@ -127,7 +129,9 @@ use Rattle.infer_more.proofs.index.generated.{function}.Goals as goal
 
 pub returns : goal.returns
 unfolding {unfolded}
-returns c = {lemma} {parent}_ refl refl
+returns c =
+    {lemma} {parent}_ {each_row}
+    refl
 """
 TOLD_BELOW = """-- Made by `tools/tables` from the further rows: the other ways stand in one list.
 use Rattle.infer_more.proofs.Common.{{◌∷◌, [], arith, subst, sym}}
@@ -674,9 +678,9 @@ def computed(rows, parents):
     names = lists_of_rows()
     said = {"names": ", ".join(names), "unfolded": " ".join(names)}
     for k in apart(ways):
-        yield f"below_{k}", COMPUTED.format(function=f"below_{k}", lemma="way_below", words="", parent=f"{k} ", **said)
+        yield f"below_{k}", COMPUTED.format(function=f"below_{k}", lemma="way_below", words="", parent=f"{k} ", each_row=EACH_ROW, **said)
     others = in_list_of(apart(ways))
-    yield "below_others", COMPUTED.format(function="below_others", lemma="ways_below", words="◌∷◌, [], ", parent=f"({others}) ", **said)
+    yield "below_others", COMPUTED.format(function="below_others", lemma="ways_below", words="◌∷◌, [], ", parent=f"({others}) ", each_row=EACH_ROW, **said)
     yield "told_below", TOLD_BELOW.format(parents=others, differ=differing(apart(ways)))
 
 

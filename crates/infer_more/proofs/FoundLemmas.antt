@@ -17,7 +17,7 @@ use Rattle.infer_more.specs.declared.index.Texts.{Texts}
 use Rattle.infer_more.proofs.IndexLemmas.{both_left, both_right, covered_here, excepted_here, listed_left, listed_right, parentless_here}
 use Rattle.infer_more.proofs.LeastLemmas.{least_both, least_late, least_same}
 use Rattle.infer_more.proofs.OutlineLemmas.{has_lines, small_bytes}
-use Rattle.infer_more.proofs.NamedLemmas.{each_passes, refused}
+use Rattle.infer_more.proofs.TableLemmas.{NoRowFails, each_row}
 
 -- what is computed to be the same is the same
 same_true : (xs ys : List ℕ) → IsTrue (same xs ys) → xs ≡ ys
@@ -411,21 +411,22 @@ module _ (index : Parentless) (all : FindsParentless index) (b : List ℕ) (byte
         | inr (inr (e, p)) ↦ omega arith
       ]))
 
--- as computed of each row
-each_found : (test : ℕ → Further → Bool) → refused test 0 further ≡ [] → (i : ℕ) → IsTrue (option_map_or (test i) (slice_get further i) true)
-each_found test none i = let e : 0 + i ≡ i = omega arith in subst (λ k. IsTrue (option_map_or (test k) (slice_get further i) true)) e (each_passes test 0 further none i)
+-- a test of the row with that number
+abbrev pub at_row : (ℕ → Further → Bool) → ℕ → Bool
+at_row test i = option_map_or (test i) (slice_get further i) true
 
-pub way_below : (parent : ℕ) (way : below.Below) → refused (λ i r. is_row_below (λ p. p == parent) (λ p. way) i r.parent r) 0 further ≡ []
+-- as computed of each row: a refusal shows the numbers of the rows that are not found
+pub way_below : (parent : ℕ) (way : below.Below) → NoRowFails (at_row (λ i r. is_row_below (λ p. p == parent) (λ p. way) i r.parent r))
     → IsTrue (is_true_below parent way) → IsWayBelow parent way
-way_below parent way none told = record { found = λ i lt. each_found _ none i; told = told }
+way_below parent way none told = record { found = each_row _ none; told = told }
 
 pub ways_below : (apart : List ℕ) (ways : List below.Below)
-    → refused (λ i r. is_row_below (λ p. not (is_listed apart p)) (below_at ways) i r.parent r) 0 further ≡ [] → IsTrue (are_true 0 ways) → AreWaysBelow apart ways
-ways_below apart ways none told = record { found = λ i lt. each_found _ none i; told = told }
+    → NoRowFails (at_row (λ i r. is_row_below (λ p. not (is_listed apart p)) (below_at ways) i r.parent r)) → IsTrue (are_true 0 ways) → AreWaysBelow apart ways
+ways_below apart ways none told = record { found = each_row _ none; told = told }
 
-pub each_parentless : (index : Parentless) → refused (λ i r. is_row_parentless index i r.parent r) 0 further ≡ [] → IsTrue (are_texts index.texts)
+pub each_parentless : (index : Parentless) → NoRowFails (at_row (λ i r. is_row_parentless index i r.parent r)) → IsTrue (are_texts index.texts)
     → IsTrue (are_rooted index.roots.now) → IsTrue (are_spans index.first) → EachParentlessIsFound index
-each_parentless index none texts roots spans = record { found = λ i lt. each_found _ none i; texts = texts; roots = roots; spans = spans }
+each_parentless index none texts roots spans = record { found = each_row _ none; texts = texts; roots = roots; spans = spans }
 
 -- a root is that of markup, which begins with white space, "<" or a byte order mark
 pub root_starts : (b : List ℕ) → Leads → (name rest : List ℕ) → IsRootElement name rest b → MayBeginMarkup b

@@ -6,4 +6,11 @@ use Rattle.infer_more.proofs.index.generated.below_95.Goals as goal
 
 pub returns : goal.returns
 unfolding archives bitmaps chunks code disks documents elements further games headers images kinds late markup media office openings others packages packed papers pictures prefaces rasters records roots scripts secrets shapes sounds stores texts tunes
-returns c = way_below 95 _ refl refl
+returns c =
+    way_below 95 _ (
+      (refl, (refl, (refl, (refl, (refl, (refl, (refl, (refl, (refl, (refl, (refl, (refl, (refl, (refl, (refl, (refl, tt)))))))))))))))),
+      (refl, (refl, (refl, (refl, (refl, (refl, (refl, (refl, (refl, (refl, (refl, (refl, (refl, (refl, (refl, (refl, tt)))))))))))))))),
+      (refl, (refl, (refl, (refl, (refl, (refl, (refl, (refl, (refl, (refl, (refl, (refl, (refl, (refl, (refl, (refl, tt)))))))))))))))),
+      (refl, (refl, (refl, (refl, (refl, (refl, (refl, (refl, (refl, (refl, (refl, (refl, (refl, (refl, (refl, (refl, tt)))))))))))))))),
+    )
+    refl
