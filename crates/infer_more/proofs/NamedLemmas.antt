@@ -1,5 +1,5 @@
 -- Tests of all rows, whose refusal shows the numbers of the rows that fail.
-use Rattle.infer_more.proofs.Common.{◌≡◌, ◌+◌, ℕ, zero, suc, arith, option_map_or, Bool, true, false, IsTrue, List, [], ◌∷◌, Some, subst, refl, if◌then◌else◌, list_all, Further, and_from, get_or_from_slice_get, slice_get_within, sym}
+use Rattle.infer_more.proofs.Common.{◌≡◌, ℕ, suc, Bool, true, false, IsTrue, List, [], ◌∷◌, Some, subst, refl, if◌then◌else◌, list_all, Further, and_from, get_or_from_slice_get, slice_get_within, sym}
 use Rattle.std.proofs.Common.{slice_get}
 use Rattle.std.proofs.lemmas.List.Sums.{AllPass-from_list_all}
 
@@ -16,18 +16,6 @@ pub all_pass : (test : Further → Bool) (i : ℕ) (rows : List Further) → fai
 all_pass test i [] e = refl
 all_pass test i (r ∷ rows) e =
     let here = none_failed (test r) i (failing test (suc i) rows) e in and_from (test r) _ here.0 (all_pass test (suc i) rows here.1)
-
--- the numbers of the rows that fail a test which is told their number
-abbrev pub refused : (ℕ → Further → Bool) → ℕ → List Further → List ℕ
-refused test i [] = []
-refused test i (r ∷ rows) = if test i r then refused test (suc i) rows else i ∷ refused test (suc i) rows
-
-pub each_passes : (test : ℕ → Further → Bool) (i : ℕ) (rows : List Further) → refused test i rows ≡ [] → (k : ℕ) → IsTrue (option_map_or (test (i + k)) (slice_get rows k) true)
-each_passes test i [] e k = refl
-each_passes test i (r ∷ rows) e zero = let same : i + 0 ≡ i = omega arith in rw same (none_failed (test i r) i (refused test (suc i) rows) e).0
-each_passes test i (r ∷ rows) e (suc k) =
-    let same : i + suc k ≡ suc i + k = omega arith in
-    rw same (each_passes test (suc i) rows (none_failed (test i r) i (refused test (suc i) rows) e).1 k)
 
 -- a test that all rows pass is passed by the row that is read
 pub row_passes : (test : Further → Bool) (rows : List Further) (i : ℕ) (r : Further) → IsTrue (list_all test rows) → Some r ≡ slice_get rows i → IsTrue (test r)
