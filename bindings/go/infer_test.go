@@ -332,6 +332,9 @@ func TestOwnTypes(t *testing.T) {
 		data := decode(t, line[1])
 		wider, known := DetectMore(data)
 		for _, types := range []*OwnTypes{own, none} {
+			if _, own := types.Line(data); own {
+				continue
+			}
 			if got, ok := types.Detect(data); got != wider || ok != known {
 				t.Error(line[0], got, wider)
 			}

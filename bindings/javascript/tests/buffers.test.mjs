@@ -140,7 +140,7 @@ test("types of a text answer before the further ones", () => {
         assert.deepEqual(told, [lines + 2, lines + 4, undefined, undefined]);
     }
     for (const { name, data } of furtherVectors) {
-        for (const types of [own, none]) assert.deepEqual(types.wider(data), wider(data), name);
+        for (const types of [own, none]) if (types.line(data) === undefined) assert.deepEqual(types.wider(data), wider(data), name);
     }
     const name = "x".repeat(127);
     assert.deepEqual(new infer.Types(`${name} ${name}/${name} doc - 1: @0 00`).wider(new Uint8Array(1)), { ext: name, mime: `${name}/${name}` });
