@@ -40,7 +40,3 @@ same_around e r around b c h =
     let outer = around.1 in
     let same : IsSame b c outer = subst (IsSame b c) around.3 (h.same around.0 outer around.2) in
     (h, λ k low high. same k (let within = around.4.0 in omega arith) (let within = around.4.1 in omega arith))
-
--- and in a range of no bytes
-pub same_nothing : (e : Evidence) (r : Range) → r.len ≤ 0 → (b c : List ℕ) → AgreesOn e b c → AgreesOn e b c × IsSame b c r
-same_nothing e r none b c h = (h, λ k low high. absurd (omega arith))

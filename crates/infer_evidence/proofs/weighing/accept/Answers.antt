@@ -1,4 +1,4 @@
-use Rattle.infer_evidence.proofs.Common.{◌+◌, ◌≤◌, HasPart, arith, subst}
+use Rattle.infer_evidence.proofs.Common.{HasPart, arith, subst}
 use Rattle.infer_evidence.proofs.ListLemmas.{all_more}
 use Rattle.infer_evidence.proofs.weighing.accept.Goals as goal
 
