@@ -1,5 +1,5 @@
 -- Laws of names and bytes.
-use Rattle.std.proofs.Common.{All, ◌++◌, ◌<◌, ◌==◌, ◌||◌, drop, take, nat_eq, arith, ◌≡◌, ◌≢◌, ◌&&◌, ◌∙◌, ℕ, Bool, true, false, IsTrue, List, [], ◌∷◌, Option, None, Some, ap, sym, subst, refl, length, not, option_map, inl, inr, if◌then◌else◌}
+use Rattle.std.proofs.Common.{All, ◌++◌, ◌<◌, ◌==◌, ◌||◌, drop, take, nat_eq, arith, ◌≡◌, ◌≢◌, ◌⊎◌, ◌&&◌, ◌∙◌, ℕ, Bool, true, false, IsTrue, List, [], ◌∷◌, Option, None, Some, ap, sym, subst, refl, length, not, option_map, inl, inr, if◌then◌else◌}
 use Rattle.std.proofs.lemmas.Bool.{and_parts, cases_Bool, eqb-true}
 use Rattle.std.proofs.lemmas.List.{get_or_append_left, length-append}
 use Rattle.std.proofs.lemmas.List.Elements.{filter-append}
@@ -17,10 +17,11 @@ use Rattle.infer.specs.Triple.{Triple}
 use Rattle.infer_named.specs.Asks.{admits}
 use Rattle.infer_named.specs.Join.{Answer, answer, fits, is_among, join, joined_with, joined_without, of_bytes, of_name, reading_of, reading_without, takes}
 use Rattle.infer_named.specs.Key.{Key, Reading}
-use Rattle.infer_named.specs.Bytes.{HasZero, lead_of, shown, unmarked, without_white}
-use Rattle.infer_named.specs.Laws.{AnswersLast, AnswersLastByKind, DecidedAnswersLast, KindsLast, LeadsLast, LiesStayVisible, NothingIsInvented, OnlyTheKeyCounts, OnlyThreeCount, SilenceIsExact, TheBytesWin, has_no_leads, is_silent, tells_bytes}
+use Rattle.infer_named.specs.Bytes.{HasZero, IsKind, lead_of, shown, unmarked, without_white}
+use Rattle.infer_named.specs.Laws.{AnswersLast, AnswersLastByKind, ChangesOnce, DecidedAnswersLast, KindsLast, LeadsLast, LiesStayVisible, NothingIsInvented, OnlyTheKeyCounts, OnlyThreeCount, SilenceIsExact, TheBytesWin, has_no_leads, is_silent, tells_bytes}
 use Rattle.infer_named.specs.Named.{key_of}
 use Rattle.infer_named.specs.declared.bytes.Kind.{Kind}
+use Rattle.infer_named.specs.declared.bytes.Kind.TheVariants.{Binary, Empty, Marked, Text}
 use Rattle.infer_named.specs.declared.join.Standing.TheVariants.{Agree, BytesRefine, Contradicts, NameAlone, NameRefines, Nothing}
 
 -- what is found passes
@@ -319,6 +320,42 @@ answers_last_by_kind name b more n m o kind is later f g wide wider_later two ap
     f.is kind is ∙ (ap (λ k. join k f.wider kind (lead_of b)) same ∙ (ap (λ p. join (key_of m) p kind (lead_of b)) w
     ∙ (ap (λ l. join (key_of m) o kind l) (sym (leads_last b more two apart))
     ∙ (ap (λ p. join (key_of m) p kind (lead_of (b ++ more))) (sym v) ∙ sym (g.is kind later)))))
+
+-- what is no text stays of its kind, or becomes binary
+kind_moves : (b more : List ℕ) (kind other : Kind) → All (λ x. x < 256) more → b ≢ [] → (¬ IsText b) → IsKind b kind → IsKind (b ++ more) other
+    → (other ≡ kind) ⊎ (other ≡ Binary)
+kind_moves b more Empty other bytes some no is later = absurd (some is)
+kind_moves b more Text other bytes some no is later = absurd (no is.1)
+kind_moves b more Binary Empty bytes some no is later = absurd (not_empty b more some later)
+kind_moves b more Binary Text bytes some no is later = absurd (no_text_comes b more bytes some no later.1)
+kind_moves b more Binary Binary bytes some no is later = inr refl
+kind_moves b more Binary Marked bytes some no is later = absurd (later.2 (zero_stays b more is.2))
+kind_moves b more Marked Empty bytes some no is later = absurd (not_empty b more some later)
+kind_moves b more Marked Text bytes some no is later = absurd (no_text_comes b more bytes some no later.1)
+kind_moves b more Marked Binary bytes some no is later = inr refl
+kind_moves b more Marked Marked bytes some no is later = inl refl
+
+-- bytes with a lead of two are some, and more of them are EF BB only if they are
+two_some : (b : List ℕ) → length (lead_of b) ≡ 2 → b ≢ []
+two_some [] two e = absurd (cc)
+two_some (x ∷ b) two e = absurd (cc)
+
+two_apart : (b more : List ℕ) → length (lead_of b) ≡ 2 → b ≢ (0xEF ∷ 0xBB ∷ []) → (b ++ more) ≢ (0xEF ∷ 0xBB ∷ [])
+two_apart [] more two apart e = absurd (cc)
+two_apart (x ∷ []) more two apart e = short_lead (has_mark (x ∷ [])) (is_wide (x ∷ [])) x two
+two_apart (x ∷ y ∷ []) more two apart e = absurd (let none : more ≡ [] = cc in apart (cc))
+two_apart (x ∷ y ∷ z ∷ rest) more two apart e = absurd (cc)
+
+pub changes_once : ChangesOnce
+changes_once name b more most n m l kind other last bytes rest is later latest no f g h wide wider widest two apart same again =
+    let some = two_some b two in
+    elim (kind_moves b more kind other bytes some no is later) [
+      | inl kept ↦ inl (answers_last_by_kind name b more n m None kind is (subst (λ k. IsKind (b ++ more) k) kept later) f g wide wider two apart same)
+      | inr binary ↦ (let zero : IsKind (b ++ more) Binary = subst (λ k. IsKind (b ++ more) k) binary later in
+        let still : IsKind ((b ++ more) ++ most) Binary = kinds_last.binary (b ++ more) most rest zero in
+        let lead = ap length (leads_last b more two apart) ∙ two in
+        inr (answers_last_by_kind name (b ++ more) most m l None Binary zero still g h wider widest lead (two_apart b more two apart) again))
+    ]
 
 pub decided_answers_last : DecidedAnswersLast
 decided_answers_last name b more n m t kind other decided buffer is later f g wide two apart same =

@@ -1,5 +1,5 @@
 -- Laws of names and bytes. They hold for every key, so for every table.
-use Rattle.std.specs.Prelude.{All, ◌==◌, ◌&&◌, ◌||◌, if◌then◌else◌, nat_le, nat_lt, ◌≡◌, ◌≢◌, ◌↔◌, ◌<◌, ◌++◌, ℕ, Bool, false, true, IsTrue, List, [], ◌∷◌, Option, None, Some, length, not, option_map}
+use Rattle.std.specs.Prelude.{All, ◌==◌, ◌&&◌, ◌||◌, if◌then◌else◌, nat_le, nat_lt, ◌≡◌, ◌≢◌, ◌↔◌, ◌⊎◌, ◌<◌, ◌++◌, ℕ, Bool, false, true, IsTrue, List, [], ◌∷◌, Option, None, Some, length, not, option_map}
 use Rattle.std.specs.List.{list_all, list_any}
 use Rattle.std.specs.Option.{option_map_or}
 use Rattle.infer.specs.Buffer.{IsBuffer}
@@ -103,6 +103,16 @@ AnswersLastByKind =
     (name b more : List ℕ) (n m : Named) (o : Option Triple) (kind : Kind) → IsKind b kind → IsKind (b ++ more) kind
     → IsNamed name b n → IsNamed name (b ++ more) m → IsWiderAnswer b o → IsWiderAnswer (b ++ more) o
     → length (lead_of b) ≡ 2 → b ≢ (0xEF ∷ 0xBB ∷ []) → key_of n ≡ key_of m → answer_of n ≡ answer_of m
+
+-- So what is no text and has no type changes its answer at most once, as its first 00 comes.
+abbrev pub ChangesOnce : Type 0
+ChangesOnce =
+    (name b more most : List ℕ) (n m l : Named) (kind other last : Kind) → All (λ x. x < 256) more → All (λ x. x < 256) most
+    → IsKind b kind → IsKind (b ++ more) other → IsKind ((b ++ more) ++ most) last → (¬ IsText b)
+    → IsNamed name b n → IsNamed name (b ++ more) m → IsNamed name ((b ++ more) ++ most) l
+    → IsWiderAnswer b None → IsWiderAnswer (b ++ more) None → IsWiderAnswer ((b ++ more) ++ most) None
+    → length (lead_of b) ≡ 2 → b ≢ (0xEF ∷ 0xBB ∷ []) → key_of n ≡ key_of m → key_of m ≡ key_of l
+    → (answer_of n ≡ answer_of m) ⊎ (answer_of m ≡ answer_of l)
 
 -- The type of bytes whose wider answer is decided stays, so the answer about them does.
 abbrev pub DecidedAnswersLast : Type 0

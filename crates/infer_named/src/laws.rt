@@ -1,6 +1,6 @@
 //! Laws of names and bytes, each the contract of a function that does nothing beside. They hold for every key, so for every
 //! table. To use a law, call it.
-ghost use Rattle.infer_named.specs.Laws.{AnswersLast, AnswersLastByKind, DecidedAnswersLast, KeysAreRight, KindsLast, LeadsLast, LiesStayVisible, NothingIsInvented, OnlyTheKeyCounts, OnlyThreeCount, SilenceIsExact, TheBytesWin};
+ghost use Rattle.infer_named.specs.Laws.{AnswersLast, AnswersLastByKind, ChangesOnce, DecidedAnswersLast, KeysAreRight, KindsLast, LeadsLast, LiesStayVisible, NothingIsInvented, OnlyTheKeyCounts, OnlyThreeCount, SilenceIsExact, TheBytesWin};
 
 /// The bytes win: no type is told that they contradict, and theirs is told but where a name refines it.
 #[tactic(auto, using(crate::proofs::LawLemmas::bytes_win))]
@@ -33,12 +33,13 @@ pub fn only_three_count()
 
 /// What follows the bytes changes neither a lead of two bytes, but that of EF BB alone, nor that they are no text, nor a byte
 /// 00 among them. So it changes no answer about bytes that have a type, as long as the type stays, as it does if it is decided;
-/// and none about bytes without one, but with their kind.
+/// and none about bytes without one, but with their kind, so at most once, as the first 00 comes.
 pub fn growth()
     ensures leads { LeadsLast }
     ensures kinds { KindsLast }
     ensures answers { AnswersLast }
     ensures kept { AnswersLastByKind }
+    ensures once { ChangesOnce }
     ensures decided { DecidedAnswersLast }
 {}
 
