@@ -95,14 +95,18 @@ impl Evidence {
         false
     }
 
-    /// One range more.
+    /// Asks for the bytes of a range by which a row accepts, also where a range with all of them is asked for: so these are
+    /// told.
     #[tactic(auto, using(crate::proofs::RangeLemmas::one_more, crate::proofs::RangeLemmas::one_more_inside, crate::proofs::RangeLemmas::no_more))]
-    fn push(&mut self, range: Range)
+    pub fn ask_held(&mut self, range: Range)
         ensures same { (b c : List ℕ) → AgreesOn self.new b c → AgreesOn self.old b c
             × IsSame b c range }
         ensures inside { (b : List ℕ) → IsOf self.old b → IsInside b range → IsOf self.new b }
         ensures few { self.new.count ≤ self.old.count + 1 }
     {
+        if range.len == 0 {
+            return;
+        }
         if self.count >= MOST_RANGES {
             self.count = self.count.saturating_add(1);
             return;
@@ -118,13 +122,10 @@ impl Evidence {
         ensures inside { (b : List ℕ) → IsOf self.old b → IsInside b range → IsOf self.new b }
         ensures few { self.new.count ≤ self.old.count + 1 }
     {
-        if range.len == 0 {
-            return;
-        }
         if self.has(&range) {
             return;
         }
-        self.push(range);
+        self.ask_held(range);
     }
 
     /// Asks for that many bytes at least.

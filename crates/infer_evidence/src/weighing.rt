@@ -242,7 +242,7 @@ pub fn accept<P: AsPart>(
 {
     evidence.ask_least(least);
     for asked in parts {
-        evidence.ask(held(&asked.part(), buf, row));
+        evidence.ask_held(held(&asked.part(), buf, row));
     }
 }
 

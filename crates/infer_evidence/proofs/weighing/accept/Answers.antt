@@ -5,9 +5,9 @@ use Rattle.infer_evidence.proofs.weighing.accept.Goals as goal
 pub loop-asked-preserved : goal.loop-asked-preserved
 loop-asked-preserved g c = record {
   tells = λ b agrees.
-      let asked = c.ask.ensures.same c.args.buf.now b agrees in
+      let asked = c.ask_held.ensures.same c.args.buf.now b agrees in
       let before = c.loop-asked.invariant.tells b asked.0 in
       (before.0, before.1, all_more (λ p. HasPart b (g.P.AsPart.part p)) _ _ _ c.loop-asked-test.true before.2 (subst (λ p. HasPart b (g.P.AsPart.part p)) c.asked-item.is (subst (HasPart b) c.part.ensures (c.held.ensures.tells b asked.1))));
-  inside = λ of. c.ask.ensures.inside c.args.buf.now (c.loop-asked.invariant.inside of) c.held.ensures.inside;
-  few = let before = c.loop-asked.invariant.few in let now = c.ask.ensures.few in omega arith;
+  inside = λ of. c.ask_held.ensures.inside c.args.buf.now (c.loop-asked.invariant.inside of) c.held.ensures.inside;
+  few = let before = c.loop-asked.invariant.few in let now = c.ask_held.ensures.few in omega arith;
 }

@@ -1,6 +1,6 @@
 use Rattle.infer_evidence.proofs.Common.{◌<◌, arith, length}
 use Rattle.infer_evidence.proofs.RangeLemmas.{one_more}
-use Rattle.infer_evidence.proofs.ranges.Evidence.push.Goals as goal
+use Rattle.infer_evidence.proofs.ranges.Evidence.ask_held.Goals as goal
 
 pub returns-clause-same : goal.returns-clause-same
 returns-clause-same c =
