@@ -185,6 +185,7 @@ use Rattle.infer_named.proofs.MarkLemmas.{{AreMarked}}
 use Rattle.infer_named.specs.Keys.{name}.{{keys}}
 use Rattle.infer_named.specs.Listed.{{key_listed, key_texts, readings}}
 use Rattle.infer_named.specs.Marks.{{whole_marks}}
+use Rattle.infer_named.specs.Sets.{{lead_lists, sets, {sets}}}
 use Rattle.infer_named.specs.Slots.{{starts}}
 use Rattle.infer_named.specs.Types.{{types, {types}}}
 use Rattle.infer_named.specs.declared.table.generated.keys.TheConstants.{{KEYS}}
@@ -198,7 +199,7 @@ unfolding keys
 many = refl
 
 pub right : wrong_from starts {end} {start} keys ≡ []
-unfolding keys starts types {types_names}
+unfolding keys starts types {types_names} lead_lists sets {sets_names}
 right = refl
 
 pub marked : AreMarked keys
@@ -662,11 +663,11 @@ def joined(names):
 
 
 def group_proof(number):
-    lists = names_of("types", len(of_types()))
+    lists, set_lists = names_of("types", len(of_types())), names_of("sets", len(of_sets()))
     start, end = starts()[number * GROUP], starts()[(number + 1) * GROUP]
     return KEYS_PROOF.format(
         first=number * GROUP, last=(number + 1) * GROUP - 1, name=f"K{number}", count=end - start, start=start, end=end,
-        types=", ".join(lists), types_names=" ".join(lists),
+        types=", ".join(lists), types_names=" ".join(lists), sets=", ".join(set_lists), sets_names=" ".join(set_lists),
     )
 
 

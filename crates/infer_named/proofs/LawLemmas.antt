@@ -324,16 +324,16 @@ answers_last_by_kind name b more n m o kind is later f g wide wider_later two ap
 -- what is no text stays of its kind, or becomes binary
 kind_moves : (b more : List ℕ) (kind other : Kind) → All (λ x. x < 256) more → b ≢ [] → (¬ IsText b) → IsKind b kind → IsKind (b ++ more) other
     → (other ≡ kind) ⊎ (other ≡ Binary)
-kind_moves b more Empty other bytes some no is later = absurd (some is)
-kind_moves b more Text other bytes some no is later = absurd (no is.1)
-kind_moves b more Binary Empty bytes some no is later = absurd (not_empty b more some later)
-kind_moves b more Binary Text bytes some no is later = absurd (no_text_comes b more bytes some no later.1)
-kind_moves b more Binary Binary bytes some no is later = inr refl
-kind_moves b more Binary Marked bytes some no is later = absurd (later.2 (zero_stays b more is.2))
-kind_moves b more Marked Empty bytes some no is later = absurd (not_empty b more some later)
-kind_moves b more Marked Text bytes some no is later = absurd (no_text_comes b more bytes some no later.1)
-kind_moves b more Marked Binary bytes some no is later = inr refl
-kind_moves b more Marked Marked bytes some no is later = inl refl
+kind_moves b more Empty other bytes some marked is later = absurd (some is)
+kind_moves b more Text other bytes some marked is later = absurd (marked is.1)
+kind_moves b more Binary Empty bytes some marked is later = absurd (not_empty b more some later)
+kind_moves b more Binary Text bytes some marked is later = absurd (no_text_comes b more bytes some marked later.1)
+kind_moves b more Binary Binary bytes some marked is later = inr refl
+kind_moves b more Binary Marked bytes some marked is later = absurd (later.2 (zero_stays b more is.2))
+kind_moves b more Marked Empty bytes some marked is later = absurd (not_empty b more some later)
+kind_moves b more Marked Text bytes some marked is later = absurd (no_text_comes b more bytes some marked later.1)
+kind_moves b more Marked Binary bytes some marked is later = inr refl
+kind_moves b more Marked Marked bytes some marked is later = inl refl
 
 -- bytes with a lead of two are some, and more of them are EF BB only if they are
 two_some : (b : List ℕ) → length (lead_of b) ≡ 2 → b ≢ []
@@ -347,14 +347,14 @@ two_apart (x ∷ y ∷ []) more two apart e = absurd (let none : more ≡ [] = c
 two_apart (x ∷ y ∷ z ∷ rest) more two apart e = absurd (cc)
 
 pub changes_once : ChangesOnce
-changes_once name b more most n m l kind other last bytes rest is later latest no f g h wide wider widest two apart same again =
+changes_once name b more most n m l kind other last bytes rest is later latest marked f g h wide wide_later widest two apart same again =
     let some = two_some b two in
-    elim (kind_moves b more kind other bytes some no is later) [
-      | inl kept ↦ inl (answers_last_by_kind name b more n m None kind is (subst (λ k. IsKind (b ++ more) k) kept later) f g wide wider two apart same)
+    elim (kind_moves b more kind other bytes some marked is later) [
+      | inl kept ↦ inl (answers_last_by_kind name b more n m None kind is (subst (λ k. IsKind (b ++ more) k) kept later) f g wide wide_later two apart same)
       | inr binary ↦ (let zero : IsKind (b ++ more) Binary = subst (λ k. IsKind (b ++ more) k) binary later in
-        let still : IsKind ((b ++ more) ++ most) Binary = kinds_last.binary (b ++ more) most rest zero in
-        let lead = ap length (leads_last b more two apart) ∙ two in
-        inr (answers_last_by_kind name (b ++ more) most m l None Binary zero still g h wider widest lead (two_apart b more two apart) again))
+          let still : IsKind ((b ++ more) ++ most) Binary = kinds_last.binary (b ++ more) most rest zero in
+          let lead = ap length (leads_last b more two apart) ∙ two in
+          inr (answers_last_by_kind name (b ++ more) most m l None Binary zero still g h wide_later widest lead (two_apart b more two apart) again))
     ]
 
 pub decided_answers_last : DecidedAnswersLast

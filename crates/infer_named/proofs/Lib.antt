@@ -17,4 +17,6 @@ pub mod MakerLemmas
 pub mod RowLemmas
 pub mod SetLemmas
 pub mod OddLemmas
+pub mod LeftLemmas
+pub mod ReachLemmas
 pub mod LawLemmas

@@ -1,22 +1,27 @@
 -- Laws of names and bytes. They hold for every key, so for every table.
-use Rattle.std.specs.Prelude.{All, ◌==◌, ◌&&◌, ◌||◌, if◌then◌else◌, nat_le, nat_lt, ◌≡◌, ◌≢◌, ◌↔◌, ◌⊎◌, ◌<◌, ◌++◌, ℕ, Bool, false, true, IsTrue, List, [], ◌∷◌, Option, None, Some, length, not, option_map}
+use Rattle.std.specs.Prelude.{All, ◌==◌, ◌&&◌, ◌||◌, if◌then◌else◌, codes, drop, nat_le, nat_lt, slice_index, unwrap_or, zero, suc, ◌+◌, ◌≡◌, ◌≢◌, ◌↔◌, ◌⊎◌, ◌<◌, ◌++◌, ℕ, Bool, false, true, IsTrue, List, [], ◌∷◌, Option, None, Some, length, not, option_map}
 use Rattle.std.specs.List.{list_all, list_any}
-use Rattle.std.specs.Option.{option_map_or}
+use Rattle.std.specs.Option.{option_map_or, option_or}
+use Rattle.std.specs.Str.{bytes_eq}
+use Rattle.memchr.specs.Find.{is_byte, is_byte2}
 use Rattle.infer.specs.Buffer.{IsBuffer}
-use Rattle.infer.specs.Triple.{Triple}
+use Rattle.infer.specs.Triple.{Triple, triple}
+use Rattle.infer.specs.declared.table.file_type.MatcherType.TheVariants.{Custom}
 use Rattle.infer_formats.specs.Text.{IsText}
 use Rattle.infer_more.specs.Decided.{IsDecided}
 use Rattle.infer_more.specs.Wider.{IsWiderAnswer}
 use Rattle.infer_named.specs.Asks.{admits}
 use Rattle.infer_named.specs.Bytes.{IsKind, lead_of}
-use Rattle.infer_named.specs.Join.{answer, is_among, join, of_bytes, of_name, reading_of, reading_without, takes}
+use Rattle.infer_named.specs.Join.{answer, fits, is_among, join, of_bytes, of_name, reading_of, reading_without, takes}
 use Rattle.infer_named.specs.Key.{Key, Reading}
-use Rattle.infer_named.specs.Names.{is_key}
+use Rattle.infer_named.specs.Names.{IsKey, behind, copies, ends_in, is_key, is_version, is_version_byte, small, up_to}
 use Rattle.infer_named.specs.Table.{keys}
 use Rattle.infer_named.specs.Named.{IsNamed, answer_of, key_of}
 use Rattle.infer_named.specs.declared.bytes.Kind.{Kind}
-use Rattle.infer_named.specs.declared.bytes.Kind.TheVariants.{Binary}
+use Rattle.infer_named.specs.declared.bytes.Kind.TheVariants.{Binary, Empty, Marked}
 use Rattle.infer_named.specs.declared.join.Named.{Named}
+use Rattle.infer_named.specs.declared.table.Part.{Part}
+use Rattle.infer_named.specs.declared.table.Part.TheVariants.{Extension, Whole}
 use Rattle.infer_named.specs.declared.join.Standing.{Standing}
 use Rattle.infer_named.specs.declared.join.Standing.TheVariants.{Agree, BytesAlone, BytesRefine, Contradicts, NameAlone, NameRefines, Nothing}
 
@@ -129,11 +134,83 @@ is_key_byte x = nat_lt 0x20 x && nat_lt x 0x7F && not (x == 0x2F) && not (x == 0
 abbrev pub has_most : ℕ → List ℕ → Bool
 has_most n text = nat_le 1 (length text) && nat_le (length text) n
 
+-- the rows of a reading's sets, and a type with such a row's name
+abbrev pub rows_of : Reading → List (List ℕ)
+rows_of r = r.agrees ++ (r.begins ++ r.finer)
+
+abbrev pub type_of_row : List ℕ → Triple
+type_of_row row = triple Custom row row
+
+-- the first text with which its files begin, if that is known
+abbrev pub first_lead : List (List ℕ) → List ℕ
+first_lead [] = []
+first_lead (lead ∷ leads) = lead
+
+-- the kinds of bytes without a type
+abbrev pub kinds_without : List Kind
+kinds_without = Empty ∷ Binary ∷ Marked ∷ []
+
+-- the reading passes the test, and none before does
+abbrev pub is_first : (Reading → Bool) → List Reading → Reading → Bool
+is_first test before r = test r && not (list_any test before)
+
+-- with a reading's first lead there are bytes of which it is the first that fits: of a kind that it admits, or of a row in its
+-- sets
+abbrev pub is_left : List Reading → Reading → Bool
+is_left before r =
+    list_any (λ kind. is_first (λ e. fits (first_lead r.leads) e && admits e.asks kind) before r) kinds_without
+    || list_any (λ row. is_first (λ e. fits (first_lead r.leads) e && takes (type_of_row row) e) before r) (rows_of r)
+
+-- such bytes are left to each reading
+abbrev pub are_left : List Reading → List Reading → Bool
+are_left before [] = true
+are_left before (r ∷ readings) = is_left before r && are_left (before ++ (r ∷ [])) readings
+
+-- the last place from i on and below n whose byte passes the test
+abbrev pub last_below : (ℕ → Bool) → List ℕ → ℕ → ℕ → Option ℕ
+last_below test text i zero = None
+last_below test text i (suc n) = if nat_le i n then (if test (slice_index text n) then Some n else last_below test text i n) else None
+
+-- the last dot of a stem before a place that is not its first byte; and its last byte that is neither digit nor dot
+abbrev pub last_dot : List ℕ → ℕ → Option ℕ
+last_dot stem n = last_below (is_byte 0x2E) stem 1 n
+
+abbrev pub edge_of : List ℕ → Option ℕ
+edge_of stem = last_below (λ x. not (is_version_byte x)) stem 0 (length stem)
+
+-- the stem is no library with versions, and its extension that is looked for first is the text
+abbrev pub is_unversioned : List ℕ → Bool
+is_unversioned stem = not (is_version (behind stem (edge_of stem)) && ends_in (up_to stem (edge_of stem)) (codes ".so"))
+
+abbrev pub shows_extension : List ℕ → List ℕ → Bool
+shows_extension stem text =
+    let last = last_dot stem (length stem) in
+    is_unversioned stem && option_map_or (λ dot. bytes_eq (drop (dot + 1) stem) text) (option_or (last_dot stem (unwrap_or last 0)) last) false
+
+-- a name with that key: a whole name itself, and an extension behind a dot and so many letters that no whole name is as long
+abbrev pub name_of : Part → List ℕ → List ℕ
+name_of Whole text = text
+name_of Extension text = codes "aaaaaaaaaaaaaaaaaaaaaaaaaaa." ++ text
+
+abbrev pub shows_key : Part → List ℕ → Bool
+shows_key Whole text = true
+shows_key Extension text = shows_extension (name_of Extension text) text
+
+-- the text is in small letters, and that name has it as its key: without a byte 00 or a folder, and it is no copy
+abbrev pub has_name : Part → List ℕ → Bool
+has_name part text =
+    bytes_eq (small text) text && (not (list_any (is_byte 0) (name_of part text)) && (not (list_any (is_byte2 0x2F 0x5C) (name_of part text))
+    && (not (list_any (ends_in (name_of part text)) copies) && shows_key part text)))
+
 -- a key has from 1 to 27 such bytes, and readings, each with a MIME type of 73 bytes at most
-abbrev pub is_key_right : Key → Bool
-is_key_right k =
+abbrev pub has_form : Key → Bool
+has_form k =
     has_most 27 k.text && list_all is_key_byte k.text && nat_le 1 (length k.readings)
     && list_all (λ r. has_most 73 r.named.mime_type) k.readings
+
+-- and some name has it, and none of its readings is hidden
+abbrev pub is_key_right : Key → Bool
+is_key_right k = has_form k && (has_name k.part k.text && are_left [] k.readings)
 
 -- the texts of the keys that are not so, or that stand once more behind
 abbrev pub wrong_keys : List Key → List (List ℕ)
@@ -143,3 +220,16 @@ wrong_keys (k ∷ keys) = if is_key_right k && not (list_any (is_key k.part k.te
 -- no key of the table is wrong
 abbrev pub KeysAreRight : Type 0
 KeysAreRight = wrong_keys keys ≡ []
+
+-- No reading is hidden by those before it. Each is the one that is found of some type and lead, or of some kind and lead.
+abbrev pub IsFound : List Reading → Reading → Type 0
+IsFound readings r =
+    ((t : Triple) × (lead : List ℕ) × (reading_of readings t lead ≡ Some r))
+    ⊎ ((kind : Kind) × (lead : List ℕ) × (reading_without readings kind lead ≡ Some r))
+
+abbrev pub EachReadingIsFound : Type 0
+EachReadingIsFound = All (λ k. All (IsFound k.readings) k.readings) keys
+
+-- Each key is that of some name.
+abbrev pub EachKeyIsReached : Type 0
+EachKeyIsReached = All (λ k. (name : List ℕ) × IsKey keys name (Some k)) keys

@@ -1,6 +1,6 @@
 //! Laws of names and bytes, each the contract of a function that does nothing beside. They hold for every key, so for every
 //! table. To use a law, call it.
-ghost use Rattle.infer_named.specs.Laws.{AnswersLast, AnswersLastByKind, ChangesOnce, DecidedAnswersLast, KeysAreRight, KindsLast, LeadsLast, LiesStayVisible, NothingIsInvented, OnlyTheKeyCounts, OnlyThreeCount, SilenceIsExact, TheBytesWin};
+ghost use Rattle.infer_named.specs.Laws.{AnswersLast, AnswersLastByKind, ChangesOnce, DecidedAnswersLast, EachKeyIsReached, EachReadingIsFound, KeysAreRight, KindsLast, LeadsLast, LiesStayVisible, NothingIsInvented, OnlyTheKeyCounts, OnlyThreeCount, SilenceIsExact, TheBytesWin};
 
 /// The bytes win: no type is told that they contradict, and theirs is told but where a name refines it.
 #[tactic(auto, using(crate::proofs::LawLemmas::bytes_win))]
@@ -48,8 +48,18 @@ pub fn lies_stay_visible()
     ensures { LiesStayVisible }
 {}
 
+/// Each key is that of some name.
+pub fn each_key_is_reached()
+    ensures { EachKeyIsReached }
+{}
+
+/// No reading is hidden by those before it: of some bytes it is the one that is found.
+pub fn each_reading_is_found()
+    ensures { EachReadingIsFound }
+{}
+
 /// The table is right: each key has from 1 to 27 bytes of small letters, digits and marks, stands once, and has readings, of
-/// which each MIME type has at most 73 bytes.
+/// which each MIME type has at most 73 bytes and none is hidden.
 pub fn keys_are_right()
     ensures { KeysAreRight }
 {}

@@ -6,6 +6,7 @@ use Rattle.infer_named.proofs.MarkLemmas.{AreMarked}
 use Rattle.infer_named.specs.Keys.K6.{keys}
 use Rattle.infer_named.specs.Listed.{key_listed, key_texts, readings}
 use Rattle.infer_named.specs.Marks.{whole_marks}
+use Rattle.infer_named.specs.Sets.{lead_lists, sets, sets_0, sets_1, sets_2, sets_3, sets_4}
 use Rattle.infer_named.specs.Slots.{starts}
 use Rattle.infer_named.specs.Types.{types, types_0, types_1, types_2, types_3, types_4}
 use Rattle.infer_named.specs.declared.table.generated.keys.TheConstants.{KEYS}
@@ -19,7 +20,7 @@ unfolding keys
 many = refl
 
 pub right : wrong_from starts 1819 1567 keys ≡ []
-unfolding keys starts types types_0 types_1 types_2 types_3 types_4
+unfolding keys starts types types_0 types_1 types_2 types_3 types_4 lead_lists sets sets_0 sets_1 sets_2 sets_3 sets_4
 right = refl
 
 pub marked : AreMarked keys
