@@ -3,6 +3,7 @@ mod asked;
 mod buffers;
 mod decisions;
 mod definitions;
+mod evidence;
 mod examples;
 mod input;
 mod laws;
