@@ -294,3 +294,75 @@ fn rows_of_ranges(rt: HostRuntime) -> Result<(), Fail> {
     assert_eq!(rt; evidence.wanted(), evidence.ranges().len());
     Ok(())
 }
+
+/// The number of the further row with this extension.
+fn further(extension: &str) -> Option<usize> {
+    for i in rows::ROW_COUNT..rows::ROW_COUNT + infer_more::FURTHER_COUNT {
+        if infer_more::row(i).map(|it| it.extension()) == Some(extension) {
+            return Some(i);
+        }
+    }
+    None
+}
+
+/// Wider answers: a message of PGP, a public key, of which the place where a message has another word rules it out, and a
+/// PNG image with no animation, whose second chunk is of the image.
+#[test]
+fn wider_answers(rt: HostRuntime) -> Result<(), Fail> {
+    let cases: [Case; 3] = [
+        Case {
+            texts: &[(0, b"-----BEGIN PGP MESSAGE-----\n")],
+            answer: further("pgp"),
+            held: &[(0, 27)],
+            free: &[(27, 300)],
+            least: 27,
+            ..NONE
+        },
+        Case {
+            texts: &[(0, b"-----BEGIN PGP PUBLIC KEY BLOCK-----\n")],
+            answer: further("asc"),
+            held: &[(0, 36)],
+            free: &[(36, 300)],
+            least: 36,
+            ..NONE
+        },
+        Case {
+            texts: &[
+                (0, b"\x89PNG\r\n\x1A\n\0\0\0\x0DIHDR"),
+                (33, b"\0\0\0\x04IDAT"),
+            ],
+            answer: Some(rows::PNG),
+            held: &[(0, 4), (8, 12)],
+            some: &[(12, 16), (37, 41), (60, 68)],
+            free: &[(41, 60), (68, 300)],
+            least: 61,
+            ..NONE
+        },
+    ];
+    for (i, case) in cases.iter().enumerate() {
+        let buf = filled_but(rt.alloc(), 0, case.len, case.texts)?;
+        let mut evidence = Evidence::new();
+        assert!(rt;
+            infer_more::evidence(buf.as_slice(), &mut evidence) == case.answer,
+            "case {i}"
+        );
+        assert_eq!(rt; fault(&evidence, case), "", "case {i}");
+    }
+    Ok(())
+}
+
+/// The row of a further row's range is its number among all.
+#[test]
+fn further_rows_of_ranges(rt: HostRuntime) -> Result<(), Fail> {
+    let text = b"-----BEGIN PGP PUBLIC KEY BLOCK-----\n";
+    let mut evidence = Evidence::new();
+    let found = infer_more::evidence(text, &mut evidence);
+    let mut own = false;
+    let mut message = false;
+    for Range { place, len, row } in evidence.ranges() {
+        own = own || *row == found && *place == 0 && *len == 36;
+        message = message || *row == further("pgp") && 15 <= *place && *place + *len <= 27;
+    }
+    assert!(rt; found.is_some() && own && message);
+    Ok(())
+}
