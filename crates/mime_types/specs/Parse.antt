@@ -1,5 +1,5 @@
 -- What a text says as a MIME type.
-use Rattle.std.specs.Prelude.{◌≡◌, ℕ, List, IsTrue}
+use Rattle.std.specs.Prelude.{◌≡◌, ℕ, List, [], ◌∷◌, IsTrue, Option, None, Some, if◌then◌else◌}
 use Rattle.mime_types.specs.Mime.{Mime}
 use Rattle.mime_types.specs.Parameters.{parameters}
 use Rattle.mime_types.specs.Text.{behind, front, is_a_token, is_semicolon, is_slash, lower, trim, trim_end}
@@ -11,11 +11,29 @@ type_text t = front is_slash (trim t)
 abbrev pub behind_slash : List ℕ → List ℕ
 behind_slash t = behind is_slash (trim t)
 
+-- the subtype of what stands behind the "/"
+abbrev pub subtype_before : List ℕ → List ℕ
+subtype_before s = trim_end (front is_semicolon s)
+
 abbrev pub subtype_text : List ℕ → List ℕ
-subtype_text t = trim_end (front is_semicolon (behind_slash t))
+subtype_text t = subtype_before (behind_slash t)
 
 abbrev pub tail_text : List ℕ → List ℕ
 tail_text t = behind is_semicolon (behind_slash t)
+
+-- what stands behind the "/" that a text begins with, if it does
+abbrev pub behind_slash_first : List ℕ → List ℕ
+behind_slash_first [] = []
+behind_slash_first (x ∷ s) = if is_slash x then s else []
+
+-- what stands behind the ";" that a text begins with, and nothing if the text is empty
+abbrev pub behind_semicolon_first : List ℕ → Option (List ℕ)
+behind_semicolon_first [] = Some []
+behind_semicolon_first (x ∷ s) = if is_semicolon x then Some s else None
+
+-- the part if it is a token, and otherwise nothing
+abbrev pub if_token : List ℕ → List ℕ
+if_token s = if is_a_token s then s else []
 
 -- type and subtype are tokens, and m has them in lower case, with the parameters. Without a "/" there is no subtype
 pub record Parsed (t : List ℕ) (m : Mime) : Type 0 where

@@ -32,6 +32,13 @@ onward ends s = drop (before ends s) s
 abbrev pub behind : (ℕ → Bool) → List ℕ → List ℕ
 behind ends s = drop (before ends s + 1) s
 
+-- the bytes of tokens that a text begins with, and what stands behind them
+abbrev pub tokens_before : List ℕ → List ℕ
+tokens_before s = take (prefix_len is_token s) s
+
+abbrev pub behind_tokens : List ℕ → List ℕ
+behind_tokens s = drop (prefix_len is_token s) s
+
 -- the bytes at which parts end
 abbrev pub is_slash : ℕ → Bool
 is_slash x = x == 0x2F

@@ -1,11 +1,12 @@
 //! MIME types of texts.
-ghost use Rattle.std.specs.Prelude.{◌≡◌, ◌↔◌, ◌&&◌, IfSome, Some, length, nat_le, nat_lt, option_map};
+ghost use Rattle.std.specs.Prelude.{◌≡◌, ◌↔◌, IfSome, IsTrue, Some, option_map};
 ghost use Rattle.mime_types.specs.Mime.{Mime};
-ghost use Rattle.mime_types.specs.Parse.{Parsed, tail_text};
+ghost use Rattle.mime_types.specs.Parse.{Parsed, behind_semicolon_first, behind_slash_first, if_token, subtype_before, tail_text};
 ghost use Rattle.mime_types.specs.Seen.{mime_of};
+ghost use Rattle.mime_types.specs.Text.{behind, is_a_token, is_semicolon};
 
 use crate::mime_type::MimeType;
-use crate::text::{cut_from, token_len, trim, trim_end};
+use crate::text::{split_tokens, trim, trim_start};
 
 /// The MIME type that the text says, as the value of the header `Content-Type`. It takes no memory.
 ///
@@ -17,16 +18,9 @@ pub fn parse(text: &[u8]) -> Option<MimeType<'_>>
     ensures says { (m : Mime) → (option_map mime_of result ≡ Some m) ↔ Parsed text.now m }
     ensures tail { IfSome result (λ found. found.tail.now ≡ tail_text text.now) }
 {
-    let whole = trim(text);
-    let tokens = token_len(whole);
-    let (type_name, behind) = cut_from(whole, tokens, b'/');
-    if !is_within(type_name, tokens) {
-        return None;
-    }
-    let tokens = token_len(behind);
-    let (front, tail) = cut_from(behind, tokens, b';');
-    let subtype = trim_end(front);
-    if !is_within(subtype, tokens) {
+    let (type_name, behind) = split_tokens(trim(text));
+    let (subtype, tail) = split_subtype(behind_slash(behind));
+    if type_name.is_empty() || subtype.is_empty() {
         return None;
     }
     Some(MimeType {
@@ -36,9 +30,36 @@ pub fn parse(text: &[u8]) -> Option<MimeType<'_>>
     })
 }
 
-/// Whether the part is a token, by how many bytes of tokens the text begins with that the part begins.
-fn is_within(part: &[u8], tokens: usize) -> bool
-    ensures { result ≡ (nat_lt 0 (length part.now) && nat_le (length part.now) tokens) }
+/// What stands behind the slash that the text begins with. Nothing, if it begins with another byte.
+fn behind_slash(text: &[u8]) -> &[u8]
+    ensures { result.now ≡ behind_slash_first text.now }
 {
-    !part.is_empty() && part.len() <= tokens
+    match text {
+        [b'/', behind @ ..] => behind,
+        _ => &[],
+    }
+}
+
+/// The subtype that the text begins with, and what stands behind its semicolon. Nothing, if what stands there is no token.
+fn split_subtype(text: &[u8]) -> (&[u8], &[u8])
+    ensures subtype { result.0.now ≡ if_token (subtype_before text.now) }
+    ensures tail { IsTrue (is_a_token (subtype_before text.now)) → result.1.now ≡ behind is_semicolon text.now }
+{
+    let (subtype, behind) = split_tokens(text);
+    match behind_semicolon(trim_start(behind)) {
+        Some(tail) => (subtype, tail),
+        None => (&[], &[]),
+    }
+}
+
+/// What stands behind the semicolon that the text begins with, or nothing if the text is empty. None, if it begins with
+/// another byte.
+fn behind_semicolon(text: &[u8]) -> Option<&[u8]>
+    ensures { option_map (λ t. t.now) result ≡ behind_semicolon_first text.now }
+{
+    match text {
+        [] => Some(&[]),
+        [b';', tail @ ..] => Some(tail),
+        _ => None,
+    }
 }

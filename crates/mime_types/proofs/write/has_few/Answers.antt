@@ -1,7 +1,6 @@
-use Rattle.std.proofs.Common.{◌≡◌, ◌∙◌, ◌<◌, ◌≤◌, [], arith, length, option_map, rules, sym}
+use Rattle.std.proofs.Common.{◌≡◌, ◌∙◌, ◌<◌, arith, length, option_map, rules, sym}
 use Rattle.std.proofs.lemmas.Bool.Decides.{nat_tests}
 use Rattle.std.proofs.lemmas.List.{nil_from_length}
-use Rattle.mime_types.specs.Segment.{left_by}
 use Rattle.mime_types.specs.declared.write.TheConstants.{MOST_SEGMENTS}
 use Rattle.mime_types.specs.Seen.{parameter_seen}
 use Rattle.mime_types.proofs.WrittenLemmas.{all_left, left_none, next_left}
