@@ -18,11 +18,15 @@ mask_at mask i = slice_index_or mask i 0xFF
 abbrev pub EndsTag : List ℕ → ℕ → Type 0
 EndsTag b p = (p < length b) × ((slice_index b p ≡ 0x20) ⊎ (slice_index b p ≡ 0x3E))
 
+-- the text has the pattern's bytes, as far as the mask has bits
+abbrev pub HasBits : Pattern → List ℕ → Type 0
+HasBits pattern text =
+    (i : ℕ) → i < length pattern.bytes → bit_and (slice_index text i) (mask_at pattern.mask i) ≡ slice_index pattern.bytes i
+
 -- the text begins with the pattern, as far as the mask has bits, and a byte that ends a tag follows if that is asked
 pub record Fits (pattern : Pattern) (text : List ℕ) : Type 0 where
   pub long : length pattern.bytes ≤ length text
-  pub same : (i : ℕ) → i < length pattern.bytes
-      → bit_and (slice_index text i) (mask_at pattern.mask i) ≡ slice_index pattern.bytes i
+  pub same : HasBits pattern text
   pub ends : IsTrue pattern.ends_tag → EndsTag text (length pattern.bytes)
 
 -- b is what is ignored, white space or nothing, and then a text that fits the pattern and begins with no more of it

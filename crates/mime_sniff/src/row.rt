@@ -1,10 +1,12 @@
 //! A row of a table, as the standard writes it: a pattern, a mask, and what is ignored in front.
-ghost use Rattle.std.specs.Prelude.{◌≡◌, ◌↔◌, IfSome, IsTrue, map, option_map};
+ghost use Rattle.std.specs.Prelude.{◌≡◌, ◌↔◌, ◌≤◌, IfSome, IsTrue, length, map, option_map};
 ghost use Rattle.std.specs.Bool.{OnFalse};
 ghost use Rattle.mime_sniff.specs.Growth.{FitForGood, NeverHolds};
 ghost use Rattle.mime_sniff.specs.Listed.{pattern_listed, rule_listed};
-ghost use Rattle.mime_sniff.specs.Row.{EndsTag, Fits, mask_at};
+ghost use Rattle.mime_sniff.specs.Row.{EndsTag, Fits, HasBits, mask_at};
 ghost use Rattle.mime_sniff.specs.Rule.{FitsRule, TellsFirst};
+
+use infer_deep::places::same_text;
 
 /// What a row asks of a buffer, and the type that it tells.
 pub(crate) struct Row {
@@ -21,19 +23,32 @@ pub(crate) struct Row {
 }
 
 /// The type of the first of the rows that `text` fits. What they ignore in front has been passed over.
+#[inline(always)]
 pub(crate) fn first_type(rows: &[Row], text: &[u8]) -> Option<&'static str>
     ensures { TellsFirst (FitsRule text.now) (map rule_listed rows.now)
         (option_map (λ t. t.now) result) }
 {
+    match first_row(rows, text) {
+        Some(row) => Some(row.mime_type),
+        None => None,
+    }
+}
+
+#[inline(always)]
+fn first_row<'a>(rows: &'a [Row], text: &[u8]) -> Option<&'a Row>
+    ensures { TellsFirst (FitsRule text.now) (map rule_listed rows.now)
+        (option_map (λ row. row.now.mime_type.now) result) }
+{
     for row in rows {
         if fits(row, text) {
-            return Some(row.mime_type);
+            return Some(row);
         }
     }
     None
 }
 
 /// Whether the pattern stands first in `text`, and behind it a byte that ends a tag if the row asks for one.
+#[inline(always)]
 fn fits(row: &Row, text: &[u8]) -> bool
     ensures { IsTrue result ↔ Fits (pattern_listed row.now) text.now }
 {
@@ -41,8 +56,19 @@ fn fits(row: &Row, text: &[u8]) -> bool
     if text.len() < end || row.ends_tag && !ends_tag(text, end) {
         return false;
     }
+    if row.mask.is_empty() {
+        return same_text(text, row.pattern, 0);
+    }
+    has_bits(row, text)
+}
+
+/// Whether the text has the bits that the mask asks. It is no shorter than the pattern.
+fn has_bits(row: &Row, text: &[u8]) -> bool
+    requires { length row.now.pattern.now ≤ length text.now }
+    ensures { IsTrue result ↔ HasBits (pattern_listed row.now) text.now }
+{
     // From the end, since patterns that begin alike end otherwise.
-    for i in (0..end).rev() {
+    for i in (0..row.pattern.len()).rev() {
         if text[i] & mask_at(row.mask, i) != row.pattern[i] {
             return false;
         }

@@ -20,7 +20,8 @@ pub(crate) mod table;
 /// The type of what no rule tells, where one has to be told.
 const OCTETS: &str = "application/octet-stream";
 
-/// What the rules that are asked tell of the header.
+/// What the rules that are asked tell of the header. Most are asked in functions of their own, so that images save no
+/// registers for them.
 pub(crate) fn answer(question: Question, header: &[u8]) -> Option<&'static str>
     ensures { Answers question header.now (option_map (λ t. t.now) result) }
 {
@@ -48,6 +49,7 @@ pub(crate) fn or_octets(told: Option<&'static str>) -> Option<&'static str>
     }
 }
 
+#[inline(never)]
 fn of_anything(header: &[u8]) -> Option<&'static str>
     ensures { TellsFirst (Accepts header.now) (scriptable ++ unscripted) (option_map (λ t. t.now) result) }
 {
@@ -129,6 +131,7 @@ fn of_marks(header: &[u8]) -> Option<&'static str>
     first_type(table::marks(), header)
 }
 
+#[inline(never)]
 fn of_text_or_binary(header: &[u8]) -> Option<&'static str>
     ensures { TellsFirst (Accepts header.now) text_or_binary_rules (option_map (λ t. t.now) result) }
 {
@@ -139,6 +142,7 @@ fn of_text_or_binary(header: &[u8]) -> Option<&'static str>
 }
 
 /// The type of the first rule of images, of those with the first byte.
+#[inline(always)]
 pub(crate) fn of_images(header: &[u8]) -> Option<&'static str>
     ensures { TellsFirst (Accepts header.now) images (option_map (λ t. t.now) result) }
 {
@@ -158,6 +162,7 @@ pub(crate) fn of_sounds(header: &[u8]) -> Option<&'static str>
     first_type(sounds(header[0]), header)
 }
 
+#[inline(never)]
 fn of_fonts(header: &[u8]) -> Option<&'static str>
     ensures { TellsFirst (Accepts header.now) fonts (option_map (λ t. t.now) result) }
 {

@@ -1,6 +1,6 @@
 use Rattle.std.proofs.Common.{◌≡◌, ℕ, ◌<◌, ◌≤◌, bit_and, get_or, length}
 use Rattle.mime_sniff.specs.Row.{mask_at}
-use Rattle.mime_sniff.proofs.row.fits.Given as goal
+use Rattle.mime_sniff.proofs.row.has_bits.Given as goal
 
 -- from here on the text has the bits that the mask asks
 abbrev pub invariant-loop-i : goal.invariant-loop-i

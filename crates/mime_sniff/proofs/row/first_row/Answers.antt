@@ -1,6 +1,6 @@
 use Rattle.std.proofs.Common.{None, Some}
 use Rattle.mime_sniff.proofs.RowLemmas.{left_here, left_later, left_none}
-use Rattle.mime_sniff.proofs.row.first_type.Goals as goal
+use Rattle.mime_sniff.proofs.row.first_row.Goals as goal
 
 pub returns-then-fits : goal.returns-then-fits
 returns-then-fits c =

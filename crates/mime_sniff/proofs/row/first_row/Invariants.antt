@@ -1,7 +1,7 @@
 use Rattle.std.proofs.Common.{ℕ, List, Option, drop, map}
 use Rattle.mime_sniff.specs.Listed.{rule_listed}
 use Rattle.mime_sniff.specs.Rule.{FitsRule, TellsFirst}
-use Rattle.mime_sniff.proofs.row.first_type.Given as goal
+use Rattle.mime_sniff.proofs.row.first_row.Given as goal
 
 -- what the rows that are left tell, all of them tell
 abbrev pub invariant-loop-row : goal.invariant-loop-row
