@@ -1,8 +1,10 @@
 -- What pieces say together.
 use Rattle.std.proofs.Common.{◌≡◌, ◌∙◌, ◌++◌, ◌&&◌, ◌∷◌, [], ℕ, List, Bool, Option, None, Some, true, false, ap, append_assoc, codes, if◌then◌else◌, not, option_to_list, refl, subst, sym}
-use Rattle.std.proofs.lemmas.Bool.{and_parts}
+use Rattle.std.proofs.lemmas.Bool.{and_parts, false≢true}
 use Rattle.std.proofs.lemmas.List.{append-nil}
+use Rattle.std.proofs.lemmas.List.Elements.{All-append, All-cons, All-nil}
 use Rattle.std.proofs.lemmas.Slice.Eq.{bytes_eq-Decides}
+use Rattle.std.specs.List.{All}
 use Rattle.std.specs.Str.{bytes_eq}
 use Rattle.mime_types.specs.Extracted.{IsLastRun, is_any, is_said, mime_said, said, usable}
 use Rattle.mime_types.specs.Groups.{Is}
@@ -76,3 +78,23 @@ run_more done p run next step is =
     let e : said done ++ option_to_list (usable p) ≡ said (done ++ p ∷ []) =
     ap (λ l. said done ++ l) (sym (append-nil (option_to_list (usable p)))) ∙ sym (said_append done (p ∷ [])) in
     subst (λ ms. IsLastRun ms next) e (step (said done) is)
+
+abbrev IsOther : Mime → Type 0
+IsOther m = ¬ Is (codes "*") (codes "*") m.kind
+
+-- what is said without an empty last piece, and that no piece says "*/*"
+pub said_without_last : (ps : List (List ℕ)) → said ps ≡ said (ps ++ [] ∷ [])
+said_without_last ps = sym (said_append ps ([] ∷ []) ∙ append-nil (said ps))
+
+no_stars : (p : List ℕ) → All IsOther (option_to_list (usable p))
+no_stars p = cases (is_said p) (is_any (mime_said p).kind) refl
+  where
+    cases : (a b : Bool) → is_any (mime_said p).kind ≡ b
+        → All IsOther (option_to_list (if a && not b then Some (mime_said p) else None))
+    cases true true e = All-nil IsOther
+    cases true false e = All-cons IsOther (mime_said p) [] (λ any. absurd (false≢true (sym e ∙ any_is (mime_said p).kind any))) (All-nil IsOther)
+    cases false b e = All-nil IsOther
+
+pub says_no_stars : (ps : List (List ℕ)) → All IsOther (said ps)
+says_no_stars [] = All-nil IsOther
+says_no_stars (p ∷ ps) = All-append IsOther (option_to_list (usable p)) (said ps) (no_stars p) (says_no_stars ps)

@@ -1,5 +1,5 @@
 //! Facts about the definitions, each the contract of a function that does nothing beside. To use a law, call it.
-ghost use Rattle.mime_types.specs.Laws.{SaysItself, SaysOne};
+ghost use Rattle.mime_types.specs.Laws.{HasPieces, LeavesLastOut, SaysItself, SaysNoStars, SaysOne};
 
 /// No text says two MIME types.
 pub fn one_mime()
@@ -9,4 +9,19 @@ pub fn one_mime()
 /// What is written of a MIME type says that MIME type again.
 pub fn says_itself()
     ensures { SaysItself }
+{}
+
+/// A value has one piece more than commas outside of quotes.
+pub fn pieces_of_commas()
+    ensures { HasPieces }
+{}
+
+/// An empty last piece may be left out, as some readers do: the others say the same MIME types, and forbid the same.
+pub fn last_left_out()
+    ensures { LeavesLastOut }
+{}
+
+/// No value says `*/*`.
+pub fn says_no_stars()
+    ensures { SaysNoStars }
 {}
