@@ -7,5 +7,6 @@ pub mod WebmLemmas
 pub mod ComputedLemmas
 pub mod GrowthLemmas
 pub mod DecidedLemmas
+pub mod EscalationLemmas
 pub mod SnifferLemmas
 pub mod ScriptLemmas

@@ -33,6 +33,10 @@ MayEscalate s b = IsUnknown s.kind × (¬ IsTrue s.no_sniff) × Any (Accepts (he
 abbrev pub Escalates : Type 0
 Escalates = (s : Supply) (b : List ℕ) (told : Option (List ℕ)) → IsComputed s b told → TellsScriptable s told → IsSuppliedScriptable s ⊎ MayEscalate s b
 
+-- and where it may so, it does
+abbrev pub EscalatesSo : Type 0
+EscalatesSo = (s : Supply) (b : List ℕ) (told : Option (List ℕ)) → IsComputed s b told → MayEscalate s b → TellsScriptable s told
+
 -- a supplied type that tells something stays, or becomes what one of the rules tells that are asked of it: an image another
 -- image, audio or video another of these, and a text of an old server a text or binary data
 abbrev pub StaysOfItsKind : Type 0

@@ -1,5 +1,5 @@
 //! Facts about the definitions, each the contract of a function that does nothing beside. To use a law, call it.
-ghost use Rattle.mime_sniff.specs.Laws.{ComputesOne, Escalates, HasOneType, HeaderComputes, HeaderDecides, StaysIfForbidden, StaysOfItsKind, TellsNoScript};
+ghost use Rattle.mime_sniff.specs.Laws.{ComputesOne, Escalates, EscalatesSo, HasOneType, HeaderComputes, HeaderDecides, StaysIfForbidden, StaysOfItsKind, TellsNoScript};
 
 /// No buffer has two content types.
 pub fn one_type()
@@ -25,6 +25,11 @@ pub fn header_computes()
 /// not forbidden, and a rule of what may run scripts accepts the first bytes.
 pub fn escalation()
     ensures { Escalates }
+{}
+
+/// And if it is so, the computed type does run scripts.
+pub fn escalates_so()
+    ensures { EscalatesSo }
 {}
 
 /// A supplied type that tells something stays, or becomes another of its kind: an image another image, audio or video another
