@@ -1,10 +1,12 @@
 -- Laws of content types and of computed types.
-use Rattle.std.specs.Prelude.{◌≡◌, ◌↔◌, ◌⊎◌, Any, IsTrue, List, Option, None, Some, ℕ}
+use Rattle.std.specs.Prelude.{◌≡◌, ◌≤◌, ◌↔◌, ◌⊎◌, ◌++◌, ◌∷◌, [], Any, IsTrue, List, Option, None, Some, ℕ, length}
+use Rattle.std.specs.List.{concat}
 use Rattle.mime_types.specs.Groups.{IsJavaScript, essence}
 use Rattle.mime_types.specs.Mime.{Kind}
 use Rattle.mime_sniff.specs.Computed.{IsAskedOf, IsComputed, IsSuppliedScriptable, IsUnknown, Supply, TellsScriptable, otherwise, rules_of}
 use Rattle.mime_sniff.specs.Go.{IsContentType}
 use Rattle.mime_sniff.specs.Go as go
+use Rattle.mime_sniff.specs.Growth.{IsDecided}
 use Rattle.mime_sniff.specs.Rule.{Accepts}
 use Rattle.mime_sniff.specs.Standard.{header, scriptable}
 use Rattle.mime_sniff.specs.declared.question.Question.{Question}
@@ -24,6 +26,19 @@ ComputesOne = (s : Supply) (b : List ℕ) (t u : Option (List ℕ)) → IsComput
 -- it is that of the header, and so that of the bytes that a sniffer of pieces keeps
 abbrev pub HeaderComputes : Type 0
 HeaderComputes = (s : Supply) (b : List ℕ) (t : Option (List ℕ)) → IsComputed s (header b) t ↔ IsComputed s b t
+
+-- what a sniffer of pieces keeps that has kept something before
+abbrev pub kept_of : List ℕ → List (List ℕ) → List ℕ
+kept_of kept [] = kept
+kept_of kept (piece ∷ pieces) = kept_of (header (kept ++ piece)) pieces
+
+-- it keeps the header of the whole, however that is cut
+abbrev pub KeepsHeader : Type 0
+KeepsHeader = (pieces : List (List ℕ)) → kept_of [] pieces ≡ header (concat pieces)
+
+-- behind a whole header no bytes change what is computed
+abbrev pub DecidesWhenFull : Type 0
+DecidesWhenFull = (s : Supply) (b : List ℕ) → 1445 ≤ length b → IsDecided s b
 
 -- nothing tells the type, sniffing is not forbidden, and what may run scripts accepts the bytes
 abbrev pub MayEscalate : Supply → List ℕ → Type 0

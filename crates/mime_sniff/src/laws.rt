@@ -1,5 +1,5 @@
 //! Facts about the definitions, each the contract of a function that does nothing beside. To use a law, call it.
-ghost use Rattle.mime_sniff.specs.Laws.{ComputesOne, Escalates, EscalatesSo, HasOneType, HeaderComputes, HeaderDecides, StaysIfForbidden, StaysOfItsKind, TellsNoScript};
+ghost use Rattle.mime_sniff.specs.Laws.{ComputesOne, DecidesWhenFull, Escalates, EscalatesSo, HasOneType, HeaderComputes, HeaderDecides, KeepsHeader, StaysIfForbidden, StaysOfItsKind, TellsNoScript};
 
 /// No buffer has two content types.
 pub fn one_type()
@@ -19,6 +19,16 @@ pub fn one_computed()
 /// What stands behind the first 1445 bytes makes no difference to a computed type.
 pub fn header_computes()
     ensures { HeaderComputes }
+{}
+
+/// However a resource is cut into pieces, a [`Sniffer`](crate::Sniffer) keeps the first 1445 bytes of the whole.
+pub fn keeps_header()
+    ensures { KeepsHeader }
+{}
+
+/// Behind the first 1445 bytes none change a computed type.
+pub fn decides_when_full()
+    ensures { DecidesWhenFull }
 {}
 
 /// A computed type may run scripts only if the supplied type may; or if none that tells anything was supplied, sniffing was
