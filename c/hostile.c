@@ -9,6 +9,7 @@
 enum { ROOM = 16384, ROUNDS = 20000 };
 static unsigned char *end; /* of the room, right before the page that may not be touched */
 static struct infer_named_answer *answer; /* in a room of its own */
+static infer_range *last_range;           /* in another, behind whose end is such a page too */
 static long wrong;
 static uint64_t state = 0x2545F4914F6CDD1D;
 
@@ -99,6 +100,45 @@ static void ask_mime(const char *buf, size_t len) {
     infer_mime_is_blocked(buf, len, INFER_MIME_STYLE);
 }
 
+typedef int32_t position_of(const void *buf, size_t len);
+typedef int32_t evidence_of(const void *buf, size_t len, infer_range *ranges, size_t room, infer_needs *needs);
+
+/* Another buffer with the same bytes in the ranges, of a length that the needs allow: its answer has to be the same. */
+static void ask_alike(position_of *position, int32_t row, const unsigned char *buf, size_t len, const infer_range *ranges, const infer_needs *needs) {
+    static unsigned char changed[ROOM + 64];
+    size_t least = needs->least;
+    for (size_t i = 0; i < sizeof changed; i++)
+        changed[i] = (unsigned char)next();
+    for (size_t i = 0; i < needs->wanted; i++) {
+        const size_t behind = ranges[i].place + ranges[i].len;
+        memcpy(changed + ranges[i].place, buf + ranges[i].place, ranges[i].len);
+        if (behind > least) least = behind;
+    }
+    wants(position(changed, needs->is_exact ? len : least + next() % (sizeof changed - least)) == row);
+}
+
+/* What decides the answer, with any room. */
+static void ask_evidence(evidence_of *ask, position_of *position, const void *buf, size_t len) {
+    const size_t room = next() % (INFER_MOST_RANGES + 2), rows = infer_more_row_count();
+    const int32_t row = position(buf, len);
+    infer_range *ranges = last_range + 1 - room, none;
+    infer_needs needs;
+    memset(&needs, 0xA5, sizeof needs);
+    memset(&none, 0xA5, sizeof none);
+    memset(ranges - 1, 0xA5, (room + 1) * sizeof *ranges);
+    wants(ask(buf, len, room ? ranges : NULL, room, &needs) == row);
+    wants(needs.least <= len && (needs.wanted <= 101 || ask == infer_more_evidence));
+    const size_t most = room < INFER_MOST_RANGES ? room : INFER_MOST_RANGES, written = needs.wanted < most ? needs.wanted : most;
+    for (size_t i = 0; i < written; i++) {
+        wants(ranges[i].len > 0 && ranges[i].place < len && ranges[i].len <= len - ranges[i].place);
+        wants(ranges[i].row >= -1 && ranges[i].row < (int32_t)rows);
+    }
+    wants(memcmp(ranges - 1, &none, sizeof none) == 0);
+    for (size_t i = written; i < room; i++)
+        wants(memcmp(ranges + i, &none, sizeof none) == 0);
+    if (written == needs.wanted) ask_alike(position, row, buf, len, ranges, &needs);
+}
+
 /* What the calls say of one buffer must agree. */
 static void ask(const void *buf, size_t len) {
     bool is_final;
@@ -133,6 +173,8 @@ static void ask(const void *buf, size_t len) {
     ask_mime(buf, len);
     ask_types(buf, len);
     ask_named(buf, len);
+    ask_evidence(infer_evidence, infer_position, buf, len);
+    ask_evidence(infer_more_evidence, infer_more_position, buf, len);
     infer_is(buf, len, buf, len);
     infer_is_mime(buf, len, buf, len);
     infer_is_supported(buf, len);
@@ -194,9 +236,11 @@ int main(void) {
     const int32_t numbers[] = {INT32_MIN, INT32_MIN + 1, -2, -1, last + 1, last + 2, 255, 256, 65536, INT32_MAX - 1, INT32_MAX};
     unsigned char *room = guarded(whole_pages(ROOM));
     unsigned char *other = guarded(whole_pages(sizeof *answer));
-    if (!room || !other) return perror("hostile"), 2;
+    unsigned char *third = guarded(whole_pages((INFER_MOST_RANGES + 2) * sizeof *last_range));
+    if (!room || !other || !third) return perror("hostile"), 2;
     end = room + whole_pages(ROOM);
     answer = (struct infer_named_answer *)(void *)(other + whole_pages(sizeof *answer)) - 1;
+    last_range = (infer_range *)(void *)(third + whole_pages((INFER_MOST_RANGES + 2) * sizeof *last_range)) - 1;
     for (int i = 0; i < ROUNDS; i++)
         ask_some();
     for (int32_t row = 0; row <= last; row++) {

@@ -100,6 +100,36 @@ bool infer_may_become(const void *buf, size_t len, int32_t row);
 bool infer_more_is_decided(const void *buf, size_t len);
 bool infer_more_may_become(const void *buf, size_t len, int32_t row);
 
+/* WHAT DECIDES the answer, and the wider answer: ranges of the buffer, and what is needed of its length. Every buffer with
+ * the same bytes in these ranges and such a length has the same answer, whatever else it has.
+ *
+ *     infer_range ranges[INFER_MOST_RANGES];
+ *     infer_needs needs;
+ *     int32_t row = infer_evidence(buf, len, ranges, INFER_MOST_RANGES, &needs);
+ *     for (size_t i = 0; i < needs.wanted && i < INFER_MOST_RANGES; i++)
+ *         printf("%zu bytes at %zu: row %d\n", ranges[i].len, ranges[i].place, (int)ranges[i].row);
+ *
+ * The 8 bytes that begin each PNG image, and 292 zeros, are a PNG image by 4 bytes at 0, whose row is the answer. 1 byte at
+ * 60 has the row of an e-book: it rules that out. 1 byte at 0 rules out all rows that begin otherwise, so its row is -1.
+ * Of the length at least 4 bytes are needed.
+ *
+ * A range tells of a row: of the answer, which accepts by these bytes, or of one before it, which they rule out. Where
+ * `is_exact` is true another length is not enough either. `wanted` says how many ranges there are. The first `room` of them
+ * are written to `ranges`, and nothing behind them. If there are more, or more than INFER_MOST_RANGES, those that were written
+ * are not enough; of infer_evidence there are at most 101. With `room` 0 `ranges` may be null. `needs` must not be null. A
+ * call takes some 5 KB of the stack. */
+#define INFER_MOST_RANGES 128
+typedef struct infer_range {
+    size_t place, len;
+    int32_t row;
+} infer_range;
+typedef struct infer_needs {
+    size_t wanted, least;
+    bool is_exact;
+} infer_needs;
+int32_t infer_evidence(const void *buf, size_t len, infer_range *ranges, size_t room, infer_needs *needs);
+int32_t infer_more_evidence(const void *buf, size_t len, infer_range *ranges, size_t room, infer_needs *needs);
+
 /* The number of built-in rows, and of all rows. The further rows have the numbers from the first of these on. */
 size_t infer_row_count(void);
 size_t infer_more_row_count(void);

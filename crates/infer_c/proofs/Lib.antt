@@ -1,1 +1,3 @@
 mod MimeLemmas
+mod RangeLemmas
+mod WiderLemmas

@@ -1,4 +1,5 @@
 pub mod Codes
+pub mod Why
 pub mod Written
 pub mod Named
 pub mod Mime

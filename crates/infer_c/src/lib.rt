@@ -8,6 +8,7 @@ ghost use Rattle.std.specs.Option.{option_map_or};
 ghost use Rattle.infer.specs.App.{coff_i386, coff_ia64, coff_x64};
 ghost use Rattle.infer.specs.Signature.{accepts};
 ghost use Rattle.infer.specs.Decided.{IsDecided};
+ghost use Rattle.infer.specs.Evidence.{Decides};
 ghost use Rattle.infer.specs.First.{IsFirstOf, SomeHas};
 ghost use Rattle.infer.specs.Questions.{HasClass, HasExtension, HasMimeType, SomeBoth};
 ghost use Rattle.infer.specs.Row.{Accepts};
@@ -21,6 +22,7 @@ ghost use Rattle.infer_formats.specs.declared.text.Encoding.{Encoding};
 ghost use Rattle.infer_more.specs.declared.types.Mistake.{Mistake};
 ghost use Rattle.infer_more.specs.Decided as wider;
 ghost use Rattle.infer_more.specs.Ended.{ended};
+ghost use Rattle.infer_more.specs.Why as wider_why;
 ghost use Rattle.infer_more.specs.Wider.{IsWider, shown};
 ghost use Rattle.infer.specs.Triple.{Triple};
 ghost use Rattle.infer_more.specs.Line.{Row};
@@ -36,6 +38,7 @@ ghost use Rattle.mime_sniff.specs.Growth as growth;
 ghost use Rattle.mime_sniff.specs.Growth.{NeverScripts};
 ghost use Rattle.infer_c.specs.Mime.{IsContextOf, IsDestinationOf, IsEssenceText, IsGroupCodeSaid, IsMimeText, IsMinimalText, IsToldText, IsValueText, Says, kind_said, mime_extracted, supply_told, value_said};
 ghost use Rattle.infer_c.specs.Named.{IsOddityCode, StoresNamed};
+ghost use Rattle.infer_c.specs.Why.{TellsWhy};
 ghost use Rattle.infer_c.specs.Written.{WritesText, WritesWhole};
 
 mod class;
@@ -43,13 +46,16 @@ mod mime;
 mod named;
 mod row;
 mod texts;
+mod why;
 mod written;
 
 use infer::MatcherType;
+use infer_evidence::Evidence;
 use infer_more::laws;
 use mime_sniff::Context;
 use mime_types::Destination;
 use named::NamedAnswer;
+use why::{Needs, WrittenRange};
 
 const VERSION: &str = "0.1.0";
 
@@ -159,6 +165,45 @@ pub extern "C" fn infer_more_may_become(buf: &[u8], row: i32) -> bool
         × (wider.MayBecomeAt buf.now i ⊎ wider.AsksForRelation i) }
 {
     row >= 0 && infer_more::may_become(buf, row as usize)
+}
+
+/// The number of the first row that accepts `buf`, or -1, and what decides it. Ranges of `buf` are written to `ranges`, as
+/// many as it has room for, and `needs` says how many are wanted and what is needed of the length: every buffer with the same
+/// bytes in all of these and such a length has the same answer.
+#[unsafe(no_mangle)]
+pub extern "C" fn infer_evidence(buf: &[u8], ranges: &mut [WrittenRange], needs: &mut Needs) -> i32
+    ensures first { (first : Option ℕ) × IsFirstOf (Accepts buf.now) table first
+        × (result ≡ row_code first)
+        × TellsWhy (λ e. Decides e buf.now first) buf.now ranges.old ranges.new needs.new }
+    ensures few { needs.new.wanted ≤ 101 }
+{
+    let mut evidence = Evidence::new();
+    let found = infer::evidence(buf, &mut evidence);
+    why::store(&evidence, ranges, needs);
+    match found {
+        Some(i) => i as i32,
+        None => -1,
+    }
+}
+
+/// The number of the wider answer of `buf`, or -1, and what decides it, in the same way.
+#[tactic(auto, using(crate::proofs::WiderLemmas::is_row))]
+#[unsafe(no_mangle)]
+pub extern "C" fn infer_more_evidence(
+    buf: &[u8],
+    ranges: &mut [WrittenRange],
+    needs: &mut Needs,
+) -> i32
+    ensures { (wider : Option ℕ) × IsWider buf.now wider × (result ≡ row_code wider)
+        × TellsWhy (λ e. wider_why.Decides e buf.now wider) buf.now ranges.old ranges.new needs.new }
+{
+    let mut evidence = Evidence::new();
+    let found = infer_more::evidence(buf, &mut evidence);
+    why::store(&evidence, ranges, needs);
+    match found {
+        Some(i) => i as i32,
+        None => -1,
+    }
 }
 
 /// The number of rows, built-in and further.
