@@ -15,7 +15,7 @@ module _ (b more : List ℕ) where
   full_stays full = take-append-le 1445 b more full
 
   -- the header of what goes on is the header that is there, and then some bytes
-  grows : (m : List ℕ) × (header (b ++ more) ≡ header b ++ m)
+  pub grows : (m : List ℕ) × (header (b ++ more) ≡ header b ++ m)
   grows = elim (cases_lt (length b) 1445) [
     | inl short ↦
         let n = 1445 - length b in

@@ -1,18 +1,20 @@
 -- A row of what may run scripts tells a type that does.
-use Rattle.std.proofs.Common.{◌≡◌, ◌∙◌, ◌||◌, ◌++◌, ◌∷◌, [], inl, inr, zero, suc, ℕ, Bool, true, false, Any, IsTrue, List, Option, Some, ap, arith, codes, refl, subst, sym}
+use Rattle.std.proofs.Common.{◌≡◌, ◌∙◌, ◌||◌, ◌++◌, ◌∷◌, [], inl, inr, zero, suc, ℕ, Bool, true, false, Any, List, Option, Some, ap, arith, codes, refl, subst, sym}
 use Rattle.std.proofs.lemmas.Bool.{and_parts}
 use Rattle.std.proofs.lemmas.Slice.Eq.{bytes_eq-Decides}
 use Rattle.std.specs.List.{list_all}
 use Rattle.std.specs.Option.{option_or}
 use Rattle.std.specs.Str.{bytes_eq}
-use Rattle.mime_sniff.specs.Computed.{Answers, IsAsked, IsScriptableText, IsUnknown, Supply, TellsScriptable, asked_of_unknown, otherwise}
+use Rattle.mime_sniff.specs.Computed.{Answers, IsAsked, IsScriptableText, Supply, TellsScriptable, asked_of_unknown, otherwise}
 use Rattle.mime_sniff.specs.Laws.{MayEscalate}
 use Rattle.mime_sniff.specs.Rule.{Accepts, Rule, TellsFirst}
 use Rattle.mime_sniff.specs.Standard.{documents, header, scriptable, unscripted}
 use Rattle.mime_sniff.specs.Table.{markup_rules}
 use Rattle.mime_sniff.specs.declared.question.Question.{Question}
 use Rattle.mime_sniff.specs.declared.question.Question.TheVariants.{Anything}
+use Rattle.mime_sniff.proofs.DecidedLemmas.{grows}
 use Rattle.mime_sniff.proofs.FirstLemmas.{tells_cases}
+use Rattle.mime_sniff.proofs.GrowthLemmas.{any_grown, is_begun_rule}
 
 module _ (P : Rule → Type 0) where
   later : (x : Rule) (xs : List Rule) → (¬ P x) → Any P (x ∷ xs) → Any P xs
@@ -63,3 +65,13 @@ module _ (s : Supply) (b : List ℕ) (told : Option (List ℕ)) (may : MayEscala
   pub escalates_so : (q : Question) → IsAsked s q → Answers q (header b) told → TellsScriptable s told
   escalates_so q (inl (unknown, e)) h = of_unknown s.no_sniff refl q e h
   escalates_so q (inr (known, asked)) h = absurd (known may.0)
+
+all_begun : list_all is_begun_rule scriptable ≡ true
+unfolding markup_rules documents
+all_begun = refl
+
+-- what may escalate goes on to
+pub may_grown : (s : Supply) (b more : List ℕ) → MayEscalate s b → MayEscalate s (b ++ more)
+may_grown s b more (unknown, may, some) =
+    let (m, e) = grows b more in
+    (unknown, may, subst (λ h. Any (Accepts h) scriptable) (sym e) (any_grown (header b) m scriptable all_begun some))

@@ -1,7 +1,8 @@
 -- What more bytes leave as it is.
-use Rattle.std.proofs.Common.{◌≡◌, ◌∙◌, inl, inr, ℕ, zero, suc, ◌+◌, ◌*◌, ◌<◌, ◌≤◌, ◌&&◌, ◌==◌, true, IfSome, List, [], ◌∷◌, ◌++◌, Option, None, Some, Bor, ap, append_assoc, arith, bit_and, codes, get_or, length, length-append, nat_lt, option_map, refl, subst, sym}
-use Rattle.std.proofs.lemmas.Bool.{and_parts, lt-ltb, ltb-true}
+use Rattle.std.proofs.Common.{◌≡◌, ◌∙◌, inl, inr, ℕ, zero, suc, ◌+◌, ◌*◌, ◌<◌, ◌≤◌, ◌&&◌, ◌==◌, Any, Bool, false, true, IfSome, List, [], ◌∷◌, ◌++◌, Option, None, Some, Bor, ap, append_assoc, arith, bit_and, codes, get_or, length, length-append, nat_lt, option_map, refl, subst, sym}
+use Rattle.std.proofs.lemmas.Bool.{and_parts, false≢true, lt-ltb, ltb-true}
 use Rattle.std.proofs.lemmas.List.{get_or_append_left}
+use Rattle.std.proofs.lemmas.List.Sums.{AllPass-from_list_all}
 use Rattle.std.specs.Fn.{iterate}
 use Rattle.std.specs.List.{list_all}
 use Rattle.infer_deep.specs.Joined.{NoneBegins, SkipsTo}
@@ -18,8 +19,8 @@ use Rattle.mime_sniff.specs.declared.question.Question.{Question}
 use Rattle.mime_sniff.proofs.FirstLemmas.{tells_left, tells_right}
 use Rattle.std.specs.Option.{option_or}
 use Rattle.mime_sniff.specs.Mp4.{IsMp4OfAnyBox, box_length}
-use Rattle.mime_sniff.specs.Row.{EndsTag, Fits, Pattern, mask_at}
-use Rattle.mime_sniff.specs.Rule.{Accepts, FitsRule, Rule, TellsFirst}
+use Rattle.mime_sniff.specs.Row.{EndsTag, Fits, FitsBehind, Pattern, mask_at}
+use Rattle.mime_sniff.specs.Rule.{Accepts, FitsRule, IsAccepted, Rule, Signature, TellsFirst, fixed, mp3, mp4, mp4_of_any_box, no_data, webm}
 use Rattle.mime_sniff.specs.Table.{led_by}
 use Rattle.mime_sniff.specs.Webm.{Holds, HoldsFrom, IsWebm, NamesWebm, begins_name, content, next_place, size_width}
 use Rattle.mime_sniff.proofs.WebmLemmas.{all_later, from_next, next_later}
@@ -162,29 +163,60 @@ module _ (b : List ℕ) where
       (subst (λ x. TellsFirst (FitsRule (b ++ more)) (led_by x rules) (option_map (λ t. t.now) told)) (sym same) (h more))
 
 -- what is behind white space stays behind it, once a byte is there
+pub skips_grown : (b text more : List ℕ) → SkipsTo IsSpace b text → SkipsTo IsSpace (b ++ more) (text ++ more)
+skips_grown b text more skips = record {
+  words = skips.words;
+  each = skips.each;
+  whole = ap (λ l. l ++ more) skips.whole ∙ append_assoc _ text more;
+}
+
+pub stops_grown : (t more : List ℕ) → 0 < length t → NoneBegins IsSpace t → NoneBegins IsSpace (t ++ more)
+stops_grown [] more long none = absurd (omega (arith, long))
+stops_grown (x ∷ t) more some none = λ word rest is e. none word t is (cut word is rest e)
+  where
+    cut : (word : List ℕ) → IsSpace word → (rest : List ℕ) → (x ∷ t) ++ more ≡ word ++ rest → x ∷ t ≡ word ++ t
+    cut word (y, white, w) rest e =
+        let first : x ≡ y = ap (λ l. get_or l 0 0) (e ∙ ap (λ v. v ++ rest) w) in
+        ap (λ z. z ∷ t) first ∙ ap (λ v. v ++ t) (sym w)
+
+-- a rule of a pattern that is not empty
+abbrev is_begun : Signature → Bool
+is_begun (fixed p) = nat_lt 0 (length p.bytes)
+is_begun other = false
+
+abbrev pub is_begun_rule : Rule → Bool
+is_begun_rule r = is_begun r.signature
+
+module _ (b more : List ℕ) where
+  behind_grown : (w : Bool) (p : Pattern) → 0 < length p.bytes → FitsBehind w p b → FitsBehind w p (b ++ more)
+  behind_grown true p some (text, skips, (stops, fits)) = (
+    text ++ more,
+    skips_grown b text more skips,
+    (stops_grown text more (omega (arith, some, fits.long)) stops, fits_grown text more p fits),
+  )
+  behind_grown false p some fits = fits_grown b more p fits
+
+  accepted_grown : (s : Signature) → is_begun s ≡ true → IsAccepted s b → IsAccepted s (b ++ more)
+  accepted_grown (fixed p) is h = behind_grown p.ignores_white p (ltb-true 0 (length p.bytes) is) h
+  accepted_grown mp4 is h = absurd (false≢true is)
+  accepted_grown mp4_of_any_box is h = absurd (false≢true is)
+  accepted_grown webm is h = absurd (false≢true is)
+  accepted_grown mp3 is h = absurd (false≢true is)
+  accepted_grown no_data is h = absurd (false≢true is)
+
+  -- such rules that accept go on to do so
+  pub any_grown : (rules : List Rule) → list_all is_begun_rule rules ≡ true → Any (Accepts b) rules → Any (Accepts (b ++ more)) rules
+  any_grown rules all (n, rule, within, at, accepts) =
+      let begun : is_begun_rule rule ≡ true = sym (ap is_begun_rule at) ∙ AllPass-from_list_all is_begun_rule rules all n rule within in
+      (n, rule, within, at, accepted_grown rule.signature begun accepts)
+
 module _ (b text : List ℕ) (skips : SkipsTo IsSpace b text) (stops : NoneBegins IsSpace text) (byte : get_or text 0 0 < 256) (some : 0 < length text) where
-  skips_grown : (more : List ℕ) → SkipsTo IsSpace (b ++ more) (text ++ more)
-  skips_grown more = record {
-    words = skips.words;
-    each = skips.each;
-    whole = ap (λ l. l ++ more) skips.whole ∙ append_assoc _ text more;
-  }
-
-  stops_cons : (t : List ℕ) → 0 < length t → NoneBegins IsSpace t → (more : List ℕ) → NoneBegins IsSpace (t ++ more)
-  stops_cons [] long none more = absurd (omega (arith, long))
-  stops_cons (x ∷ t) some none more = λ word rest is e. none word t is (cut word is rest e)
-    where
-      cut : (word : List ℕ) → IsSpace word → (rest : List ℕ) → (x ∷ t) ++ more ≡ word ++ rest → x ∷ t ≡ word ++ t
-      cut word (y, white, w) rest e =
-          let first : x ≡ y = ap (λ l. get_or l 0 0) (e ∙ ap (λ v. v ++ rest) w) in
-          ap (λ z. z ∷ t) first ∙ ap (λ v. v ++ t) (sym w)
-
   pub settle_markup : (rules : List Rule) (o : Option (Option (Bor (List ℕ)))) → list_all is_markup_rule rules ≡ true
       → IfSome o (λ told. FitForGood text rules (option_map (λ t. t.now) told)) → IfSome o (λ told. TellForGood b rules (option_map (λ t. t.now) told))
   settle_markup rules None is h = tt
   settle_markup rules (Some told) is h = λ more.
       let same : get_or (text ++ more) 0 0 ≡ get_or text 0 0 = get_or_append_left text more 0 0 some in
-      tells_markup (b ++ more) (text ++ more) (skips_grown more) (stops_cons text some stops more) (omega (arith, same, byte)) rules
+      tells_markup (b ++ more) (text ++ more) (skips_grown b text more skips) (stops_grown text more some stops) (omega (arith, same, byte)) rules
       (option_map (λ t. t.now) told) is (h more)
 
 -- what some rules and those behind them tell

@@ -52,6 +52,11 @@ Escalates = (s : Supply) (b : List ℕ) (told : Option (List ℕ)) → IsCompute
 abbrev pub EscalatesSo : Type 0
 EscalatesSo = (s : Supply) (b : List ℕ) (told : Option (List ℕ)) → IsComputed s b told → MayEscalate s b → TellsScriptable s told
 
+-- and whatever follows then, it goes on to
+abbrev pub EscalatesForGood : Type 0
+EscalatesForGood =
+    (s : Supply) (b more : List ℕ) (told : Option (List ℕ)) → MayEscalate s b → IsComputed s (b ++ more) told → TellsScriptable s told
+
 -- a supplied type that tells something stays, or becomes what one of the rules tells that are asked of it: an image another
 -- image, audio or video another of these, and a text of an old server a text or binary data
 abbrev pub StaysOfItsKind : Type 0

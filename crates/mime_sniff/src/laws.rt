@@ -1,5 +1,5 @@
 //! Facts about the definitions, each the contract of a function that does nothing beside. To use a law, call it.
-ghost use Rattle.mime_sniff.specs.Laws.{ComputesOne, DecidesWhenFull, Escalates, EscalatesSo, HasOneType, HeaderComputes, HeaderDecides, KeepsHeader, StaysIfForbidden, StaysOfItsKind, TellsNoScript};
+ghost use Rattle.mime_sniff.specs.Laws.{ComputesOne, DecidesWhenFull, Escalates, EscalatesForGood, EscalatesSo, HasOneType, HeaderComputes, HeaderDecides, KeepsHeader, StaysIfForbidden, StaysOfItsKind, TellsNoScript};
 
 /// No buffer has two content types.
 pub fn one_type()
@@ -40,6 +40,11 @@ pub fn escalation()
 /// And if it is so, the computed type does run scripts.
 pub fn escalates_so()
     ensures { EscalatesSo }
+{}
+
+/// And whatever follows those bytes, it goes on to run scripts.
+pub fn escalates_for_good()
+    ensures { EscalatesForGood }
 {}
 
 /// A supplied type that tells something stays, or becomes another of its kind: an image another image, audio or video another
