@@ -82,10 +82,10 @@ class Client:
             await asyncio.wait_for(self.writer.drain(), self.server.seconds)
             self.server.moved(self.writer)
 
-    async def end(self, status: int, why: str = "", *fields: tuple[str, str]) -> None:
-        """Answers a line, and ends the connection."""
+    async def end(self, status: int, why: str = "", *fields: tuple[str, str], beside: str = "") -> None:
+        """Answers a line, and ends the connection. The server's own line has something beside."""
         line = f"{status} {why or HTTPStatus(status).phrase}"
-        self.server.tell(line)
+        self.server.tell(line + beside)
         size = str(len(line) + 1)
         fields = (("Content-Type", "text/plain"), ("Content-Length", size), ("Connection", "close"), *fields)
         await self.send(status, fields, [] if self.method == "HEAD" else [line.encode() + b"\n"])

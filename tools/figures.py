@@ -37,7 +37,6 @@ REPEATED = [
     ("docs/HOSTILE_INPUT.md", r"byte\s+order\s+marks\s+([\d.]+),", "dearest", "byte order marks", "a byte of 8 KB", at_most),
     ("docs/HOSTILE_INPUT.md", r"Zstandard\s+and\s+LZ4\s+([\d.]+)\.\s", "dearest", "skippable frames", "a byte of 8 KB", at_most),
     ("docs/HOSTILE_INPUT.md", r"(\d+)\s+million\s+instructions\s+for\s+a\s+ZIP", "bytewise", "an archive of Office, with near misses of its headers", "instructions", in_millions),
-    ("docs/HOSTILE_INPUT.md", r"(\d+)\s+million\s+for\s+byte\s+order\s+marks", "bytewise", "marks FF FE, each sixteenth FE FF", "instructions", in_millions),
 ]
 
 

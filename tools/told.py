@@ -185,13 +185,19 @@ def is_told(mime_type, extension, more, named):
     return is_known and {*more.split(", ")[1:]} <= {*words, "us-ascii", "utf-8", "utf-16le", "utf-16be"}
 
 
+def is_reason(text):
+    """Whether it is a range of bytes, perhaps with the row that it rules out, or what is needed of the length."""
+    found = re.fullmatch(r"(?:no (\w+) [a-z ]+: |nothing that begins otherwise: )?(?:[0-9A-F]{2}(?: [0-9A-F]{2}){0,15}|\d+ bytes) at \d+|(?:at least|just) \d+ bytes?|and more than there is room for", text)
+    return found is not None and found[1] in {None, *(extension for _, extension, *_ in rows())}
+
+
 def check_lines(page):
     """What a page shows as a line of the program is one."""
     for line in [*spans(page), *blocks_of(page)]:
         found = re.fullmatch(r"(?:[\w.-]*/)*(?:[\w-]+\.\w+|-|folder|dll): (\S.*)", line)
         if found:
-            is_type = re.fullmatch(rf"({TYPE})(?: (\w+))?((?:, [\w -]+)*)(?:: named ({TYPE}))?", found[1])
-            fits = is_told(*is_type.groups()) if is_type else found[1] in said()
+            is_type = re.fullmatch(rf"({TYPE})(?: (\w+))?((?:, [\w -]+)*)(?:: named ({TYPE}))?(?:: (.*))?", found[1])
+            fits = is_told(*is_type.groups()[:4]) and all(map(is_reason, (is_type[5] or "just 0 bytes").split("; "))) if is_type else found[1] in said()
             yield fits, f"{page}: the program prints no line such as '{line}'"
     texts = re.findall(r'&\[u8\] = b"(.*)\\n"', text_of("crates/infer_tool/src/run.rt"))
     for line in spans(page):

@@ -1,11 +1,13 @@
 // Tells the types of files that are dropped on the page or chosen. Files are read here, and sent nowhere.
 
 const FRONT = 8192;
-/** Among so many first bytes those that decide are looked for. */
-const SEARCHED = 1024;
 const BYTES_IN_A_LINE = 16;
-/** So many lines of an opened file are shown, and beyond them those that have a byte which decides. */
+/** So many lines of an opened file are shown, and beyond them those of a range that is shown byte for byte. */
 const FIRST_LINES = 4;
+/** A longer range is told by its length. */
+const LONGEST_SHOWN = 16;
+/** What a type of a class is called. */
+const WORDS = { app: "file", archive: "archive", audio: "audio file", book: "book", custom: "file", doc: "document", font: "font", image: "image", text: "text", video: "video" };
 const ROWS_AT_ONCE = 500;
 const FILES_AT_ONCE = 32;
 const BETWEEN_PAINTS = 200;
@@ -63,26 +65,6 @@ const decidedAfter = (front) => {
 
 const same = (one, other) => one?.ext === other?.ext && one?.mime === other?.mime;
 
-/** The places at which another byte, alone, makes the answer another one. Nobody asks for them but who opens a file. */
-const decidingPlaces = async (front, type) => {
-    const places = [];
-    if (!type) return places;
-    const bytes = front.slice(0, SEARCHED);
-    // What comes later can matter too, and then the whole is asked.
-    const asked = same(infer.wider(bytes), type) ? bytes : front.slice();
-    for (let at = 0; at < Math.min(SEARCHED, asked.length); at += 1) {
-        const kept = asked[at];
-        const isDeciding = [kept ^ 0xff, kept ^ 0x01, kept ^ 0x20, kept ^ 0x80, 0].some((change) => {
-            asked[at] = change;
-            return !same(infer.wider(asked), type);
-        });
-        asked[at] = kept;
-        if (isDeciding) places.push(at);
-        await restIfLong();
-    }
-    return places;
-};
-
 /** A type in a word. */
 const wordOf = ({ ext, mime }) => ext ?? mime;
 
@@ -124,35 +106,42 @@ const afterText = ({ after, size }) => {
     return size <= FRONT ? `the end, ${counted(size, "byte")}` : `not by ${counted(FRONT, "byte")}`;
 };
 
-/** Places as spans: 0 1 2 5 as "0–2, 5". */
-const spansOf = (places) => {
-    const spans = [];
-    for (const place of places) {
-        const last = spans.at(-1);
-        if (last && last[1] === place - 1) last[1] = place;
-        else spans.push([place, place]);
-    }
-    return spans.map(([first, last]) => (first === last ? `${first}` : `${first}–${last}`)).join(", ");
+const isShown = ({ length }) => length <= LONGEST_SHOWN;
+const hexOf = (byte) => byte.toString(16).padStart(2, "0").toUpperCase();
+
+/** A range in words: "89 50 4E 47 at 0", or "1,021 bytes at 0" of a longer one. */
+const rangeText = (front, range) => {
+    const { place, length } = range;
+    const bytes = isShown(range) ? [...front.subarray(place, place + length)].map(hexOf).join(" ") : counted(length, "byte");
+    return `${bytes} at ${place.toLocaleString("en")}`;
 };
 
-/** The lines of a dump: the first, and those with a byte that decides. */
-const linesOf = (front, places) => {
+/** The lines of a dump: the first, and those with a byte of a range that is shown. */
+const linesOf = (front, ranges) => {
     const last = Math.min(FIRST_LINES, Math.ceil(front.length / BYTES_IN_A_LINE));
+    const places = ranges.filter(isShown).flatMap(({ place, length }) => [...Array(length).keys()].map((at) => place + at));
     const shown = new Set([...Array(last).keys(), ...places.map((place) => Math.floor(place / BYTES_IN_A_LINE))]);
     return [...shown].sort((one, other) => one - other);
 };
 
+/** How a byte is marked: as one by which the row of the answer accepts, as one that rules another out, or not at all. */
+const markOf = (ranges, at) => {
+    const around = ranges.filter(({ place, length }) => place <= at && at < place + length);
+    if (around.some(({ accepts }) => accepts)) return "accepts";
+    return around.length > 0 ? "rules-out" : undefined;
+};
+
 /** Bytes in hexadecimal and as characters, each with a colour if it decides. */
-const dumpOf = (front, places) => {
-    const deciding = new Set(places);
+const dumpOf = (front, ranges) => {
     const dump = element("pre", "dump");
     dump.tabIndex = 0;
     let before = -1;
-    for (const line of linesOf(front, places)) {
+    for (const line of linesOf(front, ranges)) {
         const from = line * BYTES_IN_A_LINE;
         const bytes = [...front.subarray(from, from + BYTES_IN_A_LINE)];
-        const shownAs = (write) => bytes.map((byte, at) => (deciding.has(from + at) ? element("mark", "", write(byte)) : write(byte)));
-        const digits = shownAs((byte) => byte.toString(16).padStart(2, "0").toUpperCase()).flatMap((it) => [it, " "]);
+        const marks = bytes.map((_, at) => markOf(ranges, from + at));
+        const shownAs = (write) => bytes.map((byte, at) => (marks[at] ? element("mark", marks[at], write(byte)) : write(byte)));
+        const digits = shownAs(hexOf).flatMap((it) => [it, " "]);
         const text = element("span", "text", ...shownAs((byte) => (byte > 0x20 && byte < 0x7f ? String.fromCharCode(byte) : "·")));
         if (line !== before + 1) dump.append(element("span", "place", "     ⋮\n"));
         dump.append(element("span", "place", `${from}`.padStart(6), "  "), ...digits, "   ".repeat(BYTES_IN_A_LINE - bytes.length), " ", text, "\n");
@@ -161,15 +150,30 @@ const dumpOf = (front, places) => {
     return dump;
 };
 
+/** What a range tells: that the row of the answer accepts, or that another one does not. */
+const headOf = ({ type, accepts }) => {
+    if (accepts) return "Decided by";
+    return type ? `No ${type.ext} ${WORDS[type.class]}` : "Nothing that begins otherwise";
+};
+
+/** The bytes that decide, in words: those of the answer first. */
+const reasonsOf = (front, { ranges, wanted, least, isExact }) => {
+    const sorted = [...ranges.filter(({ accepts }) => accepts), ...ranges.filter(({ accepts }) => !accepts)];
+    const reasons = sorted.map((range) => [headOf(range), rangeText(front, range)]);
+    if (isExact) reasons.push(["Of its length", `just ${counted(front.length, "byte")}`]);
+    else if (least > 0) reasons.push(["Of its length", `at least ${counted(least, "byte")}`]);
+    if (wanted > ranges.length) reasons.push(["And", "more than there is room for"]);
+    return reasons;
+};
+
 /** What an opened file shows below its row. */
 const detailsOf = async ({ file, size, type, wider }) => {
     const front = await frontOf(file);
-    const places = await decidingPlaces(front, wider);
+    const evidence = infer.widerEvidence(front);
     const facts = [["Type", wider?.mime ?? "unknown"]];
     if (type && !same(type, wider)) facts.push(["A kind of", `${type.ext}, ${type.mime}`]);
-    facts.push(["Size", counted(size, "byte")]);
-    if (places.length > 0) facts.push([places.length === 1 ? "Decided by byte" : "Decided by bytes", spansOf(places)]);
-    return [element("dl", "", ...facts.map(([term, text]) => element("div", "", element("dt", "", term), element("dd", "", text)))), dumpOf(front, places)];
+    facts.push(["Size", counted(size, "byte")], ...reasonsOf(front, evidence));
+    return [element("dl", "", ...facts.map(([term, text]) => element("div", "", element("dt", "", term), element("dd", "", text)))), dumpOf(front, evidence.ranges)];
 };
 
 const cellOf = (label, className, ...inside) => {
@@ -196,7 +200,7 @@ const toggle = async (row, result) => {
         return;
     }
     opener.ariaExpanded = "true";
-    const cell = element("td", "", "Looking for the bytes that decide.");
+    const cell = element("td", "");
     cell.colSpan = 5;
     cell.role = "cell";
     const opened = element("tr", "opened", cell);

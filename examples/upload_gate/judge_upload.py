@@ -5,6 +5,7 @@ them. README.md says what it refuses.
 usage: judge_upload.py [--types FILE] CLASS|MIME_TYPE,.. FILE NAME [CONTENT_TYPE]"""
 import os
 import sys
+from typing import BinaryIO
 
 import infer
 from infer.aliases import BROWSER, MIME_TYPE
@@ -18,6 +19,9 @@ CLOSED = {"audio", "font", "image", "text", "video", "pdf", "rtf"}
 # What archives have that their programs find wherever they begin. The end of ZIP's directory need not come after it.
 ARCHIVES = [{b"PK\1\2", b"PK\5\6"}, {b"Rar!\x1a\7"}, {b"7z\xbc\xaf\x27\x1c"}]
 PIECE = 65536
+# What a type of a class is called in a reason, and how many bytes are written out.
+WORDS = {"app": "file", "audio": "audio file", "doc": "document"}
+LONGEST_SHOWN = 16
 # Who sees a name with one of these takes the file for another.
 MISLEADING = infer.Oddity.CONTROL | infer.Oddity.DIRECTION
 
@@ -37,6 +41,26 @@ def hides_archive(path: str) -> bool:
             found |= {mark for mark in set().union(*ARCHIVES) if mark in before + piece}
             before = piece
     return any(marks <= found for marks in ARCHIVES)
+
+
+def told(file: BinaryIO, it: infer.Range) -> str:
+    """A range in words: "89 50 4E 47 at 0", or "no tar archive: 00 at 257" if it rules a type out."""
+    file.seek(it.place)
+    data = file.read(it.length).hex(" ").upper() if it.length <= LONGEST_SHOWN else f"{it.length} bytes"
+    if it.type is None:
+        return f"nothing that begins otherwise: {data} at {it.place}"
+    return f"{data} at {it.place}" if it.accepts else f"no {it.type.extension} {WORDS.get(it.type.group, it.type.group)}: {data} at {it.place}"
+
+
+def reasons(path: str) -> str:
+    """The bytes by which the file has its type, in words: those of the type first. Every file with these has that type."""
+    whole = infer.Whole(path)
+    found = infer.evidence(whole, more=True)
+    with open(path, "rb") as file:
+        words = [told(file, it) for it in sorted(found.ranges, key=lambda it: not it.accepts)]
+    if found.is_exact or found.least:
+        words.append(f"just {len(whole)} bytes" if found.is_exact else f"at least {found.least} bytes")
+    return "; ".join(words + ["and more than there is room for"] * (found.wanted > len(found.ranges)))
 
 
 class Judge:

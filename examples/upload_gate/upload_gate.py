@@ -9,7 +9,7 @@ import re
 import sys
 from typing import BinaryIO
 
-from judge_upload import Judge
+from judge_upload import Judge, reasons
 from loopback import Lines, fail, number_of
 from serving import SHORT, Client, Refusal, Server
 
@@ -52,22 +52,24 @@ class Gate:
         try:
             with self.unnamed() as file:
                 await asyncio.wait_for(client.receive(file), self.seconds)
-                status, why = await asyncio.to_thread(self.judged, file, name, claim)
+                status, why, beside = await asyncio.to_thread(self.judged, file, name, claim)
         except asyncio.TimeoutError:
             raise Refusal(408) from None
         except OSError as fault:
             raise Refusal(STATUS_OF.get(fault.errno, 500)) from None
         except RuntimeError:  # there is no thread
             raise Refusal(503) from None
-        await client.end(status, why)
+        await client.end(status, why, beside=beside)
 
-    def judged(self, file: BinaryIO, name: str, claim: str) -> tuple[int, str]:
-        """The status and the reason, after the file has got its name if it is let through."""
+    def judged(self, file: BinaryIO, name: str, claim: str) -> tuple[int, str, str]:
+        """The status and the reason, after the file has got its name if it is let through. If it is not, the log has its name
+        too, and which bytes made it what it is."""
         path = f"/proc/self/fd/{file.fileno()}"
         status, why = self.judge.judge(path, name, claim)
         if status == 201:
             self.keep(file, path, name)
-        return status, why
+            return status, why, ""
+        return status, why, f", {name}: {reasons(path)}"
 
     def keep(self, file: BinaryIO, path: str, name: str) -> None:
         """The file is on the disk before it gets its name, and that before the sender is told. Nothing is replaced."""
