@@ -16,6 +16,9 @@ mod c {
         pub fn infer_position(buf: *const c_void, len: usize) -> i32;
         pub fn infer_more_position(buf: *const c_void, len: usize) -> i32;
         pub fn infer_verdict(buf: *const c_void, len: usize, is_final: *mut bool) -> i32;
+        pub fn infer_evidence(buf: *const c_void, len: usize, ranges: *mut super::Range, room: usize, needs: *mut super::Needs) -> i32;
+        pub fn infer_more_evidence(buf: *const c_void, len: usize, ranges: *mut super::Range, room: usize, needs: *mut super::Needs)
+            -> i32;
         pub fn infer_accepts(buf: *const c_void, len: usize, row: i32) -> bool;
         pub fn infer_is_decided(buf: *const c_void, len: usize) -> bool;
         pub fn infer_more_is_decided(buf: *const c_void, len: usize) -> bool;
@@ -154,6 +157,60 @@ pub fn may_become(buf: &[u8], row: usize) -> bool {
 pub fn more_may_become(buf: &[u8], row: usize) -> bool {
     // SAFETY: as above.
     unsafe { c::infer_more_may_become(buf.as_ptr().cast(), buf.len(), row as i32) }
+}
+
+/// `infer_range` of `infer.h`.
+#[derive(Copy, Clone)]
+#[repr(C)]
+pub struct Range {
+    pub place: usize,
+    pub len: usize,
+    pub row: i32,
+}
+
+/// `infer_needs` of `infer.h`.
+#[repr(C)]
+pub struct Needs {
+    pub wanted: usize,
+    pub least: usize,
+    pub is_exact: bool,
+}
+
+/// Room for all ranges, `INFER_MOST_RANGES` of `infer.h`.
+const MOST_RANGES: usize = 128;
+
+/// The number of an answer's row, or -1, and what decides it.
+pub struct Why {
+    pub row: i32,
+    pub needs: Needs,
+    room: [Range; MOST_RANGES],
+}
+
+impl Why {
+    fn new() -> Why {
+        let needs = Needs { wanted: 0, least: 0, is_exact: false };
+        Why { row: -1, needs, room: [Range { place: 0, len: 0, row: -1 }; MOST_RANGES] }
+    }
+
+    pub fn ranges(&self) -> &[Range] {
+        &self.room[..self.needs.wanted.min(MOST_RANGES)]
+    }
+}
+
+/// What decides the answer.
+pub fn evidence(buf: &[u8]) -> Why {
+    let mut why = Why::new();
+    // SAFETY: as above, with room for as many ranges as are said, and `needs` is written.
+    why.row = unsafe { c::infer_evidence(buf.as_ptr().cast(), buf.len(), why.room.as_mut_ptr(), MOST_RANGES, &mut why.needs) };
+    why
+}
+
+/// What decides the wider answer.
+pub fn more_evidence(buf: &[u8]) -> Why {
+    let mut why = Why::new();
+    // SAFETY: as above.
+    why.row = unsafe { c::infer_more_evidence(buf.as_ptr().cast(), buf.len(), why.room.as_mut_ptr(), MOST_RANGES, &mut why.needs) };
+    why
 }
 
 /// The row's sample, or nothing.

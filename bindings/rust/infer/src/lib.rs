@@ -10,6 +10,7 @@ use alloc::vec::Vec;
 
 pub mod aliases;
 mod encoding;
+mod evidence;
 mod ffi;
 mod file_type;
 mod matchers;
@@ -23,6 +24,7 @@ mod serialized;
 mod types;
 
 pub use encoding::{encoding, Encoding};
+pub use evidence::{evidence, Evidence, Range};
 pub use file_type::{Matcher, MatcherType, Type};
 pub use matchers::{app, archive, audio, book, doc, font, image, odf, text, video};
 #[cfg(feature = "std")]

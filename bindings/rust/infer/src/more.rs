@@ -1,6 +1,6 @@
 //! Further types, which are asked after the built-in answer.
 
-use crate::{ffi, Type};
+use crate::{ffi, Evidence, Type};
 use alloc::vec::Vec;
 #[cfg(feature = "std")]
 use std::{
@@ -24,6 +24,11 @@ pub fn get_from_path<P: AsRef<Path>>(path: P) -> io::Result<Option<Type>> {
 #[cfg(feature = "std")]
 pub fn get_from_reader<R: Read>(reader: R) -> io::Result<Option<Type>> {
     Ok(get(&crate::read::front(reader)?))
+}
+
+/// What decides the answer of [`get`], as [`crate::evidence`] tells it.
+pub fn evidence(buf: &[u8]) -> Evidence {
+    Evidence::of(&ffi::more_evidence(buf))
 }
 
 /// Whether no bytes that may follow can change what [`get`] answers. It can be false although none can.

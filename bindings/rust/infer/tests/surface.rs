@@ -1,6 +1,6 @@
 //! The behaviour of every public item. The bytes are those of the signatures.
 
-use infer::{Infer, Matcher, MatcherType, Type};
+use infer::{Evidence, Infer, Matcher, MatcherType, Type};
 use std::collections::HashSet;
 use std::fs;
 use std::io::{self, ErrorKind, Read};
@@ -29,6 +29,9 @@ fn coff_is_told_by_its_machine() {
         assert_eq!(([is_coff_i386(buf), is_coff_x64(buf), is_coff_ia64(buf)], is_coff(buf)), (wanted, true), "{buf:?}");
     }
 }
+
+/// A buffer, its ranges as `told_of` has them, and what is needed of its length.
+type Told<'buf> = (&'buf [u8], &'buf [(usize, usize, &'static str)], usize, bool);
 
 /// A class test, the same of an `Infer`, and a buffer that both accept.
 type ClassTest = (Matcher, fn(&Infer, &[u8]) -> bool, Vec<u8>);
@@ -188,6 +191,68 @@ fn more_bytes_change_what_is_not_decided() {
     assert!(!infer::may_become(b"", "svg") && infer::more::may_become(b"", "svg") && !infer::more::may_become(b"", "none"));
     let long = [JPEG, &[0; 1020]].concat();
     assert_eq!((infer::verdict(&long), infer::verdict(&long[1..]).1), ((infer::get(JPEG), true), false));
+}
+
+/// Each range as its length, its place and the extension of its type, and what is needed of the length.
+fn told_of(found: &Evidence) -> (Vec<(usize, usize, &'static str)>, usize, bool) {
+    let range = |it: &infer::Range| (it.len, it.place, it.of.map_or("", |kind| kind.extension()));
+    (found.ranges.iter().map(range).collect(), found.least, found.is_exact)
+}
+
+#[test]
+fn evidence_names_the_bytes_that_decide() {
+    let png = placed(300, &[(0, b"\x89PNG\r\n\x1A\n")]);
+    let tar = placed(300, &[(0, b"\x89"), (257, b"ustar")]);
+    // From 61 bytes on there is one at 60, which is no B of BOOKMOBI.
+    let png_told = [(1, 0, ""), (1, 60, "mobi"), (4, 0, "png")];
+    let tar_told = [(1, 0, ""), (1, 60, "mobi"), (1, 1, "png"), (1, 8, "webp"), (5, 0, "heif"), (1, 12, "mov"), (5, 257, "tar")];
+    let told: [Told; 7] = [
+        (b"", &[], 0, true),
+        (b"MZ", &[(1, 0, ""), (2, 0, "exe")], 2, false),
+        (JPEG, &[(1, 0, ""), (3, 0, "jpg")], 3, true),
+        (&png[..60], &[(1, 0, ""), (4, 0, "png")], 4, true),
+        (&png[..61], &png_told, 4, false),
+        (&png, &png_told, 4, false),
+        (&tar, &tar_told, 262, false),
+    ];
+    for (buf, ranges, least, is_exact) in told {
+        let found = infer::evidence(buf);
+        assert_eq!(told_of(&found), (ranges.to_vec(), least, is_exact), "{buf:?}");
+        assert_eq!((found.told, found.wanted), (infer::get(buf), ranges.len()));
+        assert_eq!(found.ranges.iter().filter(|it| it.accepts).map(|it| it.of).collect::<Vec<_>>(), Vec::from_iter(found.told.map(Some)));
+    }
+    let found = infer::more::evidence(JPEG);
+    assert_eq!(told_of(&found), (vec![(1, 0, ""), (3, 0, "jpg"), (1, 3, "jls")], 3, true));
+    assert_eq!(told_of(&infer::more::evidence(&png)).0[3], (300, 0, "apng"));
+    assert!(told_of(&infer::evidence(&[0; 300])).0.contains(&(1, 257, "tar")));
+}
+
+/// A number that looks like one by chance: the next of a linear congruential generator.
+fn next(state: &mut u64) -> usize {
+    *state = state.wrapping_mul(6364136223846793005).wrapping_add(1442695040888963407);
+    (*state >> 33) as usize
+}
+
+#[test]
+fn what_is_no_evidence_changes_no_answer() {
+    type Ask = (fn(&[u8]) -> Option<Type>, fn(&[u8]) -> Evidence);
+    let asks: [Ask; 2] = [(infer::get, infer::evidence), (infer::more::get, infer::more::evidence)];
+    let mut state = 68;
+    for row in 0..infer::more::types().len() {
+        let buf = infer::more::sample(row);
+        for (get, evidence) in asks {
+            let found = evidence(&buf);
+            assert_eq!((found.told, found.wanted), (get(&buf), found.ranges.len()));
+            let needed = found.ranges.iter().map(|it| it.place + it.len).fold(found.least, usize::max);
+            assert!(needed <= buf.len());
+            for _ in 0..8 {
+                let len = if found.is_exact { buf.len() } else { needed + next(&mut state) % 400 };
+                let mut other: Vec<u8> = (0..len).map(|_| next(&mut state) as u8).collect();
+                found.ranges.iter().for_each(|it| other[it.place..it.place + it.len].copy_from_slice(&buf[it.place..it.place + it.len]));
+                assert_eq!(get(&other), found.told, "{other:?} beside {buf:?}");
+            }
+        }
+    }
 }
 
 /// It gives its bytes one at a time, with a call that was interrupted before each, and fails at the end if it is to.

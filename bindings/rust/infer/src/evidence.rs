@@ -1,0 +1,57 @@
+use crate::ffi::{self, Why};
+use crate::Type;
+use alloc::vec::Vec;
+
+/// Bytes that decide an answer.
+#[derive(Debug, Copy, Clone, Eq, PartialEq, Hash)]
+pub struct Range {
+    /// Where the first of them stands.
+    pub place: usize,
+    /// How many they are.
+    pub len: usize,
+    /// The type of which they tell. `None` is that of the first byte, which rules out all types that begin with another.
+    pub of: Option<Type>,
+    /// Whether this is the answer, which accepts by these bytes. Otherwise they rule it out.
+    pub accepts: bool,
+}
+
+/// What decides an answer: bytes, and what is needed of their length.
+#[derive(Debug, Clone, Eq, PartialEq, Hash)]
+pub struct Evidence {
+    /// The answer.
+    pub told: Option<Type>,
+    /// Which bytes.
+    pub ranges: Vec<Range>,
+    /// How many ranges are wanted. If there are fewer, they are not enough.
+    pub wanted: usize,
+    /// The least length that is needed.
+    pub least: usize,
+    /// Whether just the length of the buffer is needed.
+    pub is_exact: bool,
+}
+
+impl Evidence {
+    pub(crate) fn of(why: &Why) -> Evidence {
+        let of_row = |row: i32| usize::try_from(row).ok().map(|row| ffi::all_rows()[row]);
+        let range = |it: &ffi::Range| Range { place: it.place, len: it.len, of: of_row(it.row), accepts: it.row >= 0 && it.row == why.row };
+        Evidence {
+            told: of_row(why.row),
+            ranges: why.ranges().iter().map(range).collect(),
+            wanted: why.needs.wanted,
+            least: why.needs.least,
+            is_exact: why.needs.is_exact,
+        }
+    }
+}
+
+/// What decides the answer of [`crate::get`]: every buffer that has these bytes in the same places, and such a length, has it
+/// too, whatever else stands in it.
+///
+/// ```
+/// let found = infer::evidence(b"GIF89a");
+/// let of = |range: &infer::Range| (range.place, range.len, range.of.map(|kind| kind.extension()));
+/// assert_eq!(found.ranges.iter().map(of).collect::<Vec<_>>(), [(0, 1, None), (0, 3, Some("gif"))]);
+/// ```
+pub fn evidence(buf: &[u8]) -> Evidence {
+    Evidence::of(&ffi::evidence(buf))
+}
