@@ -18,8 +18,8 @@ from . import _library
 from ._source import FRONT, Readable, Source, Whole, get_bytes, get_front
 
 __all__ = [
-    "FRONT", "Named", "NamedType", "Oddity", "Readable", "Sniffer", "Source", "Standing", "TYPES", "Type", "Types", "TypesError", "Whole", "add_type", "application_match", "application_matchers",
-    "archive_match", "archive_matchers", "audio_match", "audio_matchers", "document_match", "document_matchers", "encoding", "font_match", "font_matchers",
+    "Evidence", "FRONT", "Named", "NamedType", "Oddity", "Range", "Readable", "Sniffer", "Source", "Standing", "TYPES", "Type", "Types", "TypesError", "Whole", "add_type", "application_match", "application_matchers",
+    "archive_match", "archive_matchers", "audio_match", "audio_matchers", "document_match", "document_matchers", "encoding", "evidence", "font_match", "font_matchers",
     "further_types", "get_bytes", "get_signature_bytes", "get_type", "guess", "guess_extension", "guess_mime", "image_match", "image_matchers",
     "is_app", "is_archive", "is_audio", "is_book", "is_decided", "is_document", "is_extension", "is_extension_supported", "is_font",
     "is_image", "is_mime", "is_mime_supported", "is_video", "match", "may_become", "named", "oddities", "sample", "signature", "types", "verdict", "version", "video_match",
@@ -200,6 +200,45 @@ def may_become(obj: Source, ext: str, more: bool = False) -> bool:
     ask = _library.more_may_become if more else _library.may_become
     rows = _rows_by_extension.get(ext, ())
     return any(kind.extension == ext for kind in _added()) or any(ask(front, len(front), row) for row in rows)
+
+
+class Range(NamedTuple):
+    """Bytes that decide an answer."""
+
+    place: int
+    """Where the first of them stands."""
+    length: int
+    """How many they are."""
+    type: Type | None
+    """The type of which they tell. None is that of the first byte, which rules out all types that begin with another."""
+    accepts: bool
+    """Whether this is the answer, which accepts by these bytes. Otherwise they rule it out."""
+
+
+class Evidence(NamedTuple):
+    """What decides an answer: bytes, and what is needed of their length."""
+
+    type: Type | None
+    """The answer, as `guess` tells it."""
+    ranges: tuple[Range, ...]
+    """Which bytes."""
+    wanted: int
+    """How many ranges are wanted. If there are fewer, they are not enough."""
+    least: int
+    """The least length that is needed."""
+    is_exact: bool
+    """Whether just the length that there is is needed."""
+
+
+def evidence(obj: Source, more: bool = False) -> Evidence:
+    """What decides the answer of `guess`: all bytes that have these in the same places, and such a length, have it too. Types
+    that `add_type` took are not asked.
+
+    >>> [(it.place, it.length, it.type and it.type.extension) for it in infer.evidence(b"GIF89a").ranges]
+    [(0, 1, None), (0, 3, 'gif')]"""
+    row, ranges, wanted, least, is_exact = _library.evidence(get_front(obj), more)
+    told = tuple(Range(place, length, _all_rows[of] if of >= 0 else None, 0 <= of == row) for place, length, of in ranges)
+    return Evidence(_all_rows[row] if row >= 0 else None, told, wanted, least, is_exact)
 
 
 def sample(kind: Type) -> bytes | None:
