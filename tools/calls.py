@@ -40,7 +40,7 @@ def is_in_rust(name):
 def is_in_go(name):
     of, _, item = name.rpartition(".")
     receiver = rf"\(\w+ \*?{of}\) " if of else ""
-    return any(re.search(rf"^(?:func {receiver}|type ){item}\b", text_of(f"{GO}/{it}.go"), re.M) for it in ("infer", "named", "own_types"))
+    return any(re.search(rf"^(?:func {receiver}|type ){item}\b", text_of(f"{GO}/{it}.go"), re.M) for it in ("infer", "evidence", "named", "own_types"))
 
 
 def is_in_javascript(name):

@@ -13,6 +13,7 @@ import (
 	"net/http"
 	"os"
 	"path/filepath"
+	"reflect"
 	"runtime/debug"
 	"strconv"
 	"strings"
@@ -502,6 +503,91 @@ func TestNamedFiles(t *testing.T) {
 	for _, wrong := range []string{folder, path + "/b", filepath.Join(folder, "none.py")} {
 		if _, err := DetectNamedFile(wrong); err == nil {
 			t.Error(wrong)
+		}
+	}
+}
+
+// toldRange is a range by its length, its place, and the extension of its type.
+type toldRange struct {
+	length, place int
+	extension     string
+}
+
+func toldRanges(ranges []Range) (told []toldRange) {
+	for _, it := range ranges {
+		told = append(told, toldRange{it.Len, it.Place, it.Type.Extension})
+	}
+	return told
+}
+
+func TestEvidence(t *testing.T) {
+	png := append([]byte("\x89PNG\r\n\x1A\n"), make([]byte, 292)...)
+	tar := make([]byte, 300)
+	tar[0] = 0x89
+	copy(tar[257:], "ustar")
+	byFirst, byMobi, byPNG := toldRange{1, 0, ""}, toldRange{1, 60, "mobi"}, toldRange{4, 0, "png"}
+	for _, it := range []struct {
+		b       []byte
+		tell    func([]byte) Evidence
+		ranges  []toldRange
+		least   int
+		isExact bool
+	}{
+		{nil, DetectEvidence, nil, 0, true},
+		{[]byte("MZ"), DetectEvidence, []toldRange{byFirst, {2, 0, "exe"}}, 2, false},
+		{jpeg, DetectEvidence, []toldRange{byFirst, {3, 0, "jpg"}}, 3, true},
+		{jpeg, DetectMoreEvidence, []toldRange{byFirst, {3, 0, "jpg"}, {1, 3, "jls"}}, 3, true},
+		// From 61 bytes on there is one at 60, which is no B of BOOKMOBI.
+		{png[:60], DetectEvidence, []toldRange{byFirst, byPNG}, 4, true},
+		{png[:61], DetectEvidence, []toldRange{byFirst, byMobi, byPNG}, 4, false},
+		{png, DetectEvidence, []toldRange{byFirst, byMobi, byPNG}, 4, false},
+		{png, DetectMoreEvidence, []toldRange{byFirst, byMobi, byPNG, {300, 0, "apng"}}, 4, true},
+		{tar, DetectEvidence, []toldRange{byFirst, byMobi, {1, 1, "png"}, {1, 8, "webp"}, {5, 0, "heif"}, {1, 12, "mov"}, {5, 257, "tar"}}, 262, false},
+	} {
+		found := it.tell(it.b)
+		if !reflect.DeepEqual(toldRanges(found.Ranges), it.ranges) || found.Wanted != len(it.ranges) || found.Least != it.least || found.IsExact != it.isExact {
+			t.Errorf("%q: %v", it.b, found)
+		}
+		for _, of := range found.Ranges {
+			if of.Accepts != (of.Type == found.Type) {
+				t.Errorf("%q: %v", it.b, of)
+			}
+		}
+	}
+}
+
+// TestWhatIsNoEvidence changes all other bytes, and the length as far as it may be another. No answer changes.
+func TestWhatIsNoEvidence(t *testing.T) {
+	chance := rand.New(rand.NewSource(68))
+	for number := range MoreTypes() {
+		b := Sample(number)
+		for _, ask := range []struct {
+			detect func([]byte) (Type, bool)
+			tell   func([]byte) Evidence
+		}{{Detect, DetectEvidence}, {DetectMore, DetectMoreEvidence}} {
+			found, needed := ask.tell(b), 0
+			if of, _ := ask.detect(b); of != found.Type || found.Wanted != len(found.Ranges) {
+				t.Errorf("%q: %v", b, found)
+			}
+			for _, it := range append(found.Ranges, Range{Len: found.Least}) {
+				if it.Place+it.Len > needed {
+					needed = it.Place + it.Len
+				}
+			}
+			for round := 0; round < 8; round++ {
+				size := len(b)
+				if !found.IsExact {
+					size = needed + chance.Intn(400)
+				}
+				other := make([]byte, size)
+				chance.Read(other)
+				for _, it := range found.Ranges {
+					copy(other[it.Place:it.Place+it.Len], b[it.Place:])
+				}
+				if of, _ := ask.detect(other); of != found.Type {
+					t.Errorf("%q beside %q: %v", other, b, of)
+				}
+			}
 		}
 	}
 }
