@@ -5,18 +5,16 @@
 #include <stdlib.h>
 #include <string.h>
 
-enum { ROOM = 128 };
-
 static volatile long sink;
 
 static void call(const char *what, const char *name, const void *buf, size_t len) {
     struct infer_named_answer answer;
-    struct infer_range ranges[ROOM];
+    struct infer_range ranges[INFER_MOST_RANGES];
     struct infer_needs needs;
     if (!strcmp(what, "position")) sink = infer_position(buf, len);
     else if (!strcmp(what, "more_position")) sink = infer_more_position(buf, len);
-    else if (!strcmp(what, "evidence")) sink = infer_evidence(buf, len, ranges, ROOM, &needs);
-    else if (!strcmp(what, "more_evidence")) sink = infer_more_evidence(buf, len, ranges, ROOM, &needs);
+    else if (!strcmp(what, "evidence")) sink = infer_evidence(buf, len, ranges, INFER_MOST_RANGES, &needs);
+    else if (!strcmp(what, "more_evidence")) sink = infer_more_evidence(buf, len, ranges, INFER_MOST_RANGES, &needs);
     else if (!strcmp(what, "is_decided")) sink = infer_is_decided(buf, len);
     else if (!strcmp(what, "is")) sink = infer_is(buf, len, "zip", 3);
     else if (!strcmp(what, "is_mime")) sink = infer_is_mime(buf, len, "application/zip", 15);

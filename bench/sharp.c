@@ -11,7 +11,7 @@
 #include <stdlib.h>
 #include <string.h>
 
-enum { ROOM = 128, LONGEST = 1 << 16, FEW = 64 };
+enum { LONGEST = 1 << 16, FEW = 64 };
 
 struct text {
     size_t place, len;
@@ -152,15 +152,15 @@ static size_t greedy(struct tried *it) {
 }
 
 static void tell(const struct trial *trials, size_t count, bool is_wider, int32_t row, unsigned char *buf, size_t len) {
-    struct infer_range ranges[ROOM];
+    struct infer_range ranges[INFER_MOST_RANGES];
     struct infer_needs needs;
     struct tried it = {.answer = is_wider ? infer_more_position : infer_position, .buf = buf, .len = len};
     size_t named = 0;
     bool has_row = false;
-    it.row = (is_wider ? infer_more_evidence : infer_evidence)(buf, len, ranges, ROOM, &needs);
+    it.row = (is_wider ? infer_more_evidence : infer_evidence)(buf, len, ranges, INFER_MOST_RANGES, &needs);
     it.named = wanted(calloc(len + 1, sizeof *it.named));
     it.is_forced = wanted(calloc(len + 1, sizeof *it.is_forced));
-    for (size_t i = 0; i < needs.wanted && i < ROOM; i++) {
+    for (size_t i = 0; i < needs.wanted && i < INFER_MOST_RANGES; i++) {
         memset(it.named + ranges[i].place, true, ranges[i].len);
         has_row |= ranges[i].row == row;
     }

@@ -7,10 +7,8 @@
 #include <stdlib.h>
 #include <string.h>
 
-enum { ROOM = 128 };
-
 static void tell(int32_t row, const struct infer_range *ranges, const struct infer_needs *needs) {
-    size_t count = needs->wanted < ROOM ? needs->wanted : ROOM;
+    size_t count = needs->wanted < INFER_MOST_RANGES ? needs->wanted : INFER_MOST_RANGES;
     printf("%d %zu %zu %d", (int)row, needs->wanted, needs->least, needs->is_exact);
     for (size_t i = 0; i < count; i++)
         printf(" %zu:%zu:%d", ranges[i].place, ranges[i].len, (int)ranges[i].row);
@@ -18,11 +16,11 @@ static void tell(int32_t row, const struct infer_range *ranges, const struct inf
 }
 
 static void tell_why(const void *buf, size_t len) {
-    struct infer_range ranges[ROOM];
+    struct infer_range ranges[INFER_MOST_RANGES];
     struct infer_needs needs;
-    int32_t row = infer_evidence(buf, len, ranges, ROOM, &needs);
+    int32_t row = infer_evidence(buf, len, ranges, INFER_MOST_RANGES, &needs);
     tell(row, ranges, &needs);
-    row = infer_more_evidence(buf, len, ranges, ROOM, &needs);
+    row = infer_more_evidence(buf, len, ranges, INFER_MOST_RANGES, &needs);
     tell(row, ranges, &needs);
 }
 
