@@ -37,7 +37,7 @@ decided_settled s b q told asked good more now (r, also, h) =
     (q, asked, subst (λ t. Answers q (header (b ++ more)) t) now_is (subst (λ x. Answers q x told) (sym e) (good m)))
 
 -- no rule accepts, if all refuse
-no_rule : (P : Rule → Type 0) (rules : List Rule) → TellsFirst P rules None → ¬ Any P rules
+pub no_rule : (P : Rule → Type 0) (rules : List Rule) → TellsFirst P rules None → ¬ Any P rules
 no_rule P rules all (k, rule, within, at, accepts) = all k rule within (subst P (sym at) accepts)
 
 pub never_full : (b : List ℕ) → 1445 ≤ length b → TellsFirst (Accepts (header b)) scriptable None → NeverScripts b

@@ -17,7 +17,7 @@ use Rattle.mime_sniff.proofs.FirstLemmas.{tells_cases}
 use Rattle.mime_sniff.proofs.GrowthLemmas.{any_grown, is_begun_rule}
 
 module _ (P : Rule → Type 0) where
-  later : (x : Rule) (xs : List Rule) → (¬ P x) → Any P (x ∷ xs) → Any P xs
+  pub later : (x : Rule) (xs : List Rule) → (¬ P x) → Any P (x ∷ xs) → Any P xs
   later x xs not (zero, y, within, at, p) = absurd (not (subst P (sym at) p))
   later x xs not (suc n, y, within, at, p) = (n, y, omega (arith, within), at, p)
 

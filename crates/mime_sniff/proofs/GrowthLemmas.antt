@@ -196,7 +196,7 @@ module _ (b more : List ℕ) where
   )
   behind_grown false p some fits = fits_grown b more p fits
 
-  accepted_grown : (s : Signature) → is_begun s ≡ true → IsAccepted s b → IsAccepted s (b ++ more)
+  pub accepted_grown : (s : Signature) → is_begun s ≡ true → IsAccepted s b → IsAccepted s (b ++ more)
   accepted_grown (fixed p) is h = behind_grown p.ignores_white p (ltb-true 0 (length p.bytes) is) h
   accepted_grown mp4 is h = absurd (false≢true is)
   accepted_grown mp4_of_any_box is h = absurd (false≢true is)

@@ -8,5 +8,6 @@ pub mod ComputedLemmas
 pub mod GrowthLemmas
 pub mod DecidedLemmas
 pub mod EscalationLemmas
+pub mod StayLemmas
 pub mod SnifferLemmas
 pub mod ScriptLemmas

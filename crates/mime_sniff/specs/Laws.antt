@@ -1,5 +1,5 @@
 -- Laws of content types and of computed types.
-use Rattle.std.specs.Prelude.{◌≡◌, ◌≤◌, ◌↔◌, ◌⊎◌, ◌++◌, ◌∷◌, [], Any, IsTrue, List, Option, None, Some, ℕ, length}
+use Rattle.std.specs.Prelude.{◌≡◌, Bool, if◌then◌else◌, ◌≤◌, ◌↔◌, ◌⊎◌, ◌++◌, ◌∷◌, [], Any, IsTrue, List, Option, None, Some, ℕ, length}
 use Rattle.std.specs.List.{concat}
 use Rattle.mime_types.specs.Groups.{IsJavaScript, essence}
 use Rattle.mime_types.specs.Mime.{Kind}
@@ -7,8 +7,9 @@ use Rattle.mime_sniff.specs.Computed.{IsAskedOf, IsComputed, IsSuppliedScriptabl
 use Rattle.mime_sniff.specs.Go.{IsContentType}
 use Rattle.mime_sniff.specs.Go as go
 use Rattle.mime_sniff.specs.Growth.{IsDecided}
-use Rattle.mime_sniff.specs.Rule.{Accepts}
-use Rattle.mime_sniff.specs.Standard.{header, scriptable}
+use Rattle.mime_sniff.specs.Rule.{Accepts, Rule}
+use Rattle.mime_sniff.specs.Standard.{archives, header, media, scriptable, texts}
+use Rattle.mime_sniff.specs.Table.{images}
 use Rattle.mime_sniff.specs.declared.question.Question.{Question}
 
 -- a buffer has one content type
@@ -43,6 +44,19 @@ DecidesWhenFull = (s : Supply) (b : List ℕ) → 1445 ≤ length b → IsDecide
 -- nothing tells the type, sniffing is not forbidden, and what may run scripts accepts the bytes
 abbrev pub MayEscalate : Supply → List ℕ → Type 0
 MayEscalate s b = IsUnknown s.kind × (¬ IsTrue s.no_sniff) × Any (Accepts (header b)) scriptable
+
+-- the rows that are asked of a resource of which nothing is known: all but what text is by default
+abbrev pub unscripted_rows : List Rule
+unscripted_rows = texts ++ (images ++ (media ++ archives))
+
+abbrev pub rows_of_unknown : Bool → List Rule
+rows_of_unknown no_sniff = if no_sniff then unscripted_rows else scriptable ++ unscripted_rows
+
+-- what one of them tells is told whatever follows
+abbrev pub RowsStay : Type 0
+RowsStay =
+    (s : Supply) (b more : List ℕ) (told later : Option (List ℕ)) → IsUnknown s.kind → Any (Accepts (header b)) (rows_of_unknown s.no_sniff)
+    → IsComputed s b told → IsComputed s (b ++ more) later → later ≡ told
 
 -- a computed type may run scripts only if the supplied one may, or so
 abbrev pub Escalates : Type 0

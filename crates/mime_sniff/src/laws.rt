@@ -1,5 +1,5 @@
 //! Facts about the definitions, each the contract of a function that does nothing beside. To use a law, call it.
-ghost use Rattle.mime_sniff.specs.Laws.{ComputesOne, DecidesWhenFull, Escalates, EscalatesForGood, EscalatesSo, HasOneType, HeaderComputes, HeaderDecides, KeepsHeader, StaysIfForbidden, StaysOfItsKind, TellsNoScript};
+ghost use Rattle.mime_sniff.specs.Laws.{ComputesOne, DecidesWhenFull, Escalates, EscalatesForGood, EscalatesSo, HasOneType, HeaderComputes, HeaderDecides, KeepsHeader, RowsStay, StaysIfForbidden, StaysOfItsKind, TellsNoScript};
 
 /// No buffer has two content types.
 pub fn one_type()
@@ -29,6 +29,12 @@ pub fn keeps_header()
 /// Behind the first 1445 bytes none change a computed type.
 pub fn decides_when_full()
     ensures { DecidesWhenFull }
+{}
+
+/// Of a resource of which nothing is known, what a row tells is told whatever follows: only what is told where none accepts may
+/// change.
+pub fn rows_stay()
+    ensures { RowsStay }
 {}
 
 /// A computed type may run scripts only if the supplied type may; or if none that tells anything was supplied, sniffing was
