@@ -12,6 +12,7 @@ use Rattle.infer_deep.specs.Joined.{NoneBegins}
 use Rattle.infer_deep.specs.Numbers.{be32}
 use Rattle.infer_deep.specs.Text.{IsSpace, IsWhite}
 use Rattle.infer_deep.proofs.JoinedLemmas.{Behind-left, IsPrefixFree}
+use Rattle.infer_formats.specs.Text.{IsBinary}
 use Rattle.mime_sniff.specs.Row.{Fits, FitsBehind, HasBits, Pattern, mask_at}
 use Rattle.mime_sniff.specs.Rule.{Accepts, IsAccepted, Rule, Signature, TellsFirst, fixed, mp3, mp4, mp4_of_any_box, no_data, webm}
 use Rattle.mime_sniff.specs.Computed.{Answers, IsAsked, IsUnknown, Supply, asked_of_unknown, otherwise, rules_of}
@@ -22,8 +23,9 @@ use Rattle.mime_sniff.specs.declared.question.Question.{Question}
 use Rattle.mime_sniff.specs.declared.question.Question.TheVariants.{Anything, Unscripted}
 use Rattle.mime_sniff.proofs.DecidedLemmas.{grows, no_rule}
 use Rattle.mime_sniff.proofs.EscalationLemmas.{later}
-use Rattle.mime_sniff.proofs.FirstLemmas.{tells_cases, tells_here, tells_later, told_passes}
-use Rattle.mime_sniff.proofs.GrowthLemmas.{accepted_grown, mp3_grown, mp4_grown, webm_grown}
+use Rattle.mime_sniff.proofs.FirstLemmas.{one_first, tells_cases, tells_here, tells_later, tells_none, tells_right, told_passes}
+use Rattle.mime_sniff.proofs.GrowthLemmas.{accepted_grown, binary_grown, mp3_grown, mp4_grown, webm_grown}
+use Rattle.mime_sniff.proofs.StandardLemmas.{by_binary}
 
 abbrev bits : List ℕ → List ℕ → Pattern
 bits bytes mask = record { bytes = bytes; mask = mask; ignores_white = false; ends_tag = false }
@@ -309,6 +311,19 @@ all_pairs : (pairs (scriptable ++ unscripted_rows) ≡ true) × (list_all (λ r.
 unfolding markup_rules documents texts images sounds archives
 all_pairs = (refl, refl, refl)
 
+none_tells : (P : Rule → Type 0) (xs : List Rule) → (¬ Any P xs) → TellsFirst P xs None
+none_tells P [] none = tells_none P
+none_tells P (x ∷ xs) none =
+    tells_later P x xs None (λ p. none (0, x, omega arith, refl, p))
+    (none_tells P xs (λ (n, y, within, at, p). none (suc n, y, omega (arith, within), at, p)))
+
+-- where no row accepts binary data, none tells it
+tells_nothing : (c : List ℕ) (rows : List Rule) (first : Option (List ℕ)) → IsBinary c → (¬ Any (Accepts c) rows)
+    → TellsFirst (Accepts c) (rows ++ text_rule ∷ []) first → first ≡ None
+tells_nothing c rows first binary none a =
+    one_first (Accepts c) (rows ++ text_rule ∷ []) first None a
+    (tells_right (Accepts c) rows (text_rule ∷ []) None (none_tells (Accepts c) rows none) (by_binary c binary))
+
 module _ (s : Supply) (b more : List ℕ) (told after : Option (List ℕ)) where
   of_rows : (q : Question) (rows : List Rule) → pairs rows ≡ true → list_all (λ r. is_row r.signature) rows ≡ true → rules_of q ≡ rows ++ text_rule ∷ []
       → Any (Accepts (header b)) rows → Answers q (header b) told → Answers q (header (b ++ more)) after → after ≡ told
@@ -333,3 +348,29 @@ module _ (s : Supply) (b more : List ℕ) (told after : Option (List ℕ)) where
   rows_stay unknown some q r (inl (u, e)) (inl (v, f)) a g = by_flag s.no_sniff q r e f some a g
   rows_stay unknown some q r (inr (known, asked)) other a g = absurd (known unknown)
   rows_stay unknown some q r (inl (u, e)) (inr (known, asked)) a g = absurd (known unknown)
+
+  of_octets : (q : Question) (rows : List Rule) → list_all (λ r. is_row r.signature) rows ≡ true → rules_of q ≡ rows ++ text_rule ∷ [] → IsBinary (header b)
+      → (¬ Any (Accepts (header (b ++ more))) rows) → Answers q (header b) told → Answers q (header (b ++ more)) after → after ≡ told
+  of_octets q rows all is binary none (first, a, e) (second, g, f) =
+      let (m, grows_by) = grows b more in
+      let few : length (header b ++ m) ≤ 1445 = omega (arith, ap length grows_by, length-take 1445 (b ++ more)) in
+      let none_yet : ¬ Any (Accepts (header b)) rows = λ some. none (subst (λ c. Any (Accepts c) rows) (sym grows_by) (any_rows (header b) m few rows all some)) in
+      let still : IsBinary (header (b ++ more)) = subst IsBinary (sym grows_by) (binary_grown (header b) m binary) in
+      let now = tells_nothing (header b) rows first binary none_yet (subst (λ l. TellsFirst (Accepts (header b)) l first) is a) in
+      let next = tells_nothing (header (b ++ more)) rows second still none (subst (λ l. TellsFirst (Accepts (header (b ++ more))) l second) is g) in
+      f ∙ (ap (λ o. option_or o (otherwise q)) (next ∙ sym now) ∙ sym e)
+
+  octets_by_flag : (no_sniff : Bool) (q r : Question) → q ≡ asked_of_unknown no_sniff → r ≡ asked_of_unknown no_sniff → IsBinary (header b)
+      → (¬ Any (Accepts (header (b ++ more))) (rows_of_unknown no_sniff)) → Answers q (header b) told → Answers r (header (b ++ more)) after → after ≡ told
+  octets_by_flag true q r e f binary none a g =
+      of_octets Unscripted unscripted_rows unscripted_pairs.1 unscripted_pairs.2 binary none (subst (λ x. Answers x (header b) told) e a)
+      (subst (λ x. Answers x (header (b ++ more)) after) f g)
+  octets_by_flag false q r e f binary none a g =
+      of_octets Anything (scriptable ++ unscripted_rows) all_pairs.1 all_pairs.2 binary none (subst (λ x. Answers x (header b) told) e a)
+      (subst (λ x. Answers x (header (b ++ more)) after) f g)
+
+  pub octets_stay : IsUnknown s.kind → IsBinary (header b) → (¬ Any (Accepts (header (b ++ more))) (rows_of_unknown s.no_sniff)) → (q r : Question)
+      → IsAsked s q → IsAsked s r → Answers q (header b) told → Answers r (header (b ++ more)) after → after ≡ told
+  octets_stay unknown binary none q r (inl (u, e)) (inl (v, f)) a g = octets_by_flag s.no_sniff q r e f binary none a g
+  octets_stay unknown binary none q r (inr (known, asked)) other a g = absurd (known unknown)
+  octets_stay unknown binary none q r (inl (u, e)) (inr (known, asked)) a g = absurd (known unknown)

@@ -7,6 +7,7 @@ use Rattle.mime_sniff.specs.Computed.{IsAskedOf, IsComputed, IsSuppliedScriptabl
 use Rattle.mime_sniff.specs.Go.{IsContentType}
 use Rattle.mime_sniff.specs.Go as go
 use Rattle.mime_sniff.specs.Growth.{IsDecided}
+use Rattle.infer_formats.specs.Text.{IsBinary}
 use Rattle.mime_sniff.specs.Rule.{Accepts, Rule}
 use Rattle.mime_sniff.specs.Standard.{archives, header, media, scriptable, texts}
 use Rattle.mime_sniff.specs.Table.{images}
@@ -57,6 +58,12 @@ abbrev pub RowsStay : Type 0
 RowsStay =
     (s : Supply) (b more : List ℕ) (told later : Option (List ℕ)) → IsUnknown s.kind → Any (Accepts (header b)) (rows_of_unknown s.no_sniff)
     → IsComputed s b told → IsComputed s (b ++ more) later → later ≡ told
+
+-- and binary data that none of them accepts stays what it is as long as none does
+abbrev pub OctetsStay : Type 0
+OctetsStay =
+    (s : Supply) (b more : List ℕ) (told later : Option (List ℕ)) → IsUnknown s.kind → IsBinary (header b)
+    → (¬ Any (Accepts (header (b ++ more))) (rows_of_unknown s.no_sniff)) → IsComputed s b told → IsComputed s (b ++ more) later → later ≡ told
 
 -- a computed type may run scripts only if the supplied one may, or so
 abbrev pub Escalates : Type 0

@@ -1,5 +1,5 @@
 //! Facts about the definitions, each the contract of a function that does nothing beside. To use a law, call it.
-ghost use Rattle.mime_sniff.specs.Laws.{ComputesOne, DecidesWhenFull, Escalates, EscalatesForGood, EscalatesSo, HasOneType, HeaderComputes, HeaderDecides, KeepsHeader, RowsStay, StaysIfForbidden, StaysOfItsKind, TellsNoScript};
+ghost use Rattle.mime_sniff.specs.Laws.{ComputesOne, DecidesWhenFull, Escalates, EscalatesForGood, EscalatesSo, HasOneType, HeaderComputes, HeaderDecides, KeepsHeader, OctetsStay, RowsStay, StaysIfForbidden, StaysOfItsKind, TellsNoScript};
 
 /// No buffer has two content types.
 pub fn one_type()
@@ -35,6 +35,12 @@ pub fn decides_when_full()
 /// change.
 pub fn rows_stay()
     ensures { RowsStay }
+{}
+
+/// And what is binary data, since no row accepts it, stays so as long as none does. So the type of a resource of which nothing is
+/// known changes twice at most as bytes come: from text to binary data, and from either to what a row tells.
+pub fn octets_stay()
+    ensures { OctetsStay }
 {}
 
 /// A computed type may run scripts only if the supplied type may; or if none that tells anything was supplied, sniffing was
