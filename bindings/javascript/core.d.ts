@@ -46,6 +46,41 @@ export function mayBecome(bytes: Bytes, ext: string): boolean;
 /** The same of the types that wider knows. Of a further type it can be true although no bytes do. */
 export function mayBecomeWider(bytes: Bytes, ext: string): boolean;
 
+/** Bytes that decide an answer. */
+export interface EvidenceRange {
+    /** Where the first of them stands. */
+    readonly place: number;
+    /** How many they are. */
+    readonly length: number;
+    /** The type of which they tell. It is undefined of the first byte, which rules out all types that begin with another. */
+    readonly type: KnownType | undefined;
+    /** Whether this is the answer, which accepts by these bytes. Otherwise they rule it out. */
+    readonly accepts: boolean;
+}
+
+/** What decides an answer: bytes, and what is needed of their length. */
+export interface Evidence {
+    /** The answer. */
+    readonly type: FileTypeResult | undefined;
+    /** Which bytes. */
+    readonly ranges: readonly EvidenceRange[];
+    /** How many ranges are wanted. If there are fewer, they are not enough. */
+    readonly wanted: number;
+    /** The least length that is needed. */
+    readonly least: number;
+    /** Whether just the length that there is, of the first 8192 bytes, is needed. */
+    readonly isExact: boolean;
+}
+
+/**
+ * What decides the answer of fileTypeFromBuffer: all bytes that have these in the same places, and such a length, have it
+ * too.
+ */
+export function evidence(bytes: Bytes): Evidence;
+
+/** What decides the answer of wider, in the same way. */
+export function widerEvidence(bytes: Bytes): Evidence;
+
 /** What is wrong with a text that describes no types, and where: the line and the column, both from 1, a column by bytes. */
 export class TypesError extends SyntaxError {
     private constructor();

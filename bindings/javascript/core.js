@@ -10,9 +10,13 @@ const PAGE = 65536;
 const SAMPLE = 1088;
 /** Room for a text that the module writes, of which two stand behind the bytes that it is asked about. */
 const TEXT = 256;
-/** Then come two numbers, and a text of types. */
+/** Then come two numbers, what is needed to decide and room for its ranges, and a text of types. */
 const NUMBERS = FRONT + 2 * TEXT;
-const TYPES = NUMBERS + 16;
+const NEEDS = NUMBERS + 16;
+const RANGES = NEEDS + 24;
+const RANGE = 24;
+const MOST_RANGES = 128;
+const TYPES = RANGES + MOST_RANGES * RANGE;
 /** The smallest module with a 64-bit memory. */
 const WIDE = new Uint8Array([0, 97, 115, 109, 1, 0, 0, 0, 5, 3, 1, 4, 1]);
 const NO_WIDE_MEMORY =
@@ -171,6 +175,21 @@ const hold = (text) => {
     }
     return [at(TYPES), BigInt(text.length)];
 };
+
+const evidenceOf = (question, input) => {
+    const row = question(place, hand(input), at(RANGES), BigInt(MOST_RANGES), at(NEEDS));
+    const numbers = new DataView(room.buffer, room.byteOffset, TYPES);
+    const numberAt = (distance) => Number(numbers.getBigUint64(distance, true));
+    const wanted = numberAt(NEEDS);
+    const ranges = Array.from({ length: Math.min(wanted, MOST_RANGES) }, (_, index) => {
+        const from = RANGES + index * RANGE;
+        const of = numbers.getInt32(from + 16, true);
+        return { place: numberAt(from), length: numberAt(from + 8), type: knownTypes[of], accepts: of >= 0 && of === row };
+    });
+    return { type: answerOf(row), ranges, wanted, least: numberAt(NEEDS + 8), isExact: room[NEEDS + 16] !== 0 };
+};
+export const evidence = (input) => evidenceOf(infer.infer_evidence, input);
+export const widerEvidence = (input) => evidenceOf(infer.infer_more_evidence, input);
 
 export const Standing = Object.freeze({
     AGREE: "agree",

@@ -16,6 +16,7 @@ export {
     TypesError,
     compute,
     encoding,
+    evidence,
     fileTypeFromBlob,
     fileTypeFromBuffer,
     fileTypeFromStream,
@@ -36,4 +37,5 @@ export {
     supportedMimeTypes,
     version,
     wider,
+    widerEvidence,
 } from "./core.js";

@@ -17,6 +17,7 @@ export {
     TypesError,
     compute,
     encoding,
+    evidence,
     fileTypeFromBlob,
     fileTypeFromBuffer,
     isBlocked,
@@ -35,6 +36,7 @@ export {
     supportedMimeTypes,
     version,
     wider,
+    widerEvidence,
 } from "./core.js";
 
 /** What has no front of its own to read is a fault: opening a FIFO would wait, and hold one of Node's few threads. */
