@@ -4,12 +4,13 @@ ghost use Rattle.infer_deep.specs.Open.{AgreesAt};
 ghost use Rattle.infer_evidence.specs.Evidence.{AgreesOn, IsInside, IsOf, IsSame};
 ghost use Rattle.infer_evidence.specs.Listed.{signature_listed};
 ghost use Rattle.infer_evidence.specs.Weighed.{Differs, HasAlternative, HasPart, HasParts, IsSameTo, StandsNone, is_small};
+ghost use Rattle.infer_evidence.specs.declared.signature.Part.TheVariants as parts;
 ghost use Rattle.infer_evidence.specs.declared.weighing.TheConstants.{MOST_OF_A_ROW};
 ghost use Rattle.infer_sig.specs.Places.{StandsByPlace};
 ghost use Rattle.infer_sig.specs.Signature.{accepts};
 
 use crate::ranges::{Evidence, Range};
-use crate::signature::{Alternative, AsPart, Part, allows};
+use crate::signature::{Alternative, AsPart, Part, Set, allows};
 use infer_deep::places::stands_at;
 use infer_sig::laws;
 
@@ -71,11 +72,15 @@ fn longest(texts: &[&[u8]]) -> usize
 }
 
 /// Whether the buffer has what the part asks.
+#[inline(always)]
 fn has_part(part: &Part, buf: &[u8]) -> bool
     ensures { IsTrue result ↔ HasPart buf.now part.now }
 {
     match part {
-        Part::Text(place, text) => stands(buf, text, *place),
+        // Most texts differ in their first byte.
+        Part::Text(place, text) => {
+            difference(buf, text, *place).is_none() && stands(buf, text, *place)
+        }
         Part::AnyText(place, texts) => standing(buf, texts, *place).is_some(),
         Part::Byte(place, set) => *place < buf.len() && allows(set, buf[*place]),
     }
@@ -201,6 +206,59 @@ fn lacking<P: AsPart>(parts: &[P], buf: &[u8]) -> Option<Part>
     None
 }
 
+/// The bytes by which the buffer has another text at that place, if it has bytes of another there.
+fn text_differing(text: &[u8], place: usize, buf: &[u8], row: Option<usize>) -> Option<Range>
+    ensures inside { IfSome result (IsInside buf.now) }
+    ensures tells { IfSome result (λ range. (c : List ℕ) → IsSame buf.now c range
+        → ¬ StandsByPlace place text.now c) }
+{
+    match difference(buf, text, place) {
+        Some(place) => Some(Range { place, len: 1, row }),
+        None => None,
+    }
+}
+
+/// The byte that stands at the place and is not in the set, if there is one.
+fn byte_differing(set: &Set, place: usize, buf: &[u8], row: Option<usize>) -> Option<Range>
+    ensures inside { IfSome result (IsInside buf.now) }
+    ensures tells { IfSome result (λ range. (c : List ℕ) → IsSame buf.now c range
+        → ¬ HasPart c (parts.Byte place set.now)) }
+{
+    if place >= buf.len() || allows(set, buf[place]) {
+        return None;
+    }
+    Some(Range { place, len: 1, row })
+}
+
+/// What the buffer has in the place of all of these texts, if it is long enough for each.
+fn texts_differing(texts: &[&[u8]], place: usize, buf: &[u8], row: Option<usize>) -> Option<Range>
+    ensures inside { IfSome result (IsInside buf.now) }
+    ensures tells { IfSome result (λ range. (c : List ℕ) → IsSame buf.now c range
+        → StandsNone place texts.now c) }
+{
+    if standing(buf, texts, place).is_some() {
+        return None;
+    }
+    let refusal = texts_refused(texts, place, buf, row);
+    if refusal.exact {
+        return None;
+    }
+    Some(refusal.range)
+}
+
+/// The bytes by which the buffer lacks the part, whatever its length is, if it lacks it so.
+fn differing(part: &Part, buf: &[u8], row: Option<usize>) -> Option<Range>
+    ensures inside { IfSome result (IsInside buf.now) }
+    ensures tells { IfSome result (λ range. (c : List ℕ) → IsSame buf.now c range
+        → ¬ HasPart c part.now) }
+{
+    match part {
+        Part::Text(place, text) => text_differing(text, *place, buf, row),
+        Part::AnyText(place, texts) => texts_differing(texts, *place, buf, row),
+        Part::Byte(place, set) => byte_differing(set, *place, buf, row),
+    }
+}
+
 /// The bytes by which the buffer lacks a part, whatever its length is, if it lacks some part so.
 fn refused_by_bytes<P: AsPart>(parts: &[P], buf: &[u8], row: Option<usize>) -> Option<Range>
     ensures inside { IfSome result (IsInside buf.now) }
@@ -209,11 +267,8 @@ fn refused_by_bytes<P: AsPart>(parts: &[P], buf: &[u8], row: Option<usize>) -> O
 {
     for asked in parts {
         let part = asked.part();
-        if !has_part(&part, buf) {
-            let refusal = refused(&part, buf, row);
-            if !refusal.exact {
-                return Some(refusal.range);
-            }
+        if let Some(range) = differing(&part, buf, row) {
+            return Some(range);
         }
     }
     None
@@ -286,6 +341,21 @@ fn fitting<'a>(signature: &'a [Alternative], buf: &[u8]) -> Option<&'a Alternati
     None
 }
 
+/// The bytes by which the buffer lacks the only alternative, whatever its length is, if there is but one and it does so.
+fn refused_alone(signature: &[Alternative], buf: &[u8], row: Option<usize>) -> Option<Range>
+    ensures inside { IfSome result (IsInside buf.now) }
+    ensures tells { IfSome result (λ range. (c : List ℕ) → IsSame buf.now c range
+        → All (λ a. ¬ HasAlternative c a) signature.now) }
+{
+    match signature {
+        // A shorter one is told by its length at once.
+        [alternative] if alternative.least <= buf.len() => {
+            refused_by_bytes(alternative.parts, buf, row)
+        }
+        _ => None,
+    }
+}
+
 /// Asks for that by which the buffer lacks each of the alternatives.
 fn refuse_all(signature: &[Alternative], buf: &[u8], row: Option<usize>, evidence: &mut Evidence)
     requires { All (λ a. ¬ HasAlternative buf.now a) signature.now }
@@ -316,6 +386,10 @@ pub fn weigh(
         → evidence.new.count ≤ evidence.old.count + MOST_OF_A_ROW }
 {
     laws::by_place();
+    if let Some(range) = refused_alone(signature, buf, row) {
+        evidence.ask(range);
+        return false;
+    }
     match fitting(signature, buf) {
         Some(alternative) => {
             accept(alternative.least, alternative.parts, buf, row, evidence);

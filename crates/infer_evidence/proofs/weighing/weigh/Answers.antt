@@ -1,18 +1,31 @@
-use Rattle.infer_evidence.proofs.Common.{List, false≢true, refl, ℕ}
+use Rattle.infer_evidence.proofs.Common.{List, arith, false≢true, refl, ℕ}
 use Rattle.infer_evidence.proofs.ListedLemmas.{by_none, by_one, signature_told}
 use Rattle.infer_evidence.proofs.weighing.weigh.Goals as goal
 
 pub returns-in-Some-clause-answer : goal.returns-in-Some-clause-answer
 returns-in-Some-clause-answer c =
     let told = signature_told c.by_place.ensures c.args.buf.now c.args.signature.now in
-    (λ yes. told.1 (by_one _ _ _ c.in-Some.ensures.among c.in-Some.ensures.some), λ h. refl)
+    let none = by_none _ _ (c.in-Some.ensures.tells c.args.buf.now (λ k low high. (grind (arith, c.in-Some.ensures.inside), refl))) in
+    (λ yes. absurd (false≢true yes), λ h. absurd (none (told.0 h)))
 
 pub returns-in-Some-clause-tells : goal.returns-in-Some-clause-tells
 returns-in-Some-clause-tells c =
     let told = λ (b : List ℕ). signature_told c.by_place.ensures b c.args.signature.now in
-    let here = (told c.args.buf.now).1 (by_one _ _ _ c.in-Some.ensures.among c.in-Some.ensures.some) in
+    let none = by_none _ _ (c.in-Some.ensures.tells c.args.buf.now (λ k low high. (grind (arith, c.in-Some.ensures.inside), refl))) in
+    λ b agrees. let same = c.ask.ensures.same c.args.buf.now b agrees in
+    (same.0, (λ h. absurd (by_none _ _ (c.in-Some.ensures.tells b same.1) ((told b).0 h)), λ h. absurd (none ((told c.args.buf.now).0 h))))
+
+pub returns-in-Some-fitting-clause-answer : goal.returns-in-Some-fitting-clause-answer
+returns-in-Some-fitting-clause-answer c =
+    let told = signature_told c.by_place.ensures c.args.buf.now c.args.signature.now in
+    (λ yes. told.1 (by_one _ _ _ c.in-Some-fitting.ensures.among c.in-Some-fitting.ensures.some), λ h. refl)
+
+pub returns-in-Some-fitting-clause-tells : goal.returns-in-Some-fitting-clause-tells
+returns-in-Some-fitting-clause-tells c =
+    let told = λ (b : List ℕ). signature_told c.by_place.ensures b c.args.signature.now in
+    let here = (told c.args.buf.now).1 (by_one _ _ _ c.in-Some-fitting.ensures.among c.in-Some-fitting.ensures.some) in
     λ b agrees. let same = c.accept.ensures.tells b agrees in
-    (same.0, (λ h. here, λ h. (told b).1 (by_one _ _ _ c.in-Some.ensures.among same.1)))
+    (same.0, (λ h. here, λ h. (told b).1 (by_one _ _ _ c.in-Some-fitting.ensures.among same.1)))
 
 pub returns-in-None-clause-answer : goal.returns-in-None-clause-answer
 returns-in-None-clause-answer c =
