@@ -17,15 +17,21 @@ mod signatures;
 
 use signatures::signature;
 
-/// Whether the row with this number accepts.
+/// What tells of a row: of one that accepts the buffer that it does, and of another that no more bytes bring it.
 #[derive(Drop)]
-struct Acceptance(usize);
+struct Acceptance {
+    row: usize,
+    accepts: bool,
+}
 
 impl Told for Acceptance {
-    ghost tells = { λ s front. IsTold front s.0 };
+    ghost tells = { λ s front. IsTold front s.row };
 
     fn is_told(&self, front: &[u8]) -> bool {
-        accepts(front, self.0) || !may_become(front, self.0)
+        if self.accepts {
+            return accepts(front, self.row);
+        }
+        !may_become(front, self.row)
     }
 }
 
@@ -56,17 +62,17 @@ fn ask_front(range: Range, accepts: bool, evidence: &mut Evidence)
 }
 
 /// Asks for the shortest front that tells of the row, and for the whole buffer if none does.
-fn weigh_front(row: usize, buf: &[u8], accepts: bool, evidence: &mut Evidence)
-    ensures tells { TellsRow evidence.old evidence.new buf.now row }
+fn weigh_front(told: &Acceptance, buf: &[u8], evidence: &mut Evidence)
+    ensures tells { TellsRow evidence.old evidence.new buf.now told.now.row }
     ensures inside { IsOf evidence.old buf.now → IsOf evidence.new buf.now }
     ensures few { evidence.new.count ≤ evidence.old.count + 1 }
 {
     infer_sig::laws::growth();
     infer_deep::laws::growth();
-    match shortest_front(&Acceptance(row), buf) {
-        Some(len) => ask_front(front(len, row), accepts, evidence),
+    match shortest_front(told, buf) {
+        Some(len) => ask_front(front(len, told.row), told.accepts, evidence),
         None => {
-            ask_front(front(buf.len(), row), accepts, evidence);
+            ask_front(front(buf.len(), told.row), told.accepts, evidence);
             evidence.ask_exact();
         }
     }
@@ -83,7 +89,7 @@ fn weigh_row(row: usize, buf: &[u8], evidence: &mut Evidence) -> bool
         Some(signature) => weigh(signature, buf, Some(row), evidence),
         None => {
             let accepts = accepts(buf, row);
-            weigh_front(row, buf, accepts, evidence);
+            weigh_front(&Acceptance { row, accepts }, buf, evidence);
             accepts
         }
     }
