@@ -37,26 +37,33 @@ impl AsPart for Piece {
     }
 }
 
-/// Whether the front tells if the row accepts.
-fn tells(row: &FurtherRow, front: &[u8]) -> bool
+/// Whether the front tells that the row accepts, or that it does not.
+fn tells(row: &FurtherRow, accepts: bool, front: &[u8]) -> bool
     requires closed { IsTrue (is_row_closed (row_listed row.now)) }
     requires sound { IsTrue (is_row_sound (row_listed row.now)) }
     ensures { IsTrue result → IsTold (row_listed row.now).signature front.now }
 {
-    is_stable(row, front) || !may_become_accepted(row.signature, front)
+    if accepts {
+        return is_stable(row, front);
+    }
+    !may_become_accepted(row.signature, front)
 }
 
-/// Whether the further row with this number accepts.
+/// What tells of the further row with this number: of one that accepts the buffer that it does whatever follows, and of
+/// another that no more bytes make it.
 #[derive(Drop)]
-struct Acceptance(usize);
+struct Acceptance {
+    i: usize,
+    accepts: bool,
+}
 
 impl Told for Acceptance {
-    ghost tells = { λ s front. IsToldAt s.0 front };
+    ghost tells = { λ s front. IsToldAt s.i front };
 
     #[tactic(auto, using(crate::proofs::NamedLemmas::row_passes, crate::proofs::TableLemmas::all_sound))]
     fn is_told(&self, front: &[u8]) -> bool {
-        match row_at(self.0) {
-            Some(row) => tells(row, front),
+        match row_at(self.i) {
+            Some(row) => tells(row, self.accepts, front),
             None => true,
         }
     }
@@ -76,14 +83,14 @@ fn ask_front(range: Range, accepts: bool, evidence: &mut Evidence)
 }
 
 /// Asks for the shortest front that tells if the row accepts, and for the whole buffer if none does.
-fn weigh_front(i: usize, buf: &[u8], accepts: bool, evidence: &mut Evidence)
-    ensures tells { Tells evidence.old evidence.new buf.now (IsAlikeAt i buf.now) }
+fn weigh_front(told: &Acceptance, buf: &[u8], evidence: &mut Evidence)
+    ensures tells { Tells evidence.old evidence.new buf.now (IsAlikeAt told.now.i buf.now) }
     ensures inside { IsOf evidence.old buf.now → IsOf evidence.new buf.now }
 {
-    match shortest_front(&Acceptance(i), buf) {
-        Some(len) => ask_front(front(len, i), accepts, evidence),
+    match shortest_front(told, buf) {
+        Some(len) => ask_front(front(len, told.i), told.accepts, evidence),
         None => {
-            ask_front(front(buf.len(), i), accepts, evidence);
+            ask_front(front(buf.len(), told.i), told.accepts, evidence);
             evidence.ask_exact();
         }
     }
@@ -172,16 +179,16 @@ fn weigh_row(row: &FurtherRow, i: usize, buf: &[u8], evidence: &mut Evidence) ->
     ensures inside { IsOf evidence.old buf.now → IsOf evidence.new buf.now }
 {
     infer_sig::laws::by_place();
-    if let Some(bytes) = bytes_held(row.signature, buf) {
-        accept(bytes.least, bytes.pieces, buf, number(i), evidence);
-        return true;
-    }
     if lacks_bytes(row.signature, buf) {
         refuse_all(row.signature, i, buf, evidence);
         return false;
     }
+    if let Some(bytes) = bytes_held(row.signature, buf) {
+        accept(bytes.least, bytes.pieces, buf, number(i), evidence);
+        return true;
+    }
     let accepts = signature::accepts::<ANY>(row.signature, buf);
-    weigh_front(i, buf, accepts, evidence);
+    weigh_front(&Acceptance { i, accepts }, buf, evidence);
     accepts
 }
 
