@@ -1,17 +1,15 @@
--- What is told of a file is told of bytes of which nothing more is known.
+-- What is read of a file is bytes of which nothing more is known.
 use Rattle.std.proofs.Common.{ℕ, List, Option, None, Result, Ok, Err}
 use Rattle.std.specs.Prelude.{IfOk}
 use Rattle.std.specs.declared.io.Error.{Error}
 use Rattle.infer.specs.declared.read.fault.Fault.{Fault}
 use Rattle.infer.specs.declared.read.watched.Watched.{Watched}
-use Rattle.infer_label.specs.Label.{Label}
-use Rattle.infer_label.specs.Options.{Options}
-use Rattle.infer_label.specs.Report.{IsLabelOf, TellsOpened}
+use Rattle.infer_label.specs.Report.{IsFront, ReadsOpened}
 
-pub label_of_file : {R : Type 0} (remaining : R → Option (List ℕ)) (options : Options) (name : List ℕ) (old new : Result (Watched R) Error) (answer : Result Label Fault)
-    → TellsOpened remaining options name old new answer → IfOk answer (IsLabelOf options name None)
-label_of_file remaining options name (Ok old) (Ok new) (Ok label) tells = let (b, front, is) = tells.label in (b, (front.0, tt), is)
-label_of_file remaining options name (Ok old) (Ok new) (Err fault) tells = tt
-label_of_file remaining options name (Ok old) (Err error) answer tells = absurd tells
-label_of_file remaining options name (Err error) new (Ok label) is = absurd (cc)
-label_of_file remaining options name (Err error) new (Err fault) is = tt
+pub front_of_file : {R : Type 0} (remaining : R → Option (List ℕ)) (n : ℕ) (old new : Result (Watched R) Error) (front : Result (List ℕ) Fault)
+    → ReadsOpened remaining n old new front → IfOk front (IsFront n None)
+front_of_file remaining n (Ok old) (Ok new) (Ok b) reads = (reads.bytes.0, tt)
+front_of_file remaining n (Ok old) (Ok new) (Err fault) reads = tt
+front_of_file remaining n (Ok old) (Err error) front reads = absurd reads
+front_of_file remaining n (Err error) new (Ok b) is = absurd (cc)
+front_of_file remaining n (Err error) new (Err fault) is = tt

@@ -11,22 +11,20 @@ use Rattle.infer_lines.specs.declared.outcome.Outcome.{Outcome}
 use Rattle.infer_lines.specs.declared.outcome.Outcome.TheVariants.{Failed, Known}
 use Rattle.infer_lines.specs.declared.writer.WatchedWriter.{WatchedWriter}
 use Rattle.infer_lines.proofs.SaidLemmas.{Moves, appends-moved, in_two, keeps-moved, keeps_unless_failed, later_moved, refuses_moves}
-use Rattle.infer_label.specs.Label.{Label}
 use Rattle.infer_label.specs.Options.{Options, OwnTypes, no_types, types_at, types_of, with_types}
-use Rattle.infer_label.specs.Report.{Reports, ReportsFile, ReportsInput, fault_written, outcome_of, written}
+use Rattle.infer_label.specs.Report.{Reports, ReportsFile, ReportsInput, Tells}
 use Rattle.infer_label.specs.Run.{ReportsAll, ReportsAt, ReportsBy, ReportsEach, ReportsPath, ReportsPathIf, ReportsWith, RunSays, WritesText, is_input, no_path, one_more}
 use Rattle.infer_label.specs.Words.{Asked, help, labels, refused, texts, version}
 use Rattle.infer_label.specs.Writes.{Writes}
-use Rattle.infer_label.specs.declared.options.Form.{Form}
 use Rattle.infer_label.proofs.WritesLemmas.{written_unless_failed}
 
-reports_moves : (form : Form) (name : List ℕ) (answer : Result Label Fault) → Moves (Reports form name answer)
-reports_moves form name answer o old new eo en before after eb ea m e (is, lines, faults) =
-    (is, appends-moved old new before after _ m lines, appends-moved eo en eb ea _ e faults)
+reports_moves : (options : Options) (name : List ℕ) (front : Result (List ℕ) Fault) → Moves (Reports options name front)
+reports_moves options name front o old new eo en before after eb ea m e (text, fault_text, tells, lines, faults) =
+    (text, fault_text, tells, appends-moved old new before after _ m lines, appends-moved eo en eb ea _ e faults)
 
 file_moves : (options : Options) (path : List ℕ) → Moves (ReportsFile options path)
-file_moves options path o old new eo en before after eb ea m e (answer, label, reports) =
-    (answer, label, reports_moves options.form path answer o old new eo en before after eb ea m e reports)
+file_moves options path o old new eo en before after eb ea m e (front, is, reports) =
+    (front, is, reports_moves options path front o old new eo en before after eb ea m e reports)
 
 text_moves : (text : List ℕ) → Moves (WritesText text)
 text_moves text o old new eo en before after eb ea m e (is, lines, faults) =
@@ -34,8 +32,8 @@ text_moves text o old new eo en before after eb ea m e (is, lines, faults) =
 
 module _ {I : Type 0} (remaining : I → Option (List ℕ)) (options : Options) where
   input_moves : (b a : Watched I) → Moves (ReportsInput remaining options b a)
-  input_moves b a o old new eo en before after eb ea m e (answer, tells, reports) =
-      (answer, tells, reports_moves options.form options.input_name answer o old new eo en before after eb ea m e reports)
+  input_moves b a o old new eo en before after eb ea m e (front, reads, reports) =
+      (front, reads, reports_moves options options.input_name front o old new eo en before after eb ea m e reports)
 
   path_moves : (is : Bool) (path : List ℕ) (b a : Watched I) → Moves (ReportsPathIf remaining options is path b a)
   path_moves true path b a o old new eo en before after eb ea m e said = input_moves b a o old new eo en before after eb ea m e said
@@ -116,7 +114,7 @@ module _ {W E : Type 0} (contents : W → Option (List ℕ)) (err_contents : E �
   text_is_said old new err result text is told =
       (Known, is, (refl, written_unless_failed contents told, keeps_unless_failed (has_failed err) _))
 
-  failed_is_failed : (failed : Bool) → Failed ≡ outcome_after failed Failed
+  pub failed_is_failed : (failed : Bool) → Failed ≡ outcome_after failed Failed
   failed_is_failed true = refl
   failed_is_failed false = refl
 
@@ -125,9 +123,9 @@ module _ {W E : Type 0} (contents : W → Option (List ℕ)) (err_contents : E �
   refusal_is_said out old new result text is told =
       (Failed, is ∙ failed_is_failed (has_failed out), (refl, keeps_unless_failed (has_failed out) _, written_unless_failed err_contents told))
 
-  pub report_is_said : (old new : WatchedWriter W) (err_old err_new : WatchedWriter E) (result : Outcome) (form : Form) (name : List ℕ) (answer : Result Label Fault)
-      → result ≡ outcome_after (has_failed new) (outcome_of answer) → Writes contents old new (written form name answer)
-      → Writes err_contents err_old err_new (fault_written form name answer)
-      → Says (stream contents old new) (stream err_contents err_old err_new) result (Reports form name answer)
-  report_is_said old new eo en result form name answer is lines faults =
-      (outcome_of answer, is, (refl, written_unless_failed contents lines, written_unless_failed err_contents faults))
+  pub report_is_said : (old new : WatchedWriter W) (err_old err_new : WatchedWriter E) (result : Outcome) (options : Options) (name : List ℕ)
+      (front : Result (List ℕ) Fault) (outcome : Outcome) (text fault_text : List ℕ) → result ≡ outcome_after (has_failed new) outcome
+      → Tells options name front outcome text fault_text → Writes contents old new text → Writes err_contents err_old err_new fault_text
+      → Says (stream contents old new) (stream err_contents err_old err_new) result (Reports options name front)
+  report_is_said old new eo en result options name front outcome text fault_text is tells lines faults =
+      (outcome, is, (text, fault_text, tells, written_unless_failed contents lines, written_unless_failed err_contents faults))

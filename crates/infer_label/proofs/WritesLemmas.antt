@@ -44,6 +44,10 @@ module _ {W : Type 0} (contents : W → Option (List ℕ)) where
   pub writes_nothing : (w : WatchedWriter W) → Writes contents w w []
   writes_nothing w = writes_kept w w (keeps_itself (contents (inner w))) (refl, λ f. f)
 
+  pub writes_all : {a b : WatchedWriter W} {bytes : List ℕ} → OnFalse (has_failed b) (Appends (contents (inner a)) (contents (inner b)) bytes) → IsLater a b
+      → Writes contents a b bytes
+  writes_all grown later = record { grown = grown; later = later }
+
   -- what is written first, and what then
   pub writes_both : {a b c : WatchedWriter W} {xs ys : List ℕ} → Writes contents a b xs → Writes contents b c ys → Writes contents a c (xs ++ ys)
   writes_both {a = a} {b = b} {c = c} {xs = xs} {ys = ys} first then = record {

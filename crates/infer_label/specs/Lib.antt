@@ -3,6 +3,9 @@ pub mod Words
 pub mod Writes
 pub mod Names
 pub mod Label
+pub mod Why
+pub mod WhyText
+pub mod WhyJson
 pub mod Line
 pub mod Report
 pub mod Run

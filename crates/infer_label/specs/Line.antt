@@ -10,6 +10,9 @@ use Rattle.infer_named.specs.declared.join.Standing.{Standing}
 use Rattle.infer_named.specs.declared.join.Standing.TheVariants.{Agree, BytesAlone, BytesRefine, Contradicts, NameAlone, NameRefines, Nothing}
 use Rattle.infer_label.specs.Label.{Label}
 use Rattle.infer_label.specs.Names.{byte_hex, name_shown}
+use Rattle.infer_label.specs.Why.{Why}
+use Rattle.infer_label.specs.WhyJson.{why_member}
+use Rattle.infer_label.specs.WhyText.{why_text}
 use Rattle.infer_label.specs.declared.options.Form.{Form}
 use Rattle.infer_label.specs.declared.options.Form.TheVariants.{Json, Text}
 
@@ -99,10 +102,10 @@ label_members l =
     type_members l.mime_type l.extension
     ++ (empty_member l.is_empty ++ (encoding_member l.encoding ++ (standing_member l.standing ++ named_member l.named)))
 
--- the line of an input with this name and label, with its line end
-abbrev pub line : Form → List ℕ → Label → List ℕ
-line Text name label = name_shown Text name ++ (codes ": " ++ (label_text label ++ 0x0A ∷ []))
-line Json name label = name_member name ++ (label_members label ++ codes "}\n")
+-- the line of an input with this name and label, with its line end. Why it is so comes last, if that is told
+abbrev pub line : Form → List ℕ → Label → Option Why → List ℕ
+line Text name label why = name_shown Text name ++ (codes ": " ++ (label_text label ++ (why_text why ++ 0x0A ∷ [])))
+line Json name label why = name_member name ++ (label_members label ++ (why_member why ++ codes "}\n"))
 
 -- the line of an input with this name that had a fault
 abbrev pub fault_line : Form → List ℕ → Fault → List ℕ

@@ -15,7 +15,7 @@ use Rattle.infer_label.specs.Line.{fault_line}
 use Rattle.infer_label.specs.Names.{name_shown}
 use Rattle.infer_label.specs.Options.{Options, OwnTypes, no_types, types_at, types_of, with_types}
 use Rattle.infer_label.specs.Report.{ReportsFile, ReportsInput}
-use Rattle.infer_label.specs.Words.{Asked, Refusal, help, labels, lacking, mistaken, no_limit, refused, unknown, unread, version}
+use Rattle.infer_label.specs.Words.{Asked, Refusal, by_others, help, labels, lacking, mistaken, no_limit, refused, unknown, unread, version}
 use Rattle.infer_label.specs.declared.options.Form.TheVariants.{Text}
 use Rattle.infer_label.specs.declared.options.Valued.{Valued}
 use Rattle.infer_label.specs.declared.options.Valued.TheVariants.{ContentType, Front, Name, Types}
@@ -42,6 +42,7 @@ refusal_line (lacking option) = codes "infer_label: no value after " ++ (valued_
 refusal_line (no_limit word) = codes "infer_label: front must be 1 to 65536: " ++ (name_shown Text word ++ 0x0A ∷ [])
 refusal_line (unread path fault) = codes "infer_label: " ++ fault_line Text path fault
 refusal_line (mistaken path mistake) = codes "infer_label: " ++ (name_shown Text path ++ (mistake_text mistake ++ 0x0A ∷ []))
+refusal_line by_others = codes "infer_label: --why goes with none of --sniff, --nosniff, --content-type and --types\n"
 
 -- a text is written, and nothing else
 abbrev pub WritesText : List ℕ → Saying

@@ -1,10 +1,10 @@
 -- What the words of a run ask for.
-use Rattle.std.specs.Prelude.{◌==◌, ℕ, Bool, false, List, [], ◌∷◌, Option, None, Some, codes, if◌then◌else◌, map, not, Vec}
+use Rattle.std.specs.Prelude.{◌==◌, ◌&&◌, ℕ, Bool, false, List, [], ◌∷◌, Option, None, Some, codes, if◌then◌else◌, map, not, Vec}
 use Rattle.std.specs.Str.{bytes_eq}
 use Rattle.std.specs.declared.alloc.Global.{Global}
 use Rattle.infer.specs.declared.read.fault.Fault.{Fault}
 use Rattle.infer_more.specs.declared.types.Mistake.{Mistake}
-use Rattle.infer_label.specs.Options.{Options, default_options, options_listed, with_flag, with_value}
+use Rattle.infer_label.specs.Options.{Options, default_options, options_listed, tell_by_others, with_flag, with_value}
 use Rattle.infer_label.specs.declared.options.Flag.{Flag}
 use Rattle.infer_label.specs.declared.options.Flag.TheVariants as flags
 use Rattle.infer_label.specs.declared.options.Valued.{Valued}
@@ -18,14 +18,15 @@ use Rattle.infer_label.specs.declared.words.Step.TheVariants as steps
 use Rattle.infer_label.specs.declared.words.Word.{Word}
 use Rattle.infer_label.specs.declared.words.Word.TheVariants as kinds
 
--- why words are refused: a word is no option, the value of one is lacking, it is no number from 1 to 65536, or the file of
--- types with this path had a fault or a mistake in its text
+-- why words are refused: a word is no option, the value of one is lacking, it is no number from 1 to 65536, the file of
+-- types with this path had a fault or a mistake in its text, or it is asked why what comes from elsewhere is told
 pub data Refusal : Type 0 where
   unknown : List ℕ → Refusal
   lacking : Valued → Refusal
   no_limit : List ℕ → Refusal
   unread : List ℕ → Fault → Refusal
   mistaken : List ℕ → Mistake → Refusal
+  by_others : Refusal
 
 -- what words ask for: help, the version, labels by some options of these paths, or nothing, as they are wrong
 pub data Asked : Type 0 where
@@ -49,7 +50,8 @@ flag_in word =
     else (if bytes_eq word (codes "--built-in") then Some flags.BuiltIn
     else (if bytes_eq word (codes "--json") then Some flags.Json
     else (if bytes_eq word (codes "--sniff") then Some flags.Sniff
-    else (if bytes_eq word (codes "--nosniff") then Some flags.NoSniff else None))))
+    else (if bytes_eq word (codes "--nosniff") then Some flags.NoSniff
+    else (if bytes_eq word (codes "--why") then Some flags.Why else None)))))
 
 abbrev pub valued_in : List ℕ → Option Valued
 valued_in word =
@@ -98,16 +100,20 @@ abbrev pub step_at : Option Valued → Options → List ℕ → Step
 step_at None options word = word_step (kind_of word) options word
 step_at (Some option) options word = value_step (with_value option word options) word
 
+-- what these options and paths ask for
+abbrev pub labels_by : Options → List (List ℕ) → Asked
+labels_by options paths = if options.why && tell_by_others options then refused by_others else labels options paths
+
 -- what words ask for, of which the first does this
 abbrev pub after_step : Step → Options → List ℕ → List (List ℕ) → (Options → Option Valued → Asked) → Asked
 after_step (go_on more due) options word words others = others more due
-after_step paths_here options word words others = labels options (word ∷ words)
-after_step paths_behind options word words others = labels options words
+after_step paths_here options word words others = labels_by options (word ∷ words)
+after_step paths_behind options word words others = labels_by options words
 after_step (stop all) options word words others = all
 
 -- what is asked for behind the last word
 abbrev pub asked_at_end : Option Valued → Options → Asked
-asked_at_end None options = labels options []
+asked_at_end None options = labels_by options []
 asked_at_end (Some option) options = refused (lacking option)
 
 -- what words ask for after those that said these options, if the value of an option is due, or none is
@@ -129,6 +135,7 @@ refusal_listed (refusals.Lacking option) = lacking option
 refusal_listed (refusals.NoLimit word) = no_limit word.now
 refusal_listed (refusals.Unread path fault) = unread path.now fault
 refusal_listed (refusals.Mistaken path mistake) = mistaken path.now mistake
+refusal_listed refusals.ByOthers = by_others
 
 abbrev pub asked_listed : asked_code.Asked → Asked
 asked_listed asks.Help = help

@@ -1,26 +1,34 @@
 //! The line of an input as an object of JSON.
 ghost use Rattle.std.specs.Prelude.{◌≡◌, None, Some, option_map};
-ghost use Rattle.std.specs.List.{flat_map};
 ghost use Rattle.infer_label.specs.Label.{label_listed};
 ghost use Rattle.infer_label.specs.Line.{empty_member, encoding_member, extension_member, fault_line, hex_member, label_members, line, name_member, named_member, standing_member, standing_name, type_members, utf8_member};
-ghost use Rattle.infer_label.specs.Names.{byte_hex};
+ghost use Rattle.infer_label.specs.Why.{why_listed};
 ghost use Rattle.infer_label.specs.Writes.{Writes};
 
 use crate::label::Label;
-use crate::names::{hex_digit, write_name};
+use crate::names::{write_hex, write_name};
 use crate::options::Form;
+use crate::why::Why;
+use crate::why_json::write_why_member;
 use infer::Fault;
 use infer_lines::{WatchedWriter, text_of};
 use infer_more::text::Encoding;
 use infer_named::Standing;
 use std::io::Write;
 
-/// Writes the line of an input with this name and label.
-pub fn write_json<W: Write>(name: &[u8], label: &Label<'_>, out: &mut WatchedWriter<'_, W>)
-    ensures { Writes W.contents out.old out.new (line Form.Json name.now (label_listed label.now)) }
+/// Writes the line of an input with this name and label, and why it is so, if that is told.
+pub fn write_json<W: Write>(
+    name: &[u8],
+    label: &Label<'_>,
+    why: Option<&Why<'_>>,
+    out: &mut WatchedWriter<'_, W>,
+)
+    ensures { Writes W.contents out.old out.new
+        (line Form.Json name.now (label_listed label.now) (option_map (λ w. why_listed w.now) why.entry)) }
 {
     write_name_member(name, out);
     write_members(label, out);
+    write_why_member(why, out);
     out.write_all(b"}\n");
 }
 
@@ -58,14 +66,6 @@ fn write_hex_member<W: Write>(name: &[u8], out: &mut WatchedWriter<'_, W>)
     out.write_all(b"{\"name_hex\":\"");
     write_hex(name, out);
     out.write_all(b"\"");
-}
-
-fn write_hex<W: Write>(name: &[u8], out: &mut WatchedWriter<'_, W>)
-    ensures { Writes W.contents out.old out.new (flat_map byte_hex name.now) }
-{
-    for byte in name {
-        out.write_all(&[hex_digit(*byte / 16 % 16), hex_digit(*byte % 16)]);
-    }
 }
 
 fn write_members<W: Write>(label: &Label<'_>, out: &mut WatchedWriter<'_, W>)

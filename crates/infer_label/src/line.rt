@@ -2,30 +2,35 @@
 ghost use Rattle.std.specs.Prelude.{◌≡◌, option_map};
 ghost use Rattle.infer_label.specs.Label.{label_listed};
 ghost use Rattle.infer_label.specs.Line.{empty_text, encoding_text, extension_text, fault_line, label_text, line, named_text, standing_text, type_text};
+ghost use Rattle.infer_label.specs.Why.{why_listed};
 ghost use Rattle.infer_label.specs.Writes.{Writes};
 
 use crate::json::{write_json, write_json_fault};
 use crate::label::Label;
 use crate::names::write_name;
 use crate::options::Form;
+use crate::why::Why;
+use crate::why_text::write_why;
 use infer::Fault;
 use infer_lines::{WatchedWriter, text_of};
 use infer_more::text::Encoding;
 use infer_named::Standing;
 use std::io::Write;
 
-/// Writes the line of an input with this name and label.
+/// Writes the line of an input with this name and label, and why it is so, if that is told.
 pub fn write_line<W: Write>(
     form: Form,
     name: &[u8],
     label: &Label<'_>,
+    why: Option<&Why<'_>>,
     out: &mut WatchedWriter<'_, W>,
 )
-    ensures { Writes W.contents out.old out.new (line form name.now (label_listed label.now)) }
+    ensures { Writes W.contents out.old out.new
+        (line form name.now (label_listed label.now) (option_map (λ w. why_listed w.now) why.entry)) }
 {
     match form {
-        Form::Text => write_text(name, label, out),
-        Form::Json => write_json(name, label, out),
+        Form::Text => write_text(name, label, why, out),
+        Form::Json => write_json(name, label, why, out),
     }
 }
 
@@ -47,12 +52,19 @@ fn write_text_fault<W: Write>(name: &[u8], fault: Fault, out: &mut WatchedWriter
     writeln!(out, ": {text}");
 }
 
-fn write_text<W: Write>(name: &[u8], label: &Label<'_>, out: &mut WatchedWriter<'_, W>)
-    ensures { Writes W.contents out.old out.new (line Form.Text name.now (label_listed label.now)) }
+fn write_text<W: Write>(
+    name: &[u8],
+    label: &Label<'_>,
+    why: Option<&Why<'_>>,
+    out: &mut WatchedWriter<'_, W>,
+)
+    ensures { Writes W.contents out.old out.new
+        (line Form.Text name.now (label_listed label.now) (option_map (λ w. why_listed w.now) why.entry)) }
 {
     write_name(name, Form::Text, out);
     out.write_all(b": ");
     write_label(label, out);
+    write_why(why, out);
     out.write_all(b"\n");
 }
 

@@ -12,6 +12,9 @@ mod report;
 mod run;
 #[cfg(test)]
 mod tests;
+mod why;
+mod why_json;
+mod why_text;
 mod words;
 
 use infer::Watched;

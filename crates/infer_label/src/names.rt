@@ -3,7 +3,7 @@ ghost use Rattle.std.specs.Prelude.{◌≡◌, ◌<◌};
 ghost use Rattle.std.specs.Int.{is_in_range};
 ghost use Rattle.std.specs.List.{flat_map, list_all};
 ghost use Rattle.std.specs.Str.{chars};
-ghost use Rattle.infer_label.specs.Names.{byte_shown, char_shown, code_shown, hex_digit, high_shown, is_mark, is_obeyed, is_plain, name_shown};
+ghost use Rattle.infer_label.specs.Names.{byte_hex, byte_shown, char_shown, code_shown, hex_digit, high_shown, is_mark, is_obeyed, is_plain, name_shown};
 ghost use Rattle.infer_label.specs.Writes.{Writes};
 
 use crate::options::Form;
@@ -102,8 +102,17 @@ fn write_code<W: Write>(code: u32, out: &mut WatchedWriter<'_, W>)
     ]);
 }
 
+/// Writes bytes in hexadecimal.
+pub fn write_hex<W: Write>(bytes: &[u8], out: &mut WatchedWriter<'_, W>)
+    ensures { Writes W.contents out.old out.new (flat_map byte_hex bytes.now) }
+{
+    for byte in bytes {
+        out.write_all(&[hex_digit(*byte / 16 % 16), hex_digit(*byte % 16)]);
+    }
+}
+
 /// The digit of a number below 16.
-pub fn hex_digit(n: u8) -> u8
+fn hex_digit(n: u8) -> u8
     requires { n < 16 }
     ensures { result ≡ hex_digit n }
 {

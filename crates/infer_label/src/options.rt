@@ -1,6 +1,6 @@
 //! What a run may be asked for.
 ghost use Rattle.std.specs.Prelude.{◌≡◌, option_map};
-ghost use Rattle.infer_label.specs.Options.{as_browser, default_options, options_listed, with_flag, with_front, with_types, with_value};
+ghost use Rattle.infer_label.specs.Options.{as_browser, default_options, is_of_browser, options_listed, tell_by_others, with_flag, with_front, with_types, with_value};
 
 use infer::FRONT;
 use infer_lines::limit_in;
@@ -42,6 +42,8 @@ pub enum Flag {
     Sniff,
     /// `--nosniff`
     NoSniff,
+    /// `--why`
+    Why,
 }
 
 /// An option whose value is the next word.
@@ -83,6 +85,8 @@ pub struct Options<'a> {
     pub own: OwnTypes<'a>,
     /// The content type that a browser was told, if it was told one.
     pub content_type: Option<&'a [u8]>,
+    /// Whether it is told why the bytes have their answer.
+    pub why: bool,
 }
 
 impl<'a> Options<'a> {
@@ -97,6 +101,7 @@ impl<'a> Options<'a> {
             input_name: b"-",
             own: OwnTypes::None,
             content_type: None,
+            why: false,
         }
     }
 
@@ -125,6 +130,7 @@ impl<'a> Options<'a> {
                 look: Look::BrowserForbidden,
                 ..self
             },
+            Flag::Why => Options { why: true, ..self },
         }
     }
 
@@ -160,6 +166,14 @@ impl<'a> Options<'a> {
         }
     }
 
+    /// Whether what is told comes from elsewhere than the built-in and the further types: from a browser, or from types of
+    /// one's own.
+    pub fn tell_by_others(&self) -> bool
+        ensures { result ≡ tell_by_others (options_listed self.now) }
+    {
+        is_of_browser(self.look) || !matches!(self.own, OwnTypes::None)
+    }
+
     /// These options with a number of bytes, if there is one.
     fn with_front(self, limit: Option<usize>) -> Option<Options<'a>>
         ensures { option_map options_listed result ≡ with_front limit (options_listed self.entry) }
@@ -168,6 +182,15 @@ impl<'a> Options<'a> {
             Some(front) => Some(Options { front, ..self }),
             None => None,
         }
+    }
+}
+
+fn is_of_browser(look: Look) -> bool
+    ensures { result ≡ is_of_browser look }
+{
+    match look {
+        Look::NameAndBytes | Look::Bytes | Look::BuiltIn => false,
+        Look::Browser | Look::BrowserForbidden => true,
     }
 }
 

@@ -1,5 +1,5 @@
 //! The report of one input.
-ghost use Rattle.std.specs.Prelude.{◌≡◌, None, [], length};
+ghost use Rattle.std.specs.Prelude.{◌≡◌, ℕ, List, None, [], length, option_map};
 ghost use Rattle.infer.specs.Watched.{fault_of};
 ghost use Rattle.infer_lines.specs.Outcome.{outcome_after};
 ghost use Rattle.infer_lines.specs.Said.{Says, stream};
@@ -7,12 +7,14 @@ ghost use Rattle.infer_lines.specs.Writer.{IsLater, has_failed};
 ghost use Rattle.infer_label.specs.Label.{label_listed};
 ghost use Rattle.infer_label.specs.Line.{fault_line, line};
 ghost use Rattle.infer_label.specs.Options.{options_listed};
-ghost use Rattle.infer_label.specs.Report.{ReportsFile, ReportsInput, TellsOpened, TellsReader, answer_listed, fault_written, label_outcome, outcome_of, written};
+ghost use Rattle.infer_label.specs.Report.{ReadsOpened, ReadsReader, Reports, ReportsFile, ReportsInput, TellsFront, front_listed, label_outcome};
+ghost use Rattle.infer_label.specs.Why.{why_listed};
 ghost use Rattle.infer_label.specs.Writes.{Writes};
 
 use crate::label::{Label, label_of};
 use crate::line::{write_fault, write_line};
 use crate::options::{Form, Options};
+use crate::why::{Why, why_of};
 use infer::{Fault, Watched, lengthen, read_head};
 use infer_lines::{Outcome, WatchedWriter};
 use std::alloc::Allocator;
@@ -33,8 +35,8 @@ pub fn report_input<A: Allocator, I: Read, W: Write, E: Write>(
     ensures later { IsLater out.old out.new }
     ensures err_later { IsLater err.old err.new }
 {
-    let answer = tell_reader(room, options, options.input_name, input);
-    report(options.form, options.input_name, answer, out, err)
+    let front = read_front(room, options.front, input);
+    report(options, options.input_name, front, out, err)
 }
 
 /// Reports what a file is, under its path.
@@ -51,8 +53,9 @@ pub fn report_file<R: Files, A: Allocator, W: Write, E: Write>(
     ensures later { IsLater out.old out.new }
     ensures err_later { IsLater err.old err.new }
 {
-    let answer = tell_opened(room, options, path, &mut open(rt, path).map(Watched::new));
-    report(options.form, path, answer, out, err)
+    let mut opened = open(rt, path).map(Watched::new);
+    let front = read_opened(room, options.front, &mut opened);
+    report(options, path, front, out, err)
 }
 
 /// Opens a file. The system's paths here are UTF-8: any other is told as one that cannot be opened.
@@ -63,88 +66,79 @@ pub fn open<R: Files>(rt: &R, path: &[u8]) -> io::Result<R::File> {
     }
 }
 
-/// What is told of what was opened, or of the error in its place.
-fn tell_opened<'a, A: Allocator, R: Read>(
-    room: &mut Vec<u8, A>,
-    options: Options<'a>,
-    name: &[u8],
+/// The first `n` bytes of what was opened, or all if it has fewer, or the fault for the error in its place.
+fn read_opened<'a, A: Allocator, R: Read>(
+    room: &'a mut Vec<u8, A>,
+    n: usize,
     opened: &mut io::Result<Watched<R>>,
-) -> Result<Label<'a>, Fault>
-    ensures { TellsOpened R.remaining (options_listed options.entry) name.now opened.old opened.new (answer_listed result) }
+) -> Result<&'a [u8], Fault>
+    ensures { ReadsOpened R.remaining n opened.old opened.new (front_listed result) }
 {
     match opened {
-        Ok(reader) => tell_reader(room, options, name, reader),
+        Ok(reader) => read_front(room, n, reader),
         Err(error) => Err(Fault::Open(error.kind())),
     }
 }
 
-/// What is told of the first bytes of a reader, which it reads into `room`, or of the fault that it has.
-fn tell_reader<'a, A: Allocator, R: Read>(
-    room: &mut Vec<u8, A>,
-    options: Options<'a>,
-    name: &[u8],
+/// The first `n` bytes of a reader, or all if it has fewer, which it reads into `room`, or the fault that it has.
+fn read_front<'a, A: Allocator, R: Read>(
+    room: &'a mut Vec<u8, A>,
+    n: usize,
     reader: &mut Watched<R>,
-) -> Result<Label<'a>, Fault>
-    ensures { TellsReader R.remaining (options_listed options.entry) name.now reader.old reader.new (answer_listed result) }
+) -> Result<&'a [u8], Fault>
+    ensures { ReadsReader R.remaining n reader.old reader.new (front_listed result) }
 {
     if let Some(kind) = reader.fault() {
         return Err(Fault::Read(kind));
     }
-    lengthen(room, options.front)?;
-    tell_front(
-        &mut room.as_mut_slice()[..options.front],
-        options,
-        name,
-        reader,
-    )
+    lengthen(room, n)?;
+    fill(&mut room.as_mut_slice()[..n], reader)
 }
 
-/// What is told of as many bytes as there are in `room`, into which it reads.
-fn tell_front<'a, R: Read>(
-    room: &mut [u8],
-    options: Options<'a>,
-    name: &[u8],
-    reader: &mut Watched<R>,
-) -> Result<Label<'a>, Fault>
-    requires room { length room.old ≡ (options_listed options).front }
-    requires fault { fault_of reader.old ≡ None }
-    ensures { TellsReader R.remaining (options_listed options.entry) name.now reader.old reader.new (answer_listed result) }
+/// The first bytes of a reader, as many as there are in `room`, into which it reads.
+fn fill<'a, R: Read>(room: &'a mut [u8], reader: &mut Watched<R>) -> Result<&'a [u8], Fault>
+    requires { fault_of reader.old ≡ None }
+    ensures { ReadsReader R.remaining (length room.old) reader.old reader.new (front_listed result) }
 {
     match read_head(reader, room) {
-        Ok(count) => Ok(label_of(options, name, &room[..count])),
+        Ok(count) => Ok(&room[..count]),
         Err(kind) => Err(Fault::Read(kind)),
     }
 }
 
-/// Writes the line of an answer to `out`, or that of a fault to `err`.
+/// Writes to `out` what is told of the first bytes of an input, or to `err` the fault that it has.
 fn report<W: Write, E: Write>(
-    form: Form,
+    options: Options<'_>,
     name: &[u8],
-    answer: Result<Label<'_>, Fault>,
+    front: Result<&[u8], Fault>,
     out: &mut WatchedWriter<'_, W>,
     err: &mut WatchedWriter<'_, E>,
 ) -> Outcome
-    ensures outcome { result ≡ outcome_after (has_failed out.new) (outcome_of (answer_listed answer.entry)) }
-    ensures line { Writes W.contents out.old out.new (written form name.now (answer_listed answer.entry)) }
-    ensures err_line { Writes E.contents err.old err.new (fault_written form name.now (answer_listed answer.entry)) }
+    ensures line { Says (stream W.contents out.old out.new) (stream E.contents err.old err.new) result
+        (Reports (options_listed options.entry) name.now (front_listed front.entry)) }
+    ensures later { IsLater out.old out.new }
+    ensures err_later { IsLater err.old err.new }
 {
-    match answer {
-        Ok(label) => report_label(form, name, &label, out),
-        Err(fault) => report_fault(form, name, fault, out, err),
+    match front {
+        Ok(buf) => report_front(options, name, buf, out),
+        Err(fault) => report_fault(options.form, name, fault, out, err),
     }
 }
 
-fn report_label<W: Write>(
-    form: Form,
+/// Reports what is told of these bytes.
+fn report_front<W: Write>(
+    options: Options<'_>,
     name: &[u8],
-    label: &Label<'_>,
+    buf: &[u8],
     out: &mut WatchedWriter<'_, W>,
 ) -> Outcome
-    ensures outcome { result ≡ outcome_after (has_failed out.new) (label_outcome (label_listed label.now)) }
-    ensures line { Writes W.contents out.old out.new (line form name.now (label_listed label.now)) }
+    ensures { (outcome : Outcome) × (text : List ℕ) × TellsFront (options_listed options.entry) name.now buf.now outcome text
+        × (result ≡ outcome_after (has_failed out.new) outcome) × Writes W.contents out.old out.new text }
 {
-    write_unless_failed(form, name, label, out);
-    outcome_of(label).failed_if(out.has_failed())
+    let label = label_of(options, name, buf);
+    let why = why_of(options, buf);
+    write_unless_failed(options.form, name, &label, why.as_ref(), out);
+    outcome_of(&label).failed_if(out.has_failed())
 }
 
 /// Writes the line, but for a writer that has failed.
@@ -152,12 +146,14 @@ fn write_unless_failed<W: Write>(
     form: Form,
     name: &[u8],
     label: &Label<'_>,
+    why: Option<&Why<'_>>,
     out: &mut WatchedWriter<'_, W>,
 )
-    ensures { Writes W.contents out.old out.new (line form name.now (label_listed label.now)) }
+    ensures { Writes W.contents out.old out.new
+        (line form name.now (label_listed label.now) (option_map (λ w. why_listed w.now) why.entry)) }
 {
     if !out.has_failed() {
-        write_line(form, name, label, out);
+        write_line(form, name, label, why, out);
     }
 }
 

@@ -6,7 +6,7 @@ ghost use Rattle.infer_lines.specs.Writer.{IsLater, has_failed};
 ghost use Rattle.infer_label.specs.Options.{options_listed};
 ghost use Rattle.infer_label.specs.Report.{ReportsInput};
 ghost use Rattle.infer_label.specs.Run.{ReportsAll, ReportsAt, ReportsBy, ReportsEach, ReportsPath, ReportsWith, RunSays, is_input, mistake_text, refusal_line, valued_text};
-ghost use Rattle.infer_label.specs.Words.{asked, lacking, mistaken, no_limit, refusal_listed, texts, unknown, unread};
+ghost use Rattle.infer_label.specs.Words.{asked, by_others, lacking, mistaken, no_limit, refusal_listed, texts, unknown, unread};
 ghost use Rattle.infer_label.specs.Writes.{Writes};
 
 use crate::line::write_fault;
@@ -36,6 +36,7 @@ text, and what the name did, where it did something. Without a PATH, or as -, it
   --nosniff         as --sniff, where sniffing is forbidden
   --sniff           as a browser that was told no type, by the first 1445 bytes
   --types FILE      the types of this text first, by the bytes alone
+  --why             also the bytes that decide, and what they rule out
   --                what follows are paths
   --help            this text
   --version         the version
@@ -91,6 +92,7 @@ fn refuse<E: Write>(refusal: Refusal<'_>, err: &mut WatchedWriter<'_, E>) -> Out
         Refusal::NoLimit(word) => refuse_limit(word, err),
         Refusal::Unread(path, fault) => refuse_unread(path, fault, err),
         Refusal::Mistaken(path, mistake) => refuse_mistaken(path, mistake, err),
+        Refusal::ByOthers => refuse_by_others(err),
     }
     Outcome::Failed
 }
@@ -132,6 +134,14 @@ fn refuse_mistaken<E: Write>(path: &[u8], mistake: Mistake, err: &mut WatchedWri
     write_name(path, Form::Text, err);
     write_mistake(mistake, err);
     err.write_all(b"\n");
+}
+
+fn refuse_by_others<E: Write>(err: &mut WatchedWriter<'_, E>)
+    ensures { Writes E.contents err.old err.new (refusal_line by_others) }
+{
+    err.write_all(
+        b"infer_label: --why goes with none of --sniff, --nosniff, --content-type and --types\n",
+    );
 }
 
 /// Writes where a mistake is, and what it is.

@@ -2,7 +2,7 @@
 ghost use Rattle.std.specs.Prelude.{◌≡◌, option_map};
 ghost use Rattle.std.specs.Str.{bytes_eq};
 ghost use Rattle.infer_label.specs.Options.{default_options, options_listed};
-ghost use Rattle.infer_label.specs.Words.{asked, asked_at_end, asked_listed, flag_in, is_dashed, kind_of, labels, option_kind, refusal_listed, refused, step_at, step_listed, stop, texts, value_step, valued_in, word_step};
+ghost use Rattle.infer_label.specs.Words.{asked, asked_at_end, asked_listed, flag_in, is_dashed, kind_of, labels_by, option_kind, refusal_listed, refused, step_at, step_listed, stop, texts, value_step, valued_in, word_step};
 
 use crate::options::{Flag, Options, Valued};
 use infer::Fault;
@@ -40,6 +40,8 @@ pub enum Refusal<'a> {
     Unread(&'a [u8], Fault),
     /// Its text has a mistake.
     Mistaken(&'a [u8], Mistake),
+    /// It is asked why, and what is told comes from elsewhere.
+    ByOthers,
 }
 
 /// What the words of a run ask for.
@@ -104,9 +106,13 @@ fn at_end(due: Option<Valued>, options: Options<'_>) -> Asked<'_>
     }
 }
 
+/// Labels of these paths, unless the options contradict each other.
 fn labels<'a>(options: Options<'a>, paths: &'a [Vec<u8>]) -> Asked<'a>
-    ensures { asked_listed result ≡ labels (options_listed options.entry) (texts paths.entry.now) }
+    ensures { asked_listed result ≡ labels_by (options_listed options.entry) (texts paths.entry.now) }
 {
+    if options.why && options.tell_by_others() {
+        return Asked::Refused(Refusal::ByOthers);
+    }
     Asked::Labels(options, paths)
 }
 
@@ -209,6 +215,9 @@ fn flag_in(word: &[u8]) -> Option<Flag>
     }
     if word == b"--nosniff".as_slice() {
         return Some(Flag::NoSniff);
+    }
+    if word == b"--why".as_slice() {
+        return Some(Flag::Why);
     }
     None
 }

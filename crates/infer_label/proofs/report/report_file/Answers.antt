@@ -1,18 +1,10 @@
-use Rattle.std.proofs.Common.{refl}
 use Rattle.infer_label.specs.Options.{options_listed}
-use Rattle.infer_label.specs.Report.{answer_listed, outcome_of}
-use Rattle.infer_label.proofs.ReportLemmas.{label_of_file}
-use Rattle.infer_label.proofs.WritesLemmas.{written_unless_failed}
+use Rattle.infer_label.specs.Report.{front_listed}
+use Rattle.infer_label.proofs.ReportLemmas.{front_of_file}
 use Rattle.infer_label.proofs.report.report_file.Goals as goal
 
 pub returns-clause-line : goal.returns-clause-line
 returns-clause-line g c =
-    let answer = answer_listed c.tell_opened-answer.result in (
-      outcome_of answer,
-      c.report.ensures.outcome,
-      (
-        answer,
-        label_of_file _ (options_listed c.args.options) c.args.path.now c.map.result c.tell_opened-answer.new.opened answer c.tell_opened-answer.ensures,
-        (refl, written_unless_failed g.W.Write.contents c.report.ensures.line, written_unless_failed g.E.Write.contents c.report.ensures.err_line),
-      ),
-    )
+    let front = front_listed c.read_opened-front.result in
+    let (outcome, is, said) = c.report.ensures.line in
+    (outcome, is, (front, front_of_file _ (options_listed c.args.options).front c.map-opened.result c.read_opened-front.new.opened front c.read_opened-front.ensures, said))

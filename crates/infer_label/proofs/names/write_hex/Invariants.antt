@@ -2,8 +2,8 @@ use Rattle.std.proofs.Common.{take}
 use Rattle.std.specs.List.{flat_map}
 use Rattle.infer_label.specs.Names.{byte_hex}
 use Rattle.infer_label.specs.Writes.{Writes}
-use Rattle.infer_label.proofs.json.write_hex.Given as goal
+use Rattle.infer_label.proofs.names.write_hex.Given as goal
 
 -- the bytes so far were written
 abbrev pub invariant-loop-byte : goal.invariant-loop-byte
-invariant-loop-byte g l = Writes g.W.Write.contents l.initial.out l.out (flat_map byte_hex (take l.byte-index l.name))
+invariant-loop-byte g l = Writes g.W.Write.contents l.initial.out l.out (flat_map byte_hex (take l.byte-index l.bytes))

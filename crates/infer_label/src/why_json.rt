@@ -1,0 +1,145 @@
+//! Why bytes have their answer, as a member of an object of JSON.
+ghost use Rattle.std.specs.Prelude.{◌≡◌, ◌∷◌, [], false, map, option_map};
+ghost use Rattle.infer.specs.Triple.{triple_of};
+ghost use Rattle.infer_more.specs.Wider.{shown_at};
+ghost use Rattle.infer_label.specs.Why.{reason_listed, why_listed};
+ghost use Rattle.infer_label.specs.WhyJson.{accepts_member, answer_member, bool_value, bytes_members, extension_value, length_members, range_object, ranges_member, row_members, why_member, why_object};
+ghost use Rattle.infer_label.specs.WhyText.{in_row, mark_if};
+ghost use Rattle.infer_label.specs.Writes.{Writes};
+
+use crate::names::write_hex;
+use crate::why::{Reason, Why, type_of};
+use infer::Type;
+use infer_lines::WatchedWriter;
+use std::io::Write;
+
+/// What stands between two ranges.
+const COMMA: &[u8] = b",";
+
+/// Writes why bytes have their answer, if that is told.
+pub fn write_why_member<W: Write>(why: Option<&Why<'_>>, out: &mut WatchedWriter<'_, W>)
+    ensures { Writes W.contents out.old out.new (why_member (option_map (λ w. why_listed w.now) why.entry)) }
+{
+    if let Some(why) = why {
+        write_why_object(why, out);
+    }
+}
+
+fn write_why_object<W: Write>(why: &Why<'_>, out: &mut WatchedWriter<'_, W>)
+    ensures { Writes W.contents out.old out.new (why_object (why_listed why.now)) }
+{
+    write_answer_member(why.answer(), out);
+    write_ranges_member(why, out);
+    write_length_members(why, out);
+}
+
+fn write_answer_member<W: Write>(row: Option<usize>, out: &mut WatchedWriter<'_, W>)
+    ensures { Writes W.contents out.old out.new (answer_member row) }
+{
+    out.write_all(b",\"why\":{\"answer\":");
+    write_extension_of(row, out);
+}
+
+fn write_ranges_member<W: Write>(why: &Why<'_>, out: &mut WatchedWriter<'_, W>)
+    ensures { Writes W.contents out.old out.new (ranges_member (why_listed why.now).reasons) }
+{
+    out.write_all(b",\"ranges\":[");
+    write_ranges(why, out);
+}
+
+fn write_ranges<W: Write>(why: &Why<'_>, out: &mut WatchedWriter<'_, W>)
+    ensures { Writes W.contents out.old out.new (in_row COMMA.now false (map range_object (why_listed why.now).reasons)) }
+{
+    let mut before = false;
+    for range in why.ranges() {
+        write_range(&why.reason(range), before, out);
+        before = true;
+    }
+}
+
+/// Writes a range, behind a comma if one stands before it.
+fn write_range<W: Write>(reason: &Reason<'_>, before: bool, out: &mut WatchedWriter<'_, W>)
+    ensures { Writes W.contents out.old out.new (in_row COMMA.now before (range_object (reason_listed reason.now) ∷ [])) }
+{
+    write_comma(before, out);
+    write_object(reason, out);
+}
+
+fn write_comma<W: Write>(before: bool, out: &mut WatchedWriter<'_, W>)
+    ensures { Writes W.contents out.old out.new (mark_if before COMMA.now) }
+{
+    if before {
+        out.write_all(COMMA);
+    }
+}
+
+fn write_object<W: Write>(reason: &Reason<'_>, out: &mut WatchedWriter<'_, W>)
+    ensures { Writes W.contents out.old out.new (range_object (reason_listed reason.now)) }
+{
+    write_bytes_members(reason, out);
+    write_row_members(reason, out);
+}
+
+fn write_bytes_members<W: Write>(reason: &Reason<'_>, out: &mut WatchedWriter<'_, W>)
+    ensures { Writes W.contents out.old out.new (bytes_members (reason_listed reason.now)) }
+{
+    let (place, length) = (reason.place, reason.bytes.len());
+    write!(out, "{{\"place\":{place},\"length\":{length},\"bytes\":\"");
+    write_hex(reason.bytes, out);
+}
+
+fn write_row_members<W: Write>(reason: &Reason<'_>, out: &mut WatchedWriter<'_, W>)
+    ensures { Writes W.contents out.old out.new (row_members (reason_listed reason.now)) }
+{
+    out.write_all(b"\",\"extension\":");
+    write_extension_of(reason.row, out);
+    write_accepts_member(reason.accepts, out);
+}
+
+fn write_accepts_member<W: Write>(accepts: bool, out: &mut WatchedWriter<'_, W>)
+    ensures { Writes W.contents out.old out.new (accepts_member accepts) }
+{
+    out.write_all(b",\"accepts\":");
+    out.write_all(bool_value(accepts).as_bytes());
+    out.write_all(b"}");
+}
+
+/// Writes what is needed of the length.
+fn write_length_members<W: Write>(why: &Why<'_>, out: &mut WatchedWriter<'_, W>)
+    ensures { Writes W.contents out.old out.new (length_members (why_listed why.now)) }
+{
+    let (least, exact, whole) = (
+        why.least(),
+        bool_value(why.is_exact()),
+        bool_value(why.is_whole()),
+    );
+    write!(
+        out,
+        "],\"least\":{least},\"exact\":{exact},\"whole\":{whole}}}"
+    );
+}
+
+/// Writes the extension of a row, and null of none.
+fn write_extension_of<W: Write>(row: Option<usize>, out: &mut WatchedWriter<'_, W>)
+    ensures { Writes W.contents out.old out.new (extension_value (shown_at row)) }
+{
+    write_extension_value(type_of(row), out);
+}
+
+fn write_extension_value<W: Write>(found: Option<Type>, out: &mut WatchedWriter<'_, W>)
+    ensures { Writes W.contents out.old out.new (extension_value (option_map triple_of found)) }
+{
+    match found {
+        Some(found) => {
+            let extension = found.extension();
+            write!(out, "\"{extension}\"");
+        }
+        None => out.write_all(b"null"),
+    }
+}
+
+fn bool_value(is: bool) -> &'static str
+    ensures { result.now ≡ bool_value is }
+{
+    if is { "true" } else { "false" }
+}

@@ -1,0 +1,260 @@
+//! Why bytes have their answer, in words.
+ghost use Rattle.std.specs.Prelude.{◌≡◌, ◌<◌, ◌∷◌, ◌++◌, [], codes, false, option_map};
+ghost use Rattle.std.specs.Fmt.{decimal};
+ghost use Rattle.std.specs.List.{flat_map, list_any};
+ghost use Rattle.infer.specs.Triple.{triple_of};
+ghost use Rattle.infer_label.specs.Why.{reason_listed, why_listed};
+ghost use Rattle.infer_label.specs.WhyText.{byte_shown, bytes_shown, class_word, counted, has_first, in_row, is_other, large_digit, length_texts, mark_if, other_texts, own_texts, reaches, reason_text, reasons_text, room_texts, row_words, ruled_out, stands_before, text_if, why_text};
+ghost use Rattle.infer_label.specs.Writes.{Writes};
+
+use crate::why::{Reason, Why, type_of};
+use infer::{MatcherType, Type};
+use infer_lines::WatchedWriter;
+use std::io::Write;
+
+/// The most bytes of a reason that are written one by one.
+const MOST_SHOWN: usize = 16;
+
+/// What stands between two reasons.
+const MARK: &[u8] = b"; ";
+
+/// Writes why bytes have their answer, if that is told.
+pub fn write_why<W: Write>(why: Option<&Why<'_>>, out: &mut WatchedWriter<'_, W>)
+    ensures { Writes W.contents out.old out.new (why_text (option_map (λ w. why_listed w.now) why.entry)) }
+{
+    if let Some(why) = why {
+        write_reasons(why, out);
+    }
+}
+
+fn write_reasons<W: Write>(why: &Why<'_>, out: &mut WatchedWriter<'_, W>)
+    ensures { Writes W.contents out.old out.new (reasons_text (why_listed why.now)) }
+{
+    out.write_all(b": ");
+    let before = write_own(why, out);
+    let before = write_others(why, before, out);
+    let before = write_length(why, before, out);
+    write_room(why.is_whole(), before, out);
+}
+
+/// Writes the bytes by which a row accepts. This and each function below that writes reasons tells whether some stand before
+/// what follows.
+fn write_own<W: Write>(why: &Why<'_>, out: &mut WatchedWriter<'_, W>) -> bool
+    ensures texts { Writes W.contents out.old out.new (in_row MARK.now false (own_texts (why_listed why.now).reasons)) }
+    ensures before { result ≡ stands_before false (own_texts (why_listed why.now).reasons) }
+{
+    let mut before = false;
+    for range in why.ranges() {
+        let reason = why.reason(range);
+        before = write_if(reason.accepts, &reason, before, out);
+    }
+    before
+}
+
+/// Writes what bytes rule out.
+fn write_others<W: Write>(why: &Why<'_>, before: bool, out: &mut WatchedWriter<'_, W>) -> bool
+    ensures texts { Writes W.contents out.old out.new (in_row MARK.now before (other_texts (why_listed why.now).reasons)) }
+    ensures before { result ≡ stands_before before (other_texts (why_listed why.now).reasons) }
+{
+    let first_is_told = tells_first(why);
+    let mut some = before;
+    for range in why.ranges() {
+        let reason = why.reason(range);
+        some = write_if(is_other(first_is_told, &reason), &reason, some, out);
+    }
+    some
+}
+
+/// Writes what is needed of the length.
+fn write_length<W: Write>(why: &Why<'_>, before: bool, out: &mut WatchedWriter<'_, W>) -> bool
+    ensures texts { Writes W.contents out.old out.new (in_row MARK.now before (length_texts (why_listed why.now))) }
+    ensures before { result ≡ stands_before before (length_texts (why_listed why.now)) }
+{
+    if why.is_exact() {
+        write_counted("just", why.least(), before, out);
+        return true;
+    }
+    if reaches_least(why) {
+        return before;
+    }
+    write_counted("at least", why.least(), before, out);
+    true
+}
+
+/// Writes a number of bytes that is needed.
+fn write_counted<W: Write>(word: &str, n: usize, before: bool, out: &mut WatchedWriter<'_, W>)
+    ensures { Writes W.contents out.old out.new (in_row MARK.now before ((word.now ++ (codes " " ++ counted n)) ∷ [])) }
+{
+    write_mark(before, out);
+    write!(out, "{word} ");
+    write_count(n, out);
+}
+
+/// Writes that there are more reasons, if there was no room for all.
+fn write_room<W: Write>(is_whole: bool, before: bool, out: &mut WatchedWriter<'_, W>)
+    ensures { Writes W.contents out.old out.new (in_row MARK.now before (room_texts is_whole)) }
+{
+    if !is_whole {
+        write_mark(before, out);
+        out.write_all(b"and more than there is room for");
+    }
+}
+
+/// Whether a row's bytes begin with the first.
+fn tells_first(why: &Why<'_>) -> bool
+    ensures { result ≡ list_any has_first (why_listed why.now).reasons }
+{
+    for range in why.ranges() {
+        if has_first(&why.reason(range)) {
+            return true;
+        }
+    }
+    false
+}
+
+fn has_first(reason: &Reason<'_>) -> bool
+    ensures { result ≡ has_first (reason_listed reason.now) }
+{
+    reason.row.is_some() && reason.place == 0 && !reason.bytes.is_empty()
+}
+
+/// Whether some bytes end there, or behind, where the least length does.
+fn reaches_least(why: &Why<'_>) -> bool
+    ensures { result ≡ list_any (reaches (why_listed why.now).least) (why_listed why.now).reasons }
+{
+    let least = why.least();
+    for range in why.ranges() {
+        if reaches(least, &why.reason(range)) {
+            return true;
+        }
+    }
+    false
+}
+
+fn reaches(n: usize, reason: &Reason<'_>) -> bool
+    ensures { result ≡ reaches n (reason_listed reason.now) }
+{
+    n.saturating_sub(reason.bytes.len()) <= reason.place
+}
+
+/// Whether the reason rules out, and that is to be told.
+fn is_other(first_is_told: bool, reason: &Reason<'_>) -> bool
+    ensures { result ≡ is_other first_is_told (reason_listed reason.now) }
+{
+    !reason.accepts && (reason.row.is_some() || !first_is_told)
+}
+
+/// Writes a reason, if it is to be told.
+fn write_if<W: Write>(
+    is_told: bool,
+    reason: &Reason<'_>,
+    before: bool,
+    out: &mut WatchedWriter<'_, W>,
+) -> bool
+    ensures texts { Writes W.contents out.old out.new (in_row MARK.now before (text_if is_told (reason_listed reason.now))) }
+    ensures before { result ≡ stands_before before (text_if is_told (reason_listed reason.now)) }
+{
+    if !is_told {
+        return before;
+    }
+    write_mark(before, out);
+    write_reason(reason, out);
+    true
+}
+
+fn write_mark<W: Write>(before: bool, out: &mut WatchedWriter<'_, W>)
+    ensures { Writes W.contents out.old out.new (mark_if before MARK.now) }
+{
+    if before {
+        out.write_all(MARK);
+    }
+}
+
+fn write_reason<W: Write>(reason: &Reason<'_>, out: &mut WatchedWriter<'_, W>)
+    ensures { Writes W.contents out.old out.new (reason_text (reason_listed reason.now)) }
+{
+    write_ruled_out(reason.accepts, reason.row, out);
+    write_bytes(reason.bytes, out);
+    let place = reason.place;
+    write!(out, "at {place}");
+}
+
+/// Writes what is ruled out.
+fn write_ruled_out<W: Write>(accepts: bool, row: Option<usize>, out: &mut WatchedWriter<'_, W>)
+    ensures { Writes W.contents out.old out.new (ruled_out accepts row) }
+{
+    if accepts {
+        return;
+    }
+    if row.is_none() {
+        return out.write_all(b"nothing that begins otherwise: ");
+    }
+    out.write_all(b"no ");
+    write_row(type_of(row), out);
+    out.write_all(b": ");
+}
+
+/// Writes a row: its extension, and what its class is called.
+fn write_row<W: Write>(found: Option<Type>, out: &mut WatchedWriter<'_, W>)
+    ensures { Writes W.contents out.old out.new (row_words (option_map triple_of found)) }
+{
+    match found {
+        Some(found) => {
+            let (extension, class) = (found.extension(), class_word(found.matcher_type()));
+            write!(out, "{extension} {class}");
+        }
+        None => out.write_all(b"other type"),
+    }
+}
+
+/// What a class is called.
+fn class_word(class: MatcherType) -> &'static str
+    ensures { result.now ≡ class_word class }
+{
+    match class {
+        MatcherType::App | MatcherType::Custom => "file",
+        MatcherType::Archive => "archive",
+        MatcherType::Audio => "audio file",
+        MatcherType::Book => "book",
+        MatcherType::Doc => "document",
+        MatcherType::Font => "font",
+        MatcherType::Image => "image",
+        MatcherType::Text => "text",
+        MatcherType::Video => "video",
+    }
+}
+
+/// Writes bytes one by one if they are few, and else how many they are.
+fn write_bytes<W: Write>(bytes: &[u8], out: &mut WatchedWriter<'_, W>)
+    ensures { Writes W.contents out.old out.new (bytes_shown bytes.now) }
+{
+    if bytes.len() <= MOST_SHOWN {
+        return write_each(bytes, out);
+    }
+    write_count(bytes.len(), out);
+    out.write_all(b" ");
+}
+
+fn write_each<W: Write>(bytes: &[u8], out: &mut WatchedWriter<'_, W>)
+    ensures { Writes W.contents out.old out.new (flat_map byte_shown bytes.now) }
+{
+    for byte in bytes {
+        out.write_all(&[large_digit(*byte / 16 % 16), large_digit(*byte % 16), b' ']);
+    }
+}
+
+/// The digit of a number below 16.
+fn large_digit(n: u8) -> u8
+    requires { n < 16 }
+    ensures { result ≡ large_digit n }
+{
+    if n < 10 { b'0' + n } else { b'A' - 10 + n }
+}
+
+/// Writes a number of bytes.
+fn write_count<W: Write>(n: usize, out: &mut WatchedWriter<'_, W>)
+    ensures { Writes W.contents out.old out.new (counted n) }
+{
+    let word = if n == 1 { "byte" } else { "bytes" };
+    write!(out, "{n} {word}");
+}
