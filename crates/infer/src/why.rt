@@ -1,11 +1,11 @@
 //! The bytes of a buffer that decide its answer.
-ghost use Rattle.std.specs.Prelude.{◌≡◌, ◌↔◌, ◌+◌, ◌*◌, ◌<◌, ◌≤◌, ℕ, List, IfSome, IsTrue, length};
+ghost use Rattle.std.specs.Prelude.{◌≡◌, ◌↔◌, ◌+◌, ◌*◌, ◌<◌, ◌≤◌, IfSome, IsTrue, length};
 ghost use Rattle.infer.specs.Evidence.{Decides, IsTold, TellsFirst, TellsRow};
 ghost use Rattle.infer.specs.First.{IsFirstOf};
 ghost use Rattle.infer.specs.Row.{Accepts};
 ghost use Rattle.infer.specs.Table.{table};
 ghost use Rattle.infer.specs.Walks.{IsFirstAmong, RowHas};
-ghost use Rattle.infer_evidence.specs.Evidence.{AgreesOn, IsInside, IsOf, IsSame};
+ghost use Rattle.infer_evidence.specs.Evidence.{IsOf};
 
 use crate::ask::question::accepts;
 use crate::candidates::dispatch::{arm_of, blank, candidates_at, leads};
@@ -47,20 +47,6 @@ fn front(len: usize, row: usize) -> Range
     }
 }
 
-/// Asks for a front: that by which a row accepts, or one that rules it out.
-fn ask_front(range: Range, accepts: bool, evidence: &mut Evidence)
-    ensures same { (b c : List ℕ) → AgreesOn evidence.new b c → AgreesOn evidence.old b c
-        × IsSame b c range }
-    ensures inside { (b : List ℕ) → IsOf evidence.old b → IsInside b range → IsOf evidence.new b }
-    ensures few { evidence.new.count ≤ evidence.old.count + 1 }
-{
-    if accepts {
-        evidence.ask_held(range);
-    } else {
-        evidence.ask(range);
-    }
-}
-
 /// Asks for the shortest front that tells of the row, and for the whole buffer if none does.
 fn weigh_front(told: &Acceptance, buf: &[u8], evidence: &mut Evidence)
     ensures tells { TellsRow evidence.old evidence.new buf.now told.now.row }
@@ -70,9 +56,9 @@ fn weigh_front(told: &Acceptance, buf: &[u8], evidence: &mut Evidence)
     infer_sig::laws::growth();
     infer_deep::laws::growth();
     match shortest_front(told, buf) {
-        Some(len) => ask_front(front(len, told.row), told.accepts, evidence),
+        Some(len) => evidence.ask_front(front(len, told.row), told.accepts),
         None => {
-            ask_front(front(buf.len(), told.row), told.accepts, evidence);
+            evidence.ask_front(front(buf.len(), told.row), told.accepts);
             evidence.ask_exact();
         }
     }

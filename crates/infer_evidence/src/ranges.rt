@@ -98,7 +98,7 @@ impl Evidence {
     /// Asks for the bytes of a range by which a row accepts, also where a range with all of them is asked for: so these are
     /// told.
     #[tactic(auto, using(crate::proofs::RangeLemmas::one_more, crate::proofs::RangeLemmas::one_more_inside, crate::proofs::RangeLemmas::no_more))]
-    pub fn ask_held(&mut self, range: Range)
+    pub(crate) fn ask_held(&mut self, range: Range)
         ensures same { (b c : List ℕ) → AgreesOn self.new b c → AgreesOn self.old b c
             × IsSame b c range }
         ensures inside { (b : List ℕ) → IsOf self.old b → IsInside b range → IsOf self.new b }
@@ -126,6 +126,20 @@ impl Evidence {
             return;
         }
         self.ask_held(range);
+    }
+
+    /// Asks for the bytes of a range by which a row accepts, or which rule it out.
+    pub fn ask_front(&mut self, range: Range, accepts: bool)
+        ensures same { (b c : List ℕ) → AgreesOn self.new b c → AgreesOn self.old b c
+            × IsSame b c range }
+        ensures inside { (b : List ℕ) → IsOf self.old b → IsInside b range → IsOf self.new b }
+        ensures few { self.new.count ≤ self.old.count + 1 }
+    {
+        if accepts {
+            self.ask_held(range);
+        } else {
+            self.ask(range);
+        }
     }
 
     /// Asks for that many bytes at least.

@@ -1,8 +1,8 @@
 //! The bytes of a buffer that decide its wider answer.
-ghost use Rattle.std.specs.Prelude.{◌≡◌, ◌↔◌, ◌+◌, ◌<◌, ℕ, List, All, Any, IfSome, IsTrue, Some, slice_get};
+ghost use Rattle.std.specs.Prelude.{◌≡◌, ◌↔◌, ◌+◌, ◌<◌, All, Any, IfSome, IsTrue, Some, slice_get};
 ghost use Rattle.infer.specs.First.{IsFirstOf};
 ghost use Rattle.infer.specs.declared.table.rows.TheConstants.{ROW_COUNT};
-ghost use Rattle.infer_evidence.specs.Evidence.{AgreesOn, IsInside, IsOf, IsSame};
+ghost use Rattle.infer_evidence.specs.Evidence.{IsOf};
 ghost use Rattle.infer_evidence.specs.Weighed.{HasParts};
 ghost use Rattle.infer_notation.specs.Alternative.{Accepted};
 ghost use Rattle.infer_more.specs.Listed.{row_listed, signature_listed};
@@ -69,28 +69,15 @@ impl Told for Acceptance {
     }
 }
 
-/// Asks for a front: that by which a row accepts, or one that rules it out.
-fn ask_front(range: Range, accepts: bool, evidence: &mut Evidence)
-    ensures same { (b c : List ℕ) → AgreesOn evidence.new b c → AgreesOn evidence.old b c
-        × IsSame b c range }
-    ensures inside { (b : List ℕ) → IsOf evidence.old b → IsInside b range → IsOf evidence.new b }
-{
-    if accepts {
-        evidence.ask_held(range);
-    } else {
-        evidence.ask(range);
-    }
-}
-
 /// Asks for the shortest front that tells if the row accepts, and for the whole buffer if none does.
 fn weigh_front(told: &Acceptance, buf: &[u8], evidence: &mut Evidence)
     ensures tells { Tells evidence.old evidence.new buf.now (IsAlikeAt told.now.i buf.now) }
     ensures inside { IsOf evidence.old buf.now → IsOf evidence.new buf.now }
 {
     match shortest_front(told, buf) {
-        Some(len) => ask_front(front(len, told.i), told.accepts, evidence),
+        Some(len) => evidence.ask_front(front(len, told.i), told.accepts),
         None => {
-            ask_front(front(buf.len(), told.i), told.accepts, evidence);
+            evidence.ask_front(front(buf.len(), told.i), told.accepts);
             evidence.ask_exact();
         }
     }
