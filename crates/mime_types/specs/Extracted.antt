@@ -31,6 +31,22 @@ is_any k = bytes_eq k.type_name (codes "*") && bytes_eq k.subtype (codes "*")
 abbrev pub usable : List ℕ → Option Mime
 usable t = if is_said t && not (is_any (mime_said t).kind) then Some (mime_said t) else None
 
+-- and what stands behind its subtype, with the parameters
+abbrev pub usable_tail : List ℕ → Option (List ℕ)
+usable_tail t = if is_said t && not (is_any (mime_said t).kind) then Some (tail_text t) else None
+
+-- the tails of what pieces say, in order
+abbrev pub tails : List (List ℕ) → List (List ℕ)
+tails [] = []
+tails (p ∷ ps) = option_to_list (usable_tail p) ++ tails ps
+
+abbrev pub EndsInTail : List (List ℕ) → List ℕ → Type 0
+EndsInTail ts tail = (earlier : List (List ℕ)) × (ts ≡ earlier ++ tail ∷ [])
+
+abbrev pub IsLastTail : List (List ℕ) → Option Run → Type 0
+IsLastTail ts None = ts ≡ []
+IsLastTail ts (Some run) = EndsInTail ts run.last.tail.now
+
 -- the MIME types that pieces say, in order
 abbrev pub said : List (List ℕ) → List Mime
 said [] = []

@@ -1,7 +1,7 @@
 //! What the values of `Content-Type` say together.
-ghost use Rattle.std.specs.Prelude.{◌≡◌, ◌↔◌, ◌++◌, ◌∷◌, [], IsTrue, List, Some, option_map, option_to_list};
+ghost use Rattle.std.specs.Prelude.{◌≡◌, ◌↔◌, ◌++◌, ◌∷◌, [], ℕ, IfSome, IsTrue, List, Some, option_map, option_to_list};
 ghost use Rattle.std.specs.Option.{option_or};
-ghost use Rattle.mime_types.specs.Extracted.{EndsInRun, IsExtracted, IsLastRun, charset_of, said, usable};
+ghost use Rattle.mime_types.specs.Extracted.{EndsInRun, EndsInTail, IsExtracted, IsLastRun, IsLastTail, charset_of, said, tails, usable, usable_tail};
 ghost use Rattle.mime_types.specs.Mime.{Mime};
 ghost use Rattle.mime_types.specs.Pieces.{pieces};
 ghost use Rattle.mime_types.specs.Seen.{kind_of, mime_of, value_seen};
@@ -37,7 +37,8 @@ struct Run<'a> {
 /// assert_eq!(rt; found.charset.ok_or("a charset")?.text, b"gbk".as_slice());
 /// ```
 pub fn extract(value: &[u8]) -> Option<Extracted<'_>>
-    ensures { IsExtracted value.now result }
+    ensures says { IsExtracted value.now result }
+    ensures tail { IfSome result (λ found. EndsInTail (tails (pieces value.now)) found.mime_type.tail.now) }
 {
     match last_run(value) {
         None => None,
@@ -59,7 +60,8 @@ fn or_else<'a>(own: Option<Value<'a>>, carried: Option<Value<'a>>) -> Option<Val
 }
 
 fn last_run(value: &[u8]) -> Option<Run<'_>>
-    ensures { IsLastRun (said (pieces value.now)) result }
+    ensures says { IsLastRun (said (pieces value.now)) result }
+    ensures tail { IsLastTail (tails (pieces value.now)) result }
 {
     let mut run = None;
     let mut left = Pieces::new(value);
@@ -71,7 +73,8 @@ fn last_run(value: &[u8]) -> Option<Run<'_>>
 
 /// The run with what a piece says behind it.
 fn extended<'a>(run: Option<Run<'a>>, piece: &'a [u8]) -> Option<Run<'a>>
-    ensures { (ms : List Mime) → IsLastRun ms run.entry → IsLastRun (ms ++ option_to_list (usable piece.now)) result }
+    ensures says { (ms : List Mime) → IsLastRun ms run.entry → IsLastRun (ms ++ option_to_list (usable piece.now)) result }
+    ensures tail { (ts : List (List ℕ)) → IsLastTail ts run.entry → IsLastTail (ts ++ option_to_list (usable_tail piece.now)) result }
 {
     match usable(piece) {
         None => run,
@@ -80,7 +83,8 @@ fn extended<'a>(run: Option<Run<'a>>, piece: &'a [u8]) -> Option<Run<'a>>
 }
 
 fn continued<'a>(run: Option<Run<'a>>, found: &MimeType<'a>) -> Run<'a>
-    ensures { (ms : List Mime) → IsLastRun ms run.entry → IsLastRun (ms ++ mime_of found.now ∷ []) (Some result) }
+    ensures says { (ms : List Mime) → IsLastRun ms run.entry → IsLastRun (ms ++ mime_of found.now ∷ []) (Some result) }
+    ensures tail { result.last.tail.now ≡ found.now.tail.now }
 {
     let last = *found;
     match run {
@@ -111,7 +115,8 @@ fn is_of_kind(found: &MimeType<'_>, other: &MimeType<'_>) -> bool
 
 /// The MIME type that a piece says, if it says one other than `*/*`.
 fn usable(piece: &[u8]) -> Option<MimeType<'_>>
-    ensures { option_map mime_of result ≡ usable piece.now }
+    ensures says { option_map mime_of result ≡ usable piece.now }
+    ensures tail { option_map (λ found. found.tail.now) result ≡ usable_tail piece.now }
 {
     match parse(piece) {
         None => None,
