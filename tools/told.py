@@ -185,10 +185,14 @@ def is_told(mime_type, extension, more, named):
     return is_known and {*more.split(", ")[1:]} <= {*words, "us-ascii", "utf-8", "utf-16le", "utf-16be"}
 
 
-def is_reason(text):
-    """Whether it is a range of bytes, perhaps with the row that it rules out, or what is needed of the length."""
-    found = re.fullmatch(r"(?:no (\w+) [a-z ]+: |nothing that begins otherwise: )?(?:[0-9A-F]{2}(?: [0-9A-F]{2}){0,15}|\d+ bytes) at \d+|(?:at least|just) \d+ bytes?|and more than there is room for", text)
-    return found is not None and found[1] in {None, *(extension for _, extension, *_ in rows())}
+def are_reasons(text):
+    """Whether infer_label says such things of why it is so: of rows that there are, with what their class is called."""
+    called = re.findall(r'(MatcherType::[\w |:]+) => "(.*)",', text_of("crates/infer_label/src/why_text.rt"))
+    words = {it.lower(): word for names, word in called for it in re.findall(r"::(\w+)", names)}
+    named = {(extension, words[it]) for _, extension, it in rows()}
+    place = r"(?:(?:[0-9A-F]{2} )+|\d+ bytes )at \d+"
+    found = [re.fullmatch(rf"(?:no (\w+) ([a-z ]+): |nothing that begins otherwise: )?{place}|(?:just|at least) \d+ bytes?|and more than there is room for", it) for it in text.split("; ")]
+    return all(it and (not it[1] or it.groups() in named) for it in found)
 
 
 def check_lines(page):
@@ -196,8 +200,8 @@ def check_lines(page):
     for line in [*spans(page), *blocks_of(page)]:
         found = re.fullmatch(r"(?:[\w.-]*/)*(?:[\w-]+\.\w+|-|folder|dll): (\S.*)", line)
         if found:
-            is_type = re.fullmatch(rf"({TYPE})(?: (\w+))?((?:, [\w -]+)*)(?:: named ({TYPE}))?(?:: (.*))?", found[1])
-            fits = is_told(*is_type.groups()[:4]) and all(map(is_reason, (is_type[5] or "just 0 bytes").split("; "))) if is_type else found[1] in said()
+            is_type = re.fullmatch(rf"({TYPE})(?: (\w+))?((?:, [\w -]+)*)(?:: named ({TYPE}))?(?:: (.+))?", found[1])
+            fits = is_told(*is_type.groups()[:4]) and are_reasons(is_type[5] or "at least 1 byte") if is_type else found[1] in said()
             yield fits, f"{page}: the program prints no line such as '{line}'"
     texts = re.findall(r'&\[u8\] = b"(.*)\\n"', text_of("crates/infer_tool/src/run.rt"))
     for line in spans(page):
