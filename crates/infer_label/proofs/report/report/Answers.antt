@@ -1,4 +1,4 @@
-use Rattle.std.proofs.Common.{[], Err, Ok, ap, refl, subst, sym, ◌∙◌}
+use Rattle.std.proofs.Common.{[], Err, Ok, refl, subst, sym, ◌∙◌}
 use Rattle.infer_lines.specs.Said.{Says, stream}
 use Rattle.infer_lines.specs.Writer.{has_failed}
 use Rattle.infer_label.specs.Options.{options_listed}
