@@ -4,26 +4,27 @@ package infer
 #include "library.h"
 
 struct evidence {
-	int32_t row;
+	int32_t row, built_in;
 	infer_needs needs;
 	infer_range ranges[INFER_MOST_RANGES];
 };
 static struct evidence evidence(const uint8_t *buf, size_t len) {
 	struct evidence found;
-	found.row = infer_evidence(buf, len, found.ranges, INFER_MOST_RANGES, &found.needs);
+	found.row = found.built_in = infer_evidence(buf, len, found.ranges, INFER_MOST_RANGES, &found.needs);
 	return found;
 }
 static struct evidence more_evidence(const uint8_t *buf, size_t len) {
 	struct evidence found;
 	found.row = infer_more_evidence(buf, len, found.ranges, INFER_MOST_RANGES, &found.needs);
+	found.built_in = infer_position(buf, len);
 	return found;
 }
 */
 import "C"
 
 // Range is bytes that decide an answer: where the first of them stands, how many they are, the type of which they tell, and
-// whether this is the answer, which accepts by them. Otherwise they rule it out. The type of the first byte is empty: it
-// rules out all types that begin with another.
+// whether it accepts by them: this is the answer, or the built-in one that it makes more exact. Otherwise they rule it out.
+// The type of the first byte is empty: it rules out all types that begin with another.
 type Range struct {
 	Place, Len int
 	Type       Type
@@ -60,7 +61,7 @@ func evidenceOf(found *C.struct_evidence) Evidence {
 	for i := 0; i < evidence.Wanted && i < len(found.ranges); i++ {
 		it := &found.ranges[i]
 		of, isOne := typeOf(int(it.row))
-		evidence.Ranges = append(evidence.Ranges, Range{int(it.place), int(it.len), of, isOne && it.row == found.row})
+		evidence.Ranges = append(evidence.Ranges, Range{int(it.place), int(it.len), of, isOne && (it.row == found.row || it.row == found.built_in)})
 	}
 	return evidence
 }

@@ -54,7 +54,7 @@ export interface EvidenceRange {
     readonly length: number;
     /** The type of which they tell. It is undefined of the first byte, which rules out all types that begin with another. */
     readonly type: KnownType | undefined;
-    /** Whether this is the answer, which accepts by these bytes. Otherwise they rule it out. */
+    /** Whether it accepts by these bytes: this is the answer, or the built-in one that it makes more exact. Otherwise they rule it out. */
     readonly accepts: boolean;
 }
 

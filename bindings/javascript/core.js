@@ -177,14 +177,16 @@ const hold = (text) => {
 };
 
 const evidenceOf = (question, input) => {
-    const row = question(place, hand(input), at(RANGES), BigInt(MOST_RANGES), at(NEEDS));
+    const size = hand(input);
+    const row = question(place, size, at(RANGES), BigInt(MOST_RANGES), at(NEEDS));
+    const accepting = [row, infer.infer_position(place, size)];
     const numbers = new DataView(room.buffer, room.byteOffset, TYPES);
     const numberAt = (distance) => Number(numbers.getBigUint64(distance, true));
     const wanted = numberAt(NEEDS);
     const ranges = Array.from({ length: Math.min(wanted, MOST_RANGES) }, (_, index) => {
         const from = RANGES + index * RANGE;
         const of = numbers.getInt32(from + 16, true);
-        return { place: numberAt(from), length: numberAt(from + 8), type: knownTypes[of], accepts: of >= 0 && of === row };
+        return { place: numberAt(from), length: numberAt(from + 8), type: knownTypes[of], accepts: of >= 0 && accepting.includes(of) };
     });
     return { type: answerOf(row), ranges, wanted, least: numberAt(NEEDS + 8), isExact: room[NEEDS + 16] !== 0 };
 };

@@ -161,7 +161,7 @@ const reasonsOf = (front, { ranges, wanted, least, isExact }) => {
     const sorted = [...ranges.filter(({ accepts }) => accepts), ...ranges.filter(({ accepts }) => !accepts)];
     const reasons = sorted.map((range) => [headOf(range), rangeText(front, range)]);
     if (isExact) reasons.push(["Of its length", `just ${counted(front.length, "byte")}`]);
-    else if (least > 0) reasons.push(["Of its length", `at least ${counted(least, "byte")}`]);
+    else if (least > Math.max(0, ...ranges.map(({ place, length }) => place + length))) reasons.push(["Of its length", `at least ${counted(least, "byte")}`]);
     if (wanted > ranges.length) reasons.push(["And", "more than there is room for"]);
     return reasons;
 };

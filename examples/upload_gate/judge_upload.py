@@ -58,8 +58,11 @@ def reasons(path: str) -> str:
     found = infer.evidence(whole, more=True)
     with open(path, "rb") as file:
         words = [told(file, it) for it in sorted(found.ranges, key=lambda it: not it.accepts)]
-    if found.is_exact or found.least:
-        words.append(f"just {len(whole)} bytes" if found.is_exact else f"at least {found.least} bytes")
+    # A range that reaches so far says so already.
+    if found.is_exact:
+        words.append(f"just {len(whole)} bytes")
+    elif found.least > max((it.place + it.length for it in found.ranges), default=0):
+        words.append(f"at least {found.least} bytes")
     return "; ".join(words + ["and more than there is room for"] * (found.wanted > len(found.ranges)))
 
 

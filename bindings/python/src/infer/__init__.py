@@ -212,7 +212,8 @@ class Range(NamedTuple):
     type: Type | None
     """The type of which they tell. None is that of the first byte, which rules out all types that begin with another."""
     accepts: bool
-    """Whether this is the answer, which accepts by these bytes. Otherwise they rule it out."""
+    """Whether it accepts by these bytes: this is the answer, or the built-in one that it makes more exact. Otherwise they rule it
+    out."""
 
 
 class Evidence(NamedTuple):
@@ -236,8 +237,10 @@ def evidence(obj: Source, more: bool = False) -> Evidence:
 
     >>> [(it.place, it.length, it.type and it.type.extension) for it in infer.evidence(b"GIF89a").ranges]
     [(0, 1, None), (0, 3, 'gif')]"""
-    row, ranges, wanted, least, is_exact = _library.evidence(get_front(obj), more)
-    told = tuple(Range(place, length, _all_rows[of] if of >= 0 else None, 0 <= of == row) for place, length, of in ranges)
+    front = get_front(obj)
+    row, ranges, wanted, least, is_exact = _library.evidence(front, more)
+    accepting = {row, _library.position(front, len(front))} - {-1}
+    told = tuple(Range(place, length, _all_rows[of] if of >= 0 else None, of in accepting) for place, length, of in ranges)
     return Evidence(_all_rows[row] if row >= 0 else None, told, wanted, least, is_exact)
 
 

@@ -11,7 +11,8 @@ pub struct Range {
     pub len: usize,
     /// The type of which they tell. `None` is that of the first byte, which rules out all types that begin with another.
     pub of: Option<Type>,
-    /// Whether this is the answer, which accepts by these bytes. Otherwise they rule it out.
+    /// Whether it accepts by these bytes: this is the answer, or the built-in one that it makes more exact. Otherwise they
+    /// rule it out.
     pub accepts: bool,
 }
 
@@ -33,7 +34,8 @@ pub struct Evidence {
 impl Evidence {
     pub(crate) fn of(why: &Why) -> Evidence {
         let of_row = |row: i32| usize::try_from(row).ok().map(|row| ffi::all_rows()[row]);
-        let range = |it: &ffi::Range| Range { place: it.place, len: it.len, of: of_row(it.row), accepts: it.row >= 0 && it.row == why.row };
+        let accepts = |row: i32| row >= 0 && (row == why.row || row == why.built_in);
+        let range = |it: &ffi::Range| Range { place: it.place, len: it.len, of: of_row(it.row), accepts: accepts(it.row) };
         Evidence {
             told: of_row(why.row),
             ranges: why.ranges().iter().map(range).collect(),

@@ -182,6 +182,7 @@ const MOST_RANGES: usize = 128;
 /// The number of an answer's row, or -1, and what decides it.
 pub struct Why {
     pub row: i32,
+    pub built_in: i32,
     pub needs: Needs,
     room: [Range; MOST_RANGES],
 }
@@ -189,7 +190,7 @@ pub struct Why {
 impl Why {
     fn new() -> Why {
         let needs = Needs { wanted: 0, least: 0, is_exact: false };
-        Why { row: -1, needs, room: [Range { place: 0, len: 0, row: -1 }; MOST_RANGES] }
+        Why { row: -1, built_in: -1, needs, room: [Range { place: 0, len: 0, row: -1 }; MOST_RANGES] }
     }
 
     pub fn ranges(&self) -> &[Range] {
@@ -202,6 +203,7 @@ pub fn evidence(buf: &[u8]) -> Why {
     let mut why = Why::new();
     // SAFETY: as above, with room for as many ranges as are said, and `needs` is written.
     why.row = unsafe { c::infer_evidence(buf.as_ptr().cast(), buf.len(), why.room.as_mut_ptr(), MOST_RANGES, &mut why.needs) };
+    why.built_in = why.row;
     why
 }
 
@@ -210,6 +212,8 @@ pub fn more_evidence(buf: &[u8]) -> Why {
     let mut why = Why::new();
     // SAFETY: as above.
     why.row = unsafe { c::infer_more_evidence(buf.as_ptr().cast(), buf.len(), why.room.as_mut_ptr(), MOST_RANGES, &mut why.needs) };
+    // SAFETY: as above.
+    why.built_in = unsafe { c::infer_position(buf.as_ptr().cast(), buf.len()) };
     why
 }
 
