@@ -113,11 +113,11 @@ bool infer_more_may_become(const void *buf, size_t len, int32_t row);
  * 60 has the row of an e-book: it rules that out. 1 byte at 0 rules out all rows that begin otherwise, so its row is -1.
  * Of the length at least 4 bytes are needed.
  *
- * A range tells of a row: of the answer, which accepts by these bytes, or of one before it, which they rule out. Where
- * `is_exact` is true another length is not enough either. `wanted` says how many ranges there are. The first `room` of them
- * are written to `ranges`, and nothing behind them. If there are more, or more than INFER_MOST_RANGES, those that were written
- * are not enough; of infer_evidence there are at most 101. With `room` 0 `ranges` may be null. `needs` must not be null. A
- * call takes some 5 KB of the stack. */
+ * A range tells of a row: of the answer, which accepts by these bytes, as does the built-in one that a further row makes
+ * more exact; or of a row before it, which they rule out. Where `is_exact` is true another length is not enough either.
+ * `wanted` says how many ranges there are. The first `room` of them are written to `ranges`, and nothing behind them. If
+ * there are more, or more than INFER_MOST_RANGES, those that were written are not enough; of infer_evidence there are at most
+ * 101. With `room` 0 `ranges` may be null. `needs` must not be null. A call takes some 5 KB of the stack. */
 #define INFER_MOST_RANGES 128
 typedef struct infer_range {
     size_t place, len;

@@ -97,8 +97,8 @@ fn weigh_rows(rows: &[usize], buf: &[u8], evidence: &mut Evidence) -> Option<usi
 }
 
 /// The number of the first built-in row that accepts `buf`, as [`position`](crate::position) answers, and what decides it: the
-/// bytes of at most [`MOST_RANGES`](infer_evidence::MOST_RANGES) ranges, and what is needed of the length. Every buffer with the same bytes in these ranges and such a
-/// length has the same answer.
+/// bytes of at most [`MOST_RANGES`](infer_evidence::MOST_RANGES) ranges, and what is needed of the length. Every buffer with
+/// the same bytes in these ranges and such a length has the same answer.
 ///
 /// A range says of which row it tells: of the answer, which accepts by these bytes, or of a row before it, which they rule
 /// out. A row that asks for bytes at fixed places has the bytes that it asks for, or one that is another. Of a row that reads

@@ -219,8 +219,9 @@ fn widen(parent: Option<usize>, buf: &[u8], evidence: &mut Evidence) -> Option<u
 /// ranges, and what is needed of the length. Every buffer with the same bytes in these ranges and such a length has the same
 /// answer, unless more ranges are wanted than there is room for.
 ///
-/// A further row that asks for bytes at fixed places has the bytes that it asks for, or one that is another. Of every other
-/// row they are the shortest front that tells, and the whole buffer if more bytes may always change it, as of text.
+/// The built-in answer accepts by its bytes too. A further row that asks for bytes at fixed places has those, or one that is
+/// another. Of every other row they are the shortest front that tells, and the whole buffer if more bytes may always change
+/// it, as of text.
 pub fn evidence(buf: &[u8], evidence: &mut Evidence) -> Option<usize>
     ensures wider { IsWider buf.now result }
     ensures decides { Decides evidence.new buf.now result }
