@@ -122,6 +122,23 @@ static void ask_mime(const char *buf, size_t len) {
     note(infer_mime_is_decided(type, strlen(type), flags, buf, len) + 2 * infer_mime_may_be_scriptable(buf, len));
 }
 
+typedef int32_t evidence_of(const void *buf, size_t len, infer_range *ranges, size_t room, infer_needs *needs);
+
+/* What decides, with as much room as chance gives. */
+static void ask_evidence(evidence_of *evidence, const void *buf, size_t len) {
+    infer_range ranges[INFER_MOST_RANGES];
+    infer_needs needs;
+    size_t room = (size_t)next(INFER_MOST_RANGES + 1);
+    note(evidence(buf, len, ranges, room, &needs));
+    note((int64_t)needs.wanted);
+    note((int64_t)needs.least * 2 + needs.is_exact);
+    for (size_t i = 0; i < needs.wanted && i < room; i++) {
+        note((int64_t)ranges[i].place);
+        note((int64_t)ranges[i].len);
+        note(ranges[i].row);
+    }
+}
+
 static void ask(const void *buf, size_t len, int32_t first) {
     char text[INFER_TEXT_SIZE];
     bool is_final;
@@ -147,6 +164,8 @@ static void ask(const void *buf, size_t len, int32_t first) {
     ask_types(types, strlen(types), buf, len);
     ask_types(buf, len, buf, len);
     ask_named(buf, len);
+    ask_evidence(infer_evidence, buf, len);
+    ask_evidence(infer_more_evidence, buf, len);
     note(infer_is(buf, len, infer_extension_text(row), strlen(infer_extension_text(row))));
     note(infer_is_mime(buf, len, infer_mime_type_text(row), strlen(infer_mime_type_text(row))));
 }
