@@ -158,7 +158,10 @@ const headOf = ({ type, accepts }) => {
 
 /** The bytes that decide, in words: those of the answer first. */
 const reasonsOf = (front, { ranges, wanted, least, isExact }) => {
-    const sorted = [...ranges.filter(({ accepts }) => accepts), ...ranges.filter(({ accepts }) => !accepts)];
+    // The first byte is told where no type's range has it.
+    const ofTypes = ranges.filter(({ type }) => type);
+    const shown = ofTypes.some(({ place }) => place === 0) ? ofTypes : ranges;
+    const sorted = [...shown.filter(({ accepts }) => accepts), ...shown.filter(({ accepts }) => !accepts)];
     const reasons = sorted.map((range) => [headOf(range), rangeText(front, range)]);
     if (isExact) reasons.push(["Of its length", `just ${counted(front.length, "byte")}`]);
     else if (least > Math.max(0, ...ranges.map(({ place, length }) => place + length))) reasons.push(["Of its length", `at least ${counted(least, "byte")}`]);

@@ -56,8 +56,11 @@ def reasons(path: str) -> str:
     """The bytes by which the file has its type, in words: those of the type first. Every file with these has that type."""
     whole = infer.Whole(path)
     found = infer.evidence(whole, more=True)
+    # The first byte is told where no type's range has it.
+    of_types = [it for it in found.ranges if it.type]
+    shown = of_types if any(it.place == 0 for it in of_types) else found.ranges
     with open(path, "rb") as file:
-        words = [told(file, it) for it in sorted(found.ranges, key=lambda it: not it.accepts)]
+        words = [told(file, it) for it in sorted(shown, key=lambda it: not it.accepts)]
     # A range that reaches so far says so already.
     if found.is_exact:
         words.append(f"just {len(whole)} bytes")
