@@ -35,7 +35,7 @@ def at_most(cell):
 REPEATED = [
     ("docs/HOSTILE_INPUT.md", r"`position`\s+([\d.]+)\s+instructions\s+a\s+byte", "dearest", "near misses of a header of Office", "a byte of 8 KB", at_most),
     ("docs/HOSTILE_INPUT.md", r"byte\s+order\s+marks\s+([\d.]+),", "dearest", "byte order marks", "a byte of 8 KB", at_most),
-    ("docs/HOSTILE_INPUT.md", r"Zstandard\s+and\s+LZ4\s+([\d.]+)\.\s", "dearest", "skippable frames", "a byte of 8 KB", at_most),
+    ("docs/HOSTILE_INPUT.md", r"skippable\s+frames\s+([\d.]+)\.\s", "dearest", "skippable frames", "a byte of 8 KB", at_most),
     ("docs/HOSTILE_INPUT.md", r"(\d+)\s+million\s+instructions\s+for\s+a\s+ZIP", "bytewise", "an archive of Office, with near misses of its headers", "instructions", in_millions),
 ]
 
