@@ -465,22 +465,32 @@ def guards(free, chosen):
 
 
 def gates(free):
-    """The bytes that some rows share, each of which asks for more than that."""
-    for gate in sorted({pair for _, it in free for way in ways_of(it) if len(way) == 1 for pair in way}):
-        inside = [(number, it) for number, it in free if frozenset([gate]) in ways_of(it)]
-        if len({number for number, _ in inside}) > 1 and all(ways_of(it, gate) for _, it in inside):
-            yield gate, inside
+    """The bytes that many rows share, each of which asks for more than that, with those rows. The more rows stand behind a
+    gate, the fewer guards stand beside it, so what half as many share as another byte is left out."""
+    inside = {}
+    for number, it in free:
+        for way in ways_of(it):
+            if len(way) == 1:
+                inside.setdefault(*way, []).append((number, it))
+    shared = {gate: len({number for number, _ in some}) for gate, some in inside.items() if all(ways_of(it, gate) for _, it in some)}
+    most = max(shared.values(), default=0)
+    yield from ((gate, inside[gate]) for gate in sorted(shared) if shared[gate] > max(1, most // 2))
 
 
 def with_zeros(rows):
-    """The rows that a first byte 00 has to tell, as few of the last as leave no more guards than the most, and what is left."""
+    """The rows that a first byte 00 has to tell, as few of the last as leave no more guards than the most, and what is left.
+    The more it tells, the fewer guards are left, so that half of what is in question is settled by each trial."""
     begun = [number for number, row in enumerate(rows) if not row.parent and any(is_begun(it) and not is_led(it) for it in row.outlines(TOLD))]
-    for count in range(len(begun) + 1):
-        zeros = set(begun[len(begun) - count :])
-        found = gated(rows, zeros)
-        if len(found[1]) <= MOST_GUARDS:
-            break
-    return zeros, found
+    low, high, found = 0, len(begun), None
+    while low < high:
+        count = (low + high) // 2
+        tried = gated(rows, set(begun[len(begun) - count :]))
+        if len(tried[1]) <= MOST_GUARDS:
+            high, found = count, tried
+        else:
+            low = count + 1
+    zeros = set(begun[len(begun) - high :])
+    return zeros, found or gated(rows, zeros)
 
 
 def gated(rows, zeros):
