@@ -1,5 +1,5 @@
 -- What is told to C of a name and bytes.
-use Rattle.std.specs.Prelude.{◌≡◌, ◌+◌, ℕ, ℤ, Bool, false, pos, List, [], Option, None, Some, if◌then◌else◌, option_map}
+use Rattle.std.specs.Prelude.{◌≡◌, ◌+◌, ℕ, ℤ, Bool, false, pos, List, [], Option, if◌then◌else◌, option_map}
 use Rattle.std.specs.Option.{option_map_or}
 use Rattle.infer_more.specs.Wider.{IsWider}
 use Rattle.infer_named.specs.Join.{Told, extension_of, is_own_name, mime_type_of, type_of_name}

@@ -187,7 +187,6 @@ pub extern "C" fn infer_evidence(buf: &[u8], ranges: &mut [WrittenRange], needs:
 }
 
 /// The number of the wider answer of `buf`, or -1, and what decides it, in the same way.
-#[tactic(auto, using(crate::proofs::WiderLemmas::is_row))]
 #[unsafe(no_mangle)]
 pub extern "C" fn infer_more_evidence(
     buf: &[u8],

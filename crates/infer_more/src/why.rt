@@ -224,6 +224,7 @@ fn widen(parent: Option<usize>, buf: &[u8], evidence: &mut Evidence) -> Option<u
 /// it, as of text.
 pub fn evidence(buf: &[u8], evidence: &mut Evidence) -> Option<usize>
     ensures wider { IsWider buf.now result }
+    ensures bound { IfSome result (λ i. i < ROW_COUNT + FURTHER_COUNT) }
     ensures decides { Decides evidence.new buf.now result }
     ensures inside { IsOf evidence.new buf.now }
 {
