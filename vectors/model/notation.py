@@ -236,6 +236,15 @@ def begins(buf, text):
     return buf.startswith(text) or buf.startswith(b"\xef\xbb\xbf" + text)
 
 
+def is_java(buf):
+    """The first entry is in META-INF/: the manifest, or the folder and the manifest somewhere, or it has the extra field."""
+    name = first_name(buf)[1]
+    if name is None or not name.startswith(b"META-INF/"):
+        return False
+    manifest = b"META-INF/MANIFEST.MF"
+    return name == manifest or name == b"META-INF/" and has_entry(buf, manifest) or has_extra(buf, b"\xfe\xca")
+
+
 def is_text(buf):
     return buf[:2] in (b"\xfe\xff", b"\xff\xfe") or buf[:3] == b"\xef\xbb\xbf" or (buf != b"" and not re.search(rb"[\0-\x08\x0B\x0E-\x1A\x1C-\x1F]", buf))
 
@@ -248,6 +257,7 @@ RELATIONS = [
     ('chunk "acTL" before "IDAT"', rb"", None),
     ('first cue of SubRip', rb"", None),
     ('dBASE header', rb"", None),
+    ('Java archive', rb"", lambda buf, words: is_java(buf)),
     ('tar checksum', rb"", None),
     ('JSON lines', rb"", None),
     ('JSON', rb"", None),

@@ -112,7 +112,7 @@ def relation(rng):
         return ["text"], rng.choice([b"abc", b"a\0", b"\xff\xfe\0", b"a\x0b", b"a\x1b"]), "-"
     ids = [[pair(rng, rng.randrange(256)) for _ in range(16)] for _ in names]
     said = [
-        "shared object", 'chunk "acTL" before "IDAT"', "first cue of SubRip", "dBASE header", "tar checksum", "JSON lines", "JSON",
+        "shared object", 'chunk "acTL" before "IDAT"', "first cue of SubRip", "dBASE header", "Java archive", "tar checksum", "JSON lines", "JSON",
         "first directory has tag C612", 'package with : "word/"', 'behind an ID3 tag : "fLaC"', "class id : " + " or ".join(" ".join(it) for it in ids),
     ]
     return rng.choice(said).split(), b"", "mp4"

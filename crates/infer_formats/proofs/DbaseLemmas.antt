@@ -5,7 +5,7 @@ use Rattle.infer_formats.proofs.GrowthLemmas.{carried, kept, longer}
 use Rattle.infer_formats.proofs.OpenLemmas.{known}
 use Rattle.infer_formats.proofs.OutlineLemmas.{pair}
 use Rattle.std.specs.List.{list_any}
-use Rattle.infer_sig.proofs.KnownLemmas.{Known, at_most, both, is, proved, same, takes, ◌>>=◌}
+use Rattle.infer_sig.proofs.KnownLemmas.{Known, at_most, both, is, needs, proved, same, takes, ◌>>=◌}
 
 -- ---- a buffer that grows
 
@@ -68,10 +68,10 @@ module _ (b : List ℕ) where
   -- one field
   abbrev pub known_table : Known (IsDbase b)
   known_table = do
-    long ← takes (at_most 65 (length b))
+    long ← needs (at_most 65 (length b)) (λ h. h.0)
     version ← takes (is (list_any (λ y. slice_index b 0 == y) versions))
-    month ← takes (both (at_most 0x01 (slice_index b 2)) (at_most (slice_index b 2) 0x0C))
-    day ← takes (both (at_most 0x01 (slice_index b 3)) (at_most (slice_index b 3) 0x1F))
+    month ← needs (both (at_most 0x01 (slice_index b 2)) (at_most (slice_index b 2) 0x0C)) (λ h. h.1.1)
+    day ← needs (both (at_most 0x01 (slice_index b 3)) (at_most (slice_index b 3) 0x1F)) (λ h. h.1.2)
     zeros ← takes (both (same (slice_index b 12) 0) (same (slice_index b 13) 0))
     name ← takes (both (at_most 0x41 (slice_index b 32)) (at_most (slice_index b 32) 0x5A))
     kind ← takes (is (list_any (λ y. slice_index b 43 == y) (codes "+@BCDFGILMNOPTVXY")))

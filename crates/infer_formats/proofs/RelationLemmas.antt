@@ -1,6 +1,6 @@
 -- Each relation, by the lemmas of its format.
 use Rattle.infer_formats.proofs.Common.{[], ◌≡◌, ◌↔◌, IsTrue, List, ℕ, OccursAt-append, Lasts, arith, refl, StandsByPlace, stands, Stays, png_header, Fits, HasLines, Relation, animated, class_id, dbase, directory_tag, first_entry_ends_in, first_entry_has_extra, first_entry_is, is_lasting, json_lines, json_text, package_with, plain_text, program, relation_listed, root, root_with, shared_object, subrip, tar_checksum}
-use Rattle.infer_formats.specs.Relation.{behind_id3, has_entry, text_first, text_first_with}
+use Rattle.infer_formats.specs.Relation.{behind_id3, has_entry, java_archive, text_first, text_first_with}
 use Rattle.infer_formats.proofs.BeginsLemmas.{begins_and_has-lasts, begins-lasts, begins_lines, known_begins, known_begins_and_has}
 use Rattle.infer_formats.proofs.DbaseLemmas.{dbase_lines, dbase-lasts, known_table}
 use Rattle.infer_formats.proofs.ElfLemmas.{object_lines, shared_object-lasts, known_object}
@@ -15,7 +15,7 @@ use Rattle.infer_formats.proofs.SubtitlesLemmas.{subrip_lines, subrip-lasts, kno
 use Rattle.infer_formats.proofs.TarLemmas.{field_lines, tar_checksum-lasts, known_checksum}
 use Rattle.infer_formats.proofs.TextLemmas.{text_lines, known_text}
 use Rattle.infer_formats.proofs.TiffLemmas.{tag_lines, tag-lasts, known_tag}
-use Rattle.infer_formats.proofs.ZipLemmas.{counted_for_lines, entry_lines, named_part, package_lines, has_entry-lasts, known_later, first_entry_ends_in-lasts, first_entry_has_extra-lasts, first_entry_is-lasts, package_with-lasts, known_ending, known_entry, known_extra, known_package}
+use Rattle.infer_formats.proofs.ZipLemmas.{counted_for_lines, entry_lines, java_lines, named_part, package_lines, has_entry-lasts, java_archive-lasts, known_later, first_entry_ends_in-lasts, first_entry_has_extra-lasts, first_entry_is-lasts, package_with-lasts, known_ending, known_entry, known_extra, known_java, known_package}
 use Rattle.infer_formats.specs.declared.relation.Relation as declared
 use Rattle.infer_formats.specs.declared.relation.Relation.TheVariants.{JsonLines, JsonText, PlainText}
 use Rattle.infer_deep.proofs.ClassIdLemmas.{HasClassId-lasts}
@@ -31,6 +31,7 @@ relation_lasts shared_object l = shared_object-lasts
 relation_lasts (first_entry_is name) l = λ b more. first_entry_is-lasts b more name
 relation_lasts (first_entry_ends_in text) l = λ b more. first_entry_ends_in-lasts b more text
 relation_lasts (first_entry_has_extra text) l = λ b more. first_entry_has_extra-lasts b more text
+relation_lasts java_archive l = java_archive-lasts
 relation_lasts (has_entry name) l = λ b more. has_entry-lasts b more name
 relation_lasts (package_with folder) l = λ b more. package_with-lasts b more folder
 relation_lasts (class_id id) l = HasClassId-lasts id
@@ -63,6 +64,7 @@ module _ (by_place : (place : ℕ) (t buf : List ℕ) → IsTrue (stands place t
   has_lines (first_entry_is name) small h = named_part by_place b name [] h.0.header h.2
   has_lines (first_entry_ends_in name) small h = counted_for_lines by_place b name 26 h.0 (omega arith) h.1
   has_lines (first_entry_has_extra extra) small h = counted_for_lines by_place b extra 28 h.0 (omega arith) h.1
+  has_lines java_archive small h = java_lines by_place b h
   has_lines (has_entry name) small h = entry_lines by_place b name h
   has_lines (package_with folder) small h = package_lines by_place b folder h.0
   has_lines (class_id id) small (place, r, o) = let le = r.header.fits in begins by_place b 8 _ (omega arith) r.header
@@ -89,6 +91,7 @@ module _ (by_place : ByPlace) (inside : Leads) (single : Single) (b : List ℕ) 
   known_relation (first_entry_is name) = known_entry by_place b name
   known_relation (first_entry_ends_in text) = known_ending by_place b text
   known_relation (first_entry_has_extra text) = known_extra by_place b text
+  known_relation java_archive = known_java by_place b
   known_relation (has_entry name) = known_later by_place b name
   known_relation (package_with folder) = known_package by_place b folder
   known_relation (class_id id) = known_class by_place b id

@@ -5,10 +5,10 @@ use Rattle.std.specs.List.{list_any}
 use Rattle.std.proofs.lemmas.Bool.{or_cases}
 use Rattle.infer_formats.specs.Laws.{Leads, Single, StartsElement}
 use Rattle.infer_formats.specs.Markup.{here, later}
-use Rattle.infer_formats.proofs.LetterLemmas.{Letters, is_letter, letters, letters_from}
+use Rattle.infer_formats.proofs.LetterLemmas.{Letters, is_sign, letters, letters_from}
 use Rattle.infer_formats.proofs.TestLemmas.{neither}
 use Rattle.infer_sig.proofs.KnownLemmas.{Known, at_most, either, is, needs, negated, proved, proved_if, refuted_if, same, same_text, takes, ◌>>=◌, ◌>>◌}
-use Rattle.infer_sig.proofs.OccurrenceLemmas.{ByPlace, lacked, lacks, occurs}
+use Rattle.infer_sig.proofs.OccurrenceLemmas.{ByPlace, lacked, lacks, nowhere_from, occurs}
 
 abbrev next : List ℕ → ℕ
 next [] = 0
@@ -49,9 +49,9 @@ not_behind_space (x ∷ b) h (suc k) spaces e = elim (or_cases (not (is_space x)
   | inr rest ↦ not_behind_space b rest k (λ j lt. spaces (suc j) (omega arith)) e
 ]
 
--- a name can have letters
-name_letter : (x : ℕ) → IsTrue (is_letter x) → IsNameByte x
-name_letter x h = ((λ space. grind (arith, nat_tests), λ e. grind (arith, nat_tests)), λ e. grind (arith, nat_tests))
+-- a name can have such signs
+name_sign : (x : ℕ) → IsTrue (is_sign x) → IsNameByte x
+name_sign x h = ((λ space. grind (arith, nat_tests), λ e. grind (arith, nat_tests)), λ e. grind (arith, nat_tests))
 
 -- no ">" stands there
 pub unclosed : (t : List ℕ) → IsTrue (not (list_any (λ x. x == 0x3E) t)) → (k : ℕ) → slice_index t k ≢ 0x3E
@@ -97,9 +97,9 @@ module _ (by_place : ByPlace) (inside : Leads) (single : Single) (b : List ℕ) 
   abbrev prolog_to : (p : ℕ) → Known ((p ≡ 0) ⊎ (IsEnclosed b (codes "<?") (codes "?>") 0 p ⊎ IsEnclosed b (codes "<!--") (codes "-->") 0 p))
   prolog_to p = either (same p 0) (either (enclosed (codes "<?") (codes "?>") p) (enclosed (codes "<!--") (codes "-->") p))
 
-  -- behind it letters name a root element
+  -- behind it signs name a root element
   pub is_root : (p to : ℕ) → ¬ OccursAt b utf8_mark 0 → (p ≡ 0) ⊎ (IsEnclosed b (codes "<?") (codes "?>") 0 p ⊎ IsEnclosed b (codes "<!--") (codes "-->") 0 p)
-      → slice_index b p ≡ 0x3C → Letters b (p + 1) to → p + 1 < to → to < length b → (slice_index b to ≡ 0x3E) ⊎ (slice_index b to ≡ 0x20)
+      → slice_index b p ≡ 0x3C → Letters is_sign b (p + 1) to → p + 1 < to → to < length b → (slice_index b to ≡ 0x3E) ⊎ (slice_index b to ≡ 0x20)
       → IsRootElement (slice_range b (p + 1) to) (drop to b) b
   is_root p to unmarked prolog starts letters some whole ends =
       let first = letters (p + 1) (omega arith) some in
@@ -107,7 +107,7 @@ module _ (by_place : ByPlace) (inside : Leads) (single : Single) (b : List ℕ) 
         starts = starts;
         name = record {
           order = omega arith;
-          bytes = λ k low high. name_letter (slice_index b k) (letters k low high);
+          bytes = λ k low high. name_sign (slice_index b k) (letters k low high);
           whole = whole;
           ends = λ is. elim ends [ inl e ↦ is.0.1 e | inr e ↦ is.0.0 (inr (inr (inr e))) ];
         };
@@ -133,7 +133,7 @@ module _ (by_place : ByPlace) (inside : Leads) (single : Single) (b : List ℕ) 
 
   -- and where its name ends
   abbrev name_end : ℕ
-  name_end = opening + 1 + letters (drop (opening + 1) b)
+  name_end = opening + 1 + letters is_sign (drop (opening + 1) b)
 
   abbrev own_root : Known (IsRootElement (slice_range b (opening + 1) name_end) (drop name_end b) b)
   own_root = do
@@ -143,7 +143,7 @@ module _ (by_place : ByPlace) (inside : Leads) (single : Single) (b : List ℕ) 
     some ← takes (at_most (opening + 2) name_end)
     whole ← takes (at_most (suc name_end) (length b))
     ends ← takes (either (same (slice_index b name_end) 0x3E) (same (slice_index b name_end) 0x20))
-    proved (is_root opening name_end unmarked prolog starts (letters_from b (opening + 1)) (omega arith) (omega arith) ends)
+    proved (is_root opening name_end unmarked prolog starts (letters_from is_sign b (opening + 1)) (omega arith) (omega arith) ends)
 
   -- whether the root has the name
   abbrev rooted_so : (name : List ℕ) → Known (IsRootElement name (drop name_end b) b)
@@ -158,13 +158,25 @@ module _ (by_place : ByPlace) (inside : Leads) (single : Single) (b : List ℕ) 
     named ← needs (rooted_so name) (λ h. let equal = single.root b name h.0 (slice_range b (opening + 1) name_end) (drop name_end b) h.1 own in subst (λ r. IsRootElement name r b) equal.1 h.1)
     proved (drop name_end b, named)
 
+  -- the text stands right behind the name, or nowhere behind it
+  abbrev somewhere_behind : (t : List ℕ) → Known ((k : ℕ) × OccursAt (drop name_end b) t k)
+  somewhere_behind t = elim (occurs by_place t (drop name_end b) 1) [
+    | proved o ↦ proved (1, o)
+    | other ↦ refuted_if (lacks 0 (suc (length (drop name_end b))) t (drop name_end b)) (λ none. λ (q, o). nowhere_from by_place t (drop name_end b) 0 q (omega arith) none o)
+  ]
+
+  pub behind_name : (name t : List ℕ) → IsRootElement name (drop name_end b) b → HasRootWith name t b → (k : ℕ) × OccursAt (drop name_end b) t k
+  behind_name name t own (rest, element, (k, stands, clear)) =
+      let equal = single.root b name rest name (drop name_end b) element own in
+      (k, subst (λ r. OccursAt r t k) equal.1 stands)
+
   abbrev root_named_with : (name t : List ℕ) → Known (HasRootWith name t b)
   root_named_with name t = do
     rooted ← needs (root_named name) (inside.root_with name t b)
     own ← takes (rooted_so name)
-    stands ← takes (occurs by_place t (drop name_end b) 1)
+    stands ← needs (somewhere_behind t) (λ h. behind_name name t own h)
     clear ← takes (proved_if (not (list_any (λ x. x == 0x3E) (drop name_end b))) (unclosed (drop name_end b)))
-    proved (drop name_end b, own, (1, stands, λ k lt. clear k))
+    proved (drop name_end b, own, (stands.0, stands.1, λ k lt. clear k))
 
   abbrev pub known_root : (name : List ℕ) → Known (HasRoot name b)
   known_root name = do

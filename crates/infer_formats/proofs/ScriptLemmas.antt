@@ -332,7 +332,7 @@ word_letter x h = (λ e. grind (arith, nat_tests), λ e. grind (arith, nat_tests
 
 module _ (by_place : ByPlace) (single : Single) (b : List ℕ) where
   -- letters up to `to` name a program
-  pub is_program : (to : ℕ) → OccursAt b (codes "#!") 0 → Letters b 2 to → 2 < to → to < length b → slice_index b to ≡ 0x0A → ¬ OccursAt b (codes "env") 2
+  pub is_program : (to : ℕ) → OccursAt b (codes "#!") 0 → Letters is_letter b 2 to → 2 < to → to < length b → slice_index b to ≡ 0x0A → ¬ OccursAt b (codes "env") 2
       → IsProgram (slice_range b 2 to) b
   is_program to starts letters some whole ends other =
       let word : IsWord b 2 to = record {
@@ -375,7 +375,7 @@ module _ (by_place : ByPlace) (single : Single) (b : List ℕ) where
 
   -- the program of a line of "#!" and letters
   abbrev line_end : ℕ
-  line_end = 2 + letters (drop 2 b)
+  line_end = 2 + letters is_letter (drop 2 b)
 
   abbrev own_program : Known (IsProgram (slice_range b 2 line_end) b)
   own_program = do
@@ -384,7 +384,7 @@ module _ (by_place : ByPlace) (single : Single) (b : List ℕ) where
     whole ← takes (at_most (suc line_end) (length b))
     ends ← takes (same (slice_index b line_end) 0x0A)
     other ← takes (negated (occurs by_place (codes "env") b 2))
-    proved (is_program line_end starts (letters_from b 2) (omega arith) (omega arith) ends other)
+    proved (is_program line_end starts (letters_from is_letter b 2) (omega arith) (omega arith) ends other)
 
   abbrev pub known_program : (name : List ℕ) → Known (IsProgram name b)
   known_program name = do

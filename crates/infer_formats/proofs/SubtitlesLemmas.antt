@@ -1,11 +1,11 @@
 -- Subtitles: what more bytes keep and may make, and the bytes that each file has.
-use Rattle.infer_formats.proofs.Common.{◌≡◌, ℕ, ◌+◌, ◌<◌, ◌≤◌, List, get_or, arith, AreDigits, EndsLine, IsDigit, inl, inr, ◌++◌, length, subst, ◌∙◌, cases_lt, MayBecome, grown_agrees, IsCue, IsPairAt, IsSubRip, IsTime, ◌∷◌, slice_index, OccursAt-append, ◌↔◌, IsTrue, [], lines, subrip, MayBeSubRip, StandsByPlace, accepts, between, stands, at_least, add-zero, GoesOn, MayBeginCue, codes, refl}
+use Rattle.infer_formats.proofs.Common.{◌≡◌, ℕ, ◌+◌, ◌<◌, ◌≤◌, ◌⊎◌, OccursAt, List, get_or, arith, AreDigits, EndsLine, IsDigit, inl, inr, ◌++◌, length, subst, ◌∙◌, cases_lt, MayBecome, grown_agrees, IsCue, IsPairAt, IsSubRip, IsTime, ◌∷◌, slice_index, OccursAt-append, ◌↔◌, IsTrue, [], lines, subrip, MayBeSubRip, StandsByPlace, accepts, between, stands, at_least, add-zero, GoesOn, MayBeginCue, codes, refl}
 use Rattle.infer_sig.specs.Signature.{byte}
 use Rattle.infer_formats.proofs.GrowthLemmas.{there, carried, kept}
 use Rattle.infer_formats.proofs.OpenLemmas.{known}
 use Rattle.infer_formats.proofs.OutlineLemmas.{in_range, one, marked, marked_line}
 use Rattle.infer_formats.proofs.TestLemmas.{only_first}
-use Rattle.infer_sig.proofs.KnownLemmas.{Known, at_most, both, either, proved, same, takes, ◌>>=◌}
+use Rattle.infer_sig.proofs.KnownLemmas.{Known, at_most, both, either, needs, proved, same, takes, ◌>>=◌}
 use Rattle.infer_sig.proofs.OccurrenceLemmas.{ByPlace, occurs}
 
 pub cue_by_count : (b : List ℕ) (p n m t : ℕ) → n ≤ 10 → AreDigits b p n → (n < 10 → ¬ IsDigit (get_or b (p + n) 0))
@@ -59,16 +59,20 @@ module _ (b more : List ℕ) where
 
 -- ---- what more bytes may make
 
-module _ (b more : List ℕ) where
-  known_cue : (p : ℕ) → IsCue (b ++ more) p → MayBeginCue b p
-  known_cue p (n, t, (some, few), digits, line, span) = (
-    known b more IsDigit p (rw add-zero at (digits 0 some)),
-    known b more GoesOn (p + 1) (elim (cases_lt 1 n) [
-      | inl l ↦ inl (digits 1 l)
-      | inr le ↦ let one : n ≡ 1 = omega arith in
-          subst (λ k. GoesOn (slice_index (b ++ more) (p + k))) one (elim line [ inl (lf, at) ↦ inr (inl lf) | inr (cr, lf, at) ↦ inr (inr cr) ])
-    ]),
-  )
+-- a cue begins with a digit, and behind that the digits or the line go on
+cue_begins : (b : List ℕ) (p : ℕ) → IsCue b p → IsDigit (slice_index b p) × GoesOn (slice_index b (p + 1))
+cue_begins b p (n, t, (some, few), digits, line, span) = (
+  rw add-zero at (digits 0 some),
+  elim (cases_lt 1 n) [
+    | inl l ↦ inl (digits 1 l)
+    | inr le ↦ let one : n ≡ 1 = omega arith in
+        subst (λ k. GoesOn (slice_index b (p + k))) one (elim line [ inl (lf, at) ↦ inr (inl lf) | inr (cr, lf, at) ↦ inr (inr cr) ])
+  ],
+)
+
+known_cue : (b more : List ℕ) (p : ℕ) → IsCue (b ++ more) p → MayBeginCue b p
+known_cue b more p cue =
+    let begins = cue_begins (b ++ more) p cue in (known b more IsDigit p begins.0, known b more GoesOn (p + 1) begins.1)
 
 pub subrip_known : (b : List ℕ) → MayBecome IsSubRip b → MayBeSubRip b
 subrip_known b (more, bytes, inl cue) = inl (known_cue b more 0 cue)
@@ -105,9 +109,17 @@ module _ (by_place : ByPlace) (b : List ℕ) where
     thousandths ← takes (both (known_pair (t + 9)) (known_digit (t + 11)))
     proved (record { hours = hours; to_minutes = to_minutes; minutes = minutes; to_seconds = to_seconds; seconds = seconds; to_thousandths = to_thousandths; thousandths = thousandths })
 
-  -- a cue with one known_digit, and 0A after it
+  pub begins_subrip : IsSubRip b → (IsDigit (slice_index b 0) × GoesOn (slice_index b 1)) ⊎ OccursAt b (0xEF ∷ 0xBB ∷ 0xBF ∷ []) 0
+  begins_subrip (inl cue) = inl (cue_begins b 0 cue)
+  begins_subrip (inr (mark, cue)) = inr mark
+
+  abbrev known_begun : Known (IsDigit (slice_index b 0) × GoesOn (slice_index b 1))
+  known_begun = both (known_digit 0) (either (known_digit 1) (either (same (slice_index b 1) 0x0A) (same (slice_index b 1) 0x0D)))
+
+  -- a cue with one known_digit, and 0A after it, or what begins otherwise
   abbrev pub known_subrip : Known (IsSubRip b)
   known_subrip = do
+    begun ← needs (either known_begun (occurs by_place (0xEF ∷ 0xBB ∷ 0xBF ∷ []) b 0)) begins_subrip
     first ← takes (known_digit 0)
     ends ← takes (same (slice_index b 1) 0x0A)
     start ← takes (known_time 2)

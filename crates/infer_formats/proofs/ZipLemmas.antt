@@ -1,12 +1,12 @@
 -- ZIP archives and packages: the first entry with a property, what more bytes keep and may make, and the bytes that each has.
 use Rattle.infer_formats.proofs.Common.{[], ◌≡◌, ◌↔◌, ℕ, ◌+◌, ◌-◌, ◌<◌, ◌≤◌, inl, inr, List, length, codes, get_or, take, drop, add-zero, ap, refl, subst, ◌∙◌, arith, eq-eqb, length-drop, take_rest, OccursAt, Nowhere, Passes, is_byte, zip_header, IsFirstFolder, IsFolderEntry, IsPackageWith, IsPartEntry, MayBeginPackage, applications, IsTrue, zero, suc, ◌/◌, ◌%◌, ◌++◌, cases_lt, le16, AgreesAt, are_bytes, MayBecome, grown_agrees, FirstEntryEndsIn, FirstEntryHasExtra, FirstEntryIs, sym, nat_eq, OccursAt-append, OccursAt-first, ◌∷◌, slice_index, OccursAt-front, nat_tests, and_from, lt-ltb, if◌then◌else◌, nat_lt, le16-append, low_bytes, counted, counted_for, named, lines, package_with, StandsByPlace, accepts, all_but, at_least, stands, part_reads}
-use Rattle.infer_formats.specs.Zip.{HasEntry, IsOneOf, MayBeginAny, MayHaveFirstEnding, MayHaveFirstField, MayHaveFirstName, MayBePackage, HasFirstName, IsFolder}
+use Rattle.infer_formats.specs.Zip.{FirstEntryBegins, HasEntry, IsJavaArchive, IsOneOf, MayBeginFirstName, MayBeginAny, MayHaveFirstEnding, MayHaveFirstField, MayHaveFirstName, MayBePackage, HasFirstName, IsFolder, manifest, manifest_folder}
 use Rattle.infer_sig.specs.Signature.{byte, text}
 use Rattle.infer_formats.proofs.GrowthLemmas.{there, longer}
 use Rattle.infer_formats.proofs.OpenLemmas.{grown_byte}
 use Rattle.infer_formats.proofs.OutlineLemmas.{begins, occurs, other, two}
 use Rattle.infer_sig.specs.Signature as fixed
-use Rattle.infer_formats.specs.Relation.{has_entry}
+use Rattle.infer_formats.specs.Relation.{has_entry, java_archive}
 use Rattle.infer_sig.proofs.KnownLemmas.{Known, at_most, either, both, needs, negated, proved, refuted_if, same, takes, ◌>>=◌, ◌>>◌}
 use Rattle.infer_sig.proofs.OccurrenceLemmas as Place
 use Rattle.infer_sig.proofs.OccurrenceLemmas.{ByPlace}
@@ -148,6 +148,13 @@ module _ (b more : List ℕ) where
     subst (λ n. OccursAt (b ++ more) wanted (30 + n)) (sym (name_length h)) (OccursAt-append b more wanted _ o),
   )
 
+  first_entry_begins-lasts : (wanted : List ℕ) → FirstEntryBegins wanted b → FirstEntryBegins wanted (b ++ more)
+  first_entry_begins-lasts wanted (h, long, o) = (
+    first_name h,
+    subst (λ n. length wanted ≤ n) (sym (name_length h)) long,
+    OccursAt-append b more wanted 30 o,
+  )
+
   part_entry : (p : ℕ) → IsPartEntry b p → IsPartEntry (b ++ more) p
   part_entry p (o, inl t) = (OccursAt-append b more zip_header p o, inl (OccursAt-append b more _ (p + 30) t))
   part_entry p (o, inr t) = (OccursAt-append b more zip_header p o, inr (OccursAt-append b more _ (p + 30) t))
@@ -219,6 +226,15 @@ has_entry-lasts b more name (first, (q, (o, sized, stands))) =
       (q, (OccursAt-append b more zip_header q o, le16-append b more (q + 26) (omega arith) ∙ sized, OccursAt-append b more name (q + 30) stands)),
     )
 
+pub java_archive-lasts : (b more : List ℕ) → IsJavaArchive b → IsJavaArchive (b ++ more)
+java_archive-lasts b more (begins, inl is) = (first_entry_begins-lasts b more manifest_folder begins, inl (first_entry_is-lasts b more manifest is))
+java_archive-lasts b more (begins, inr (inl (folder, later))) = (
+  first_entry_begins-lasts b more manifest_folder begins,
+  inr (inl (first_entry_is-lasts b more manifest_folder folder, has_entry-lasts b more manifest later)),
+)
+java_archive-lasts b more (begins, inr (inr extra)) =
+    (first_entry_begins-lasts b more manifest_folder begins, inr (inr (first_entry_has_extra-lasts b more (0xFE ∷ 0xCA ∷ []) extra)))
+
 -- ---- the first entry
 
 pub name_known : (name b : List ℕ) → IsTrue (are_bytes b) → MayBecome (FirstEntryIs name) b → MayHaveFirstName name b
@@ -257,6 +273,9 @@ extra_known wanted b (more, bytes, (h, long, o)) = record {
         subst (λ n. AgreesAt b wanted (30 + n)) same (grown_agrees b more wanted _ o),
       );
 }
+
+pub java_known : (b : List ℕ) → MayBecome IsJavaArchive b → MayBeginFirstName manifest_folder b
+java_known b (more, bytes, ((h, long, o), kind)) = (grown_agrees b more zip_header 0 h.header, grown_agrees b more manifest_folder 30 o)
 
 -- ---- a package
 
@@ -327,6 +346,9 @@ module _ (by_place : (place : ℕ) (t buf : List ℕ) → IsTrue (stands place t
 
   pub named_part : (name : List ℕ) (others : List fixed.Alternative) → OccursAt b zip_header 0 → OccursAt b name 30 → IsTrue (accepts (named name ∷ others) b)
   named_part name others o t = two by_place b 30 (text 0 zip_header) (text 30 name) others (let fits = t.fits in omega arith) (occurs by_place b 0 zip_header o) (occurs by_place b 30 name t)
+
+  pub java_lines : IsJavaArchive b → IsTrue (accepts (lines java_archive) b)
+  java_lines ((h, long, o), kind) = named_part manifest_folder [] h.header o
 
   pub package_lines : (folder : List ℕ) → MayBeginPackage folder b → IsTrue (accepts (lines (package_with folder)) b)
   package_lines folder (o, h) =
@@ -422,3 +444,12 @@ module _ (by_place : ByPlace) (b : List ℕ) where
     long ← takes (at_most (length t) (le16 b 28))
     stands ← takes (Place.occurs by_place t b (30 + le16 b 26))
     proved (name, long, stands)
+
+  -- the manifest first, or another folder
+  abbrev pub known_java : Known (IsJavaArchive b)
+  known_java = do
+    name ← takes known_first_name
+    stands ← needs (Place.occurs by_place manifest_folder b 30) (λ h. h.0.2)
+    long ← takes (at_most (length manifest_folder) (le16 b 26))
+    is ← takes (known_entry manifest)
+    proved ((name, long, stands), inl is)

@@ -17,7 +17,7 @@ use Rattle.infer_formats.specs.Tar.{HasTarChecksum}
 use Rattle.infer_formats.specs.Text.{IsText}
 use Rattle.infer_formats.specs.Tiff.{HasTag}
 use Rattle.infer_formats.specs.Token.{Token, bare, quoted, separator, token_listed}
-use Rattle.infer_formats.specs.Zip.{FirstEntryEndsIn, FirstEntryHasExtra, FirstEntryIs, HasEntry, IsOneOf, IsPackageWith, applications}
+use Rattle.infer_formats.specs.Zip.{FirstEntryEndsIn, FirstEntryHasExtra, FirstEntryIs, HasEntry, IsJavaArchive, IsOneOf, IsPackageWith, applications, manifest, manifest_folder}
 use Rattle.infer_sig.specs.Signature as fixed
 use Rattle.infer_sig.specs.Signature.{Part, accepts, any_of, at_least, between, byte, text}
 use Rattle.infer_formats.specs.declared.model.Model.{Model}
@@ -39,6 +39,7 @@ pub data Relation : Type 0 where
   first_entry_is : List ℕ → Relation
   first_entry_ends_in : List ℕ → Relation
   first_entry_has_extra : List ℕ → Relation
+  java_archive : Relation
   has_entry : List ℕ → Relation
   package_with : List ℕ → Relation
   class_id : List ℕ → Relation
@@ -63,6 +64,7 @@ relation_listed listed.SharedObject = shared_object
 relation_listed (listed.FirstEntryIs name) = first_entry_is name.now
 relation_listed (listed.FirstEntryEndsIn end) = first_entry_ends_in end.now
 relation_listed (listed.FirstEntryHasExtra extra) = first_entry_has_extra extra
+relation_listed listed.JavaArchive = java_archive
 relation_listed (listed.HasEntry name) = has_entry name.now
 relation_listed (listed.PackageWith folder) = package_with folder.now
 relation_listed (listed.ClassId id) = class_id id
@@ -94,6 +96,7 @@ names =
     ∷ (bare (codes "chunk") ∷ quoted (codes "acTL") ∷ bare (codes "before") ∷ quoted (codes "IDAT") ∷ [], Nothing listed.Animated)
     ∷ (bare (codes "first") ∷ bare (codes "cue") ∷ bare (codes "of") ∷ bare (codes "SubRip") ∷ [], Nothing listed.SubRip)
     ∷ (bare (codes "dBASE") ∷ bare (codes "header") ∷ [], Nothing listed.Dbase)
+    ∷ (bare (codes "Java") ∷ bare (codes "archive") ∷ [], Nothing listed.JavaArchive)
     ∷ (bare (codes "tar") ∷ bare (codes "checksum") ∷ [], Nothing listed.TarChecksum)
     ∷ (bare (codes "JSON") ∷ bare (codes "lines") ∷ [], Nothing listed.JsonLines)
     ∷ (bare (codes "JSON") ∷ [], Nothing listed.JsonText)
@@ -118,6 +121,7 @@ Fits shared_object b = IsSharedObject b
 Fits (first_entry_is name) b = FirstEntryIs name b
 Fits (first_entry_ends_in t) b = FirstEntryEndsIn t b
 Fits (first_entry_has_extra t) b = FirstEntryHasExtra t b
+Fits java_archive b = IsJavaArchive b
 Fits (has_entry name) b = HasEntry name b
 Fits (package_with folder) b = IsPackageWith folder b
 Fits (class_id id) b = HasClassId id b
@@ -154,6 +158,7 @@ lines shared_object = at_least 18 (text 16 (0x03 ∷ 0x00 ∷ []) ∷ []) ∷ at
 lines (first_entry_is name) = named name ∷ []
 lines (first_entry_ends_in name) = counted_for name 26
 lines (first_entry_has_extra extra) = counted_for extra 28
+lines java_archive = named manifest_folder ∷ []
 lines (has_entry name) = at_least 4 (text 0 zip_header ∷ []) ∷ []
 lines (package_with folder) = named (codes "[Content_Types].xml") ∷ named (codes "_rels/") ∷ named (codes "docProps/") ∷ named folder ∷ []
 lines (class_id id) = at_least 8 (text 0 compound_header ∷ []) ∷ []
@@ -188,6 +193,7 @@ model before shared_object = at_least 46 (text 4 (0x01 ∷ 0x01 ∷ []) ∷ text
 model before (first_entry_is name) = model_entry 26 name
 model before (first_entry_ends_in end) = model_entry 26 end
 model before (first_entry_has_extra extra) = model_entry 28 extra
+model before java_archive = model_entry 26 manifest
 model before (has_entry name) =
     at_least (78 + length name) (text 0 zip_header ∷ text 48 zip_header ∷ text 74 (length name % 256 ∷ []) ∷ text 78 name ∷ [])
 model before (package_with folder) =

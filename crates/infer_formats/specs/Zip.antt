@@ -24,6 +24,10 @@ FirstEntryEndsIn text b = HasFirstName b × (length text ≤ le16 b 26) × Occur
 abbrev pub FirstEntryHasExtra : List ℕ → List ℕ → Type 0
 FirstEntryHasExtra text b = HasFirstName b × (length text ≤ le16 b 28) × OccursAt b text (30 + le16 b 26)
 
+-- the name begins with the text
+abbrev pub FirstEntryBegins : List ℕ → List ℕ → Type 0
+FirstEntryBegins text b = HasFirstName b × (length text ≤ le16 b 26) × OccursAt b text 30
+
 -- an entry stands at p whose name begins as that of a part which each package has
 abbrev pub IsPartEntry : List ℕ → ℕ → Type 0
 IsPartEntry b p =
@@ -61,6 +65,20 @@ IsEntryNamed name b q = OccursAt b zip_header q × (le16 b (q + 26) ≡ length n
 -- b begins with an entry, and some entry has the name
 abbrev pub HasEntry : List ℕ → List ℕ → Type 0
 HasEntry name b = OccursAt b zip_header 0 × ((q : ℕ) × IsEntryNamed name b q)
+
+-- the manifest of a Java archive, and the folder of it
+abbrev pub manifest : List ℕ
+manifest = codes "META-INF/MANIFEST.MF"
+
+abbrev pub manifest_folder : List ℕ
+manifest_folder = codes "META-INF/"
+
+-- the first entry is in that folder: it is the manifest; or the folder itself, and some entry is the manifest; or it has an
+-- extra field that begins with FE CA
+abbrev pub IsJavaArchive : List ℕ → Type 0
+IsJavaArchive b =
+    FirstEntryBegins manifest_folder b
+    × (FirstEntryIs manifest b ⊎ (FirstEntryIs manifest_folder b × HasEntry manifest b) ⊎ FirstEntryHasExtra (0xFE ∷ 0xCA ∷ []) b)
 
 -- r is whether there is such a part
 abbrev pub FindsPart : List ℕ → Bool → Type 0
@@ -108,6 +126,10 @@ pub record MayHaveFirstEnding (text b : List ℕ) : Type 0 where
 pub record MayHaveFirstField (text b : List ℕ) : Type 0 where
   pub header : AgreesAt b zip_header 0
   pub tells : 30 ≤ length b → (length text ≤ le16 b 28) × AgreesAt b text (30 + le16 b 26)
+
+-- or one that begins with the text
+abbrev pub MayBeginFirstName : List ℕ → List ℕ → Type 0
+MayBeginFirstName text b = AgreesAt b zip_header 0 × AgreesAt b text 30
 
 -- or b begins with an entry that a package with the folder may have first
 abbrev pub MayBePackage : List ℕ → List ℕ → Type 0

@@ -21,9 +21,9 @@ use crate::tiff::{first_directory_has_tag, first_directory_may_have_tag};
 use crate::token::Token;
 use crate::token::Token::{Quoted, Separator, Word};
 use crate::zip::{
-    first_entry_ends_in, first_entry_has_extra, first_entry_is, has_entry, is_package_with,
-    may_become_package_with, may_have_first_entry, may_have_first_entry_ending,
-    may_have_first_extra,
+    first_entry_ends_in, first_entry_has_extra, first_entry_is, has_entry, is_java_archive,
+    is_package_with, may_become_java_archive, may_become_package_with, may_have_first_entry,
+    may_have_first_entry_ending, may_have_first_extra,
 };
 use infer_deep::doc::{has_class_id, may_have_class_id};
 use infer_deep::places::{may_stand_at, stands_at};
@@ -35,6 +35,7 @@ pub enum Relation<'a> {
     FirstEntryIs(&'a [u8]),
     FirstEntryEndsIn(&'a [u8]),
     FirstEntryHasExtra([u8; 2]),
+    JavaArchive,
     HasEntry(&'a [u8]),
     PackageWith(&'a [u8]),
     ClassId([u8; 16]),
@@ -111,6 +112,10 @@ static NAMES: &[(&[Token<'static>], Takes)] = &[
         Takes::Nothing(Relation::Dbase),
     ),
     (
+        &[Word(b"Java"), Word(b"archive")],
+        Takes::Nothing(Relation::JavaArchive),
+    ),
+    (
         &[Word(b"tar"), Word(b"checksum")],
         Takes::Nothing(Relation::TarChecksum),
     ),
@@ -180,6 +185,7 @@ impl<'a> Relation<'a> {
             Relation::FirstEntryIs(name) => first_entry_is(buf, name),
             Relation::FirstEntryEndsIn(end) => first_entry_ends_in(buf, end),
             Relation::FirstEntryHasExtra(extra) => first_entry_has_extra(buf, extra),
+            Relation::JavaArchive => is_java_archive(buf),
             Relation::HasEntry(name) => has_entry(buf, name),
             Relation::PackageWith(folder) => is_package_with(buf, folder),
             Relation::ClassId(id) => has_class_id(buf, id),
@@ -210,6 +216,7 @@ impl<'a> Relation<'a> {
             Relation::FirstEntryIs(name) => may_have_first_entry(buf, name),
             Relation::FirstEntryEndsIn(end) => may_have_first_entry_ending(buf, end),
             Relation::FirstEntryHasExtra(extra) => may_have_first_extra(buf, extra),
+            Relation::JavaArchive => may_become_java_archive(buf),
             // An entry may always follow.
             Relation::HasEntry(_) => may_stand_at(buf, b"PK\x03\x04", 0),
             Relation::PackageWith(folder) => may_become_package_with(buf, folder),
@@ -257,6 +264,7 @@ impl<'a> Relation<'a> {
             Relation::FirstEntryIs(name) => entry(26, Text::Slice(name)),
             Relation::FirstEntryEndsIn(end) => entry(26, Text::Slice(end)),
             Relation::FirstEntryHasExtra(extra) => entry(28, Text::Two(*extra)),
+            Relation::JavaArchive => entry(26, Text::Slice(b"META-INF/MANIFEST.MF")),
             Relation::HasEntry(name) => entry_behind(name),
             Relation::PackageWith(folder) => package(folder),
             Relation::ClassId(id) => compound(*id),

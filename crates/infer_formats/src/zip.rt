@@ -3,7 +3,7 @@
 ghost use Rattle.std.specs.Prelude.{◌≡◌, ◌↔◌, ◌+◌, ◌≤◌, ℕ, length, IsTrue};
 ghost use Rattle.infer_deep.specs.Numbers.{le16};
 ghost use Rattle.infer_deep.specs.Places.{FindsPlace};
-ghost use Rattle.infer_formats.specs.Zip.{FindsFolder, FindsPackage, FindsPart, FirstEntryEndsIn, FirstEntryHasExtra, FirstEntryIs, HasEntry, HasFirstName, IsEntryNamed, IsFolder, IsFolderEntry, IsPackageWith, IsPartEntry, MayBeginAny, MayBeginPackage};
+ghost use Rattle.infer_formats.specs.Zip.{FindsFolder, FindsPackage, FindsPart, FirstEntryBegins, FirstEntryEndsIn, FirstEntryHasExtra, FirstEntryIs, HasEntry, HasFirstName, IsEntryNamed, IsFolder, IsFolderEntry, IsJavaArchive, IsPackageWith, IsPartEntry, MayBeginAny, MayBeginPackage};
 
 mod open;
 
@@ -11,8 +11,8 @@ use infer_deep::numbers::le16;
 use infer_deep::places::{has_at, stands_at};
 use memchr::memchr;
 pub use open::{
-    may_become_package_with, may_have_first_entry, may_have_first_entry_ending,
-    may_have_first_extra,
+    may_become_java_archive, may_become_package_with, may_have_first_entry,
+    may_have_first_entry_ending, may_have_first_extra,
 };
 
 /// Of a local file header, where the length of the file name stands.
@@ -21,6 +21,13 @@ const NAME_LENGTH: usize = 26;
 const EXTRA_LENGTH: usize = 28;
 /// And then the file name itself.
 const NAME: usize = 30;
+
+/// The manifest of a Java archive, and the folder of it.
+const MANIFEST: &[u8] = b"META-INF/MANIFEST.MF";
+
+const MANIFEST_FOLDER: &[u8] = b"META-INF/";
+/// The id of the extra field that Java writes first.
+const JAVA_EXTRA: &[u8] = b"\xFE\xCA";
 
 /// The first entry has this name.
 pub fn first_entry_is(buf: &[u8], name: &[u8]) -> bool
@@ -48,6 +55,16 @@ pub fn first_entry_has_extra(buf: &[u8], text: &[u8]) -> bool
 {
     match first_name_end(buf) {
         Some(end) => text.len() <= le16(buf, EXTRA_LENGTH) as usize && stands_at(buf, text, end),
+        None => false,
+    }
+}
+
+/// The first entry has a name that begins with this text.
+fn first_entry_begins(buf: &[u8], text: &[u8]) -> bool
+    ensures { IsTrue result ↔ FirstEntryBegins text.now buf.now }
+{
+    match first_name_end(buf) {
+        Some(end) => text.len() <= end - NAME && stands_at(buf, text, NAME),
         None => false,
     }
 }
@@ -95,6 +112,16 @@ fn is_entry_named(buf: &[u8], name: &[u8], place: usize) -> bool
         && buf.len() - place >= NAME
         && le16(buf, place + NAME_LENGTH) as usize == name.len()
         && stands_at(buf, name, place + NAME)
+}
+
+/// A Java archive, by its first entry: JAR File Specification (Oracle), and what its tool writes.
+pub fn is_java_archive(buf: &[u8]) -> bool
+    ensures { IsTrue result ↔ IsJavaArchive buf.now }
+{
+    first_entry_begins(buf, MANIFEST_FOLDER)
+        && (first_entry_is(buf, MANIFEST)
+            || first_entry_is(buf, MANIFEST_FOLDER) && has_entry(buf, MANIFEST)
+            || first_entry_has_extra(buf, JAVA_EXTRA))
 }
 
 /// A package of the Open Packaging Conventions whose first folder of an application, by place, is this one.

@@ -1,9 +1,9 @@
 //! What more bytes may make the first entry of an archive, and a package.
 ghost use Rattle.std.specs.Prelude.{◌↔◌, IsTrue};
-ghost use Rattle.infer_formats.specs.Zip.{FirstEntryEndsIn, FirstEntryHasExtra, FirstEntryIs, IsOneOf, IsPackageWith, MayHaveFirstEnding, MayHaveFirstField, MayHaveFirstName, MayBePackage, applications};
+ghost use Rattle.infer_formats.specs.Zip.{FirstEntryEndsIn, FirstEntryHasExtra, FirstEntryIs, IsJavaArchive, IsOneOf, IsPackageWith, MayBeginFirstName, MayHaveFirstEnding, MayHaveFirstField, MayHaveFirstName, MayBePackage, applications};
 ghost use Rattle.infer_deep.specs.Signatures.{MayBecome};
 
-use super::{EXTRA_LENGTH, NAME, NAME_LENGTH, first_folder};
+use super::{EXTRA_LENGTH, MANIFEST_FOLDER, NAME, NAME_LENGTH, first_folder};
 use infer_deep::numbers::le16;
 use infer_deep::places::{may_stand_at, stands_at};
 
@@ -71,6 +71,20 @@ fn may_have_first_field(buf: &[u8], text: &[u8]) -> bool
     }
     text.len() <= le16(buf, EXTRA_LENGTH) as usize
         && may_stand_at(buf, text, NAME + le16(buf, NAME_LENGTH) as usize)
+}
+
+/// Whether some bytes after `buf`, or none, may make it a Java archive.
+#[tactic(auto, using(crate::proofs::ZipLemmas::java_known))]
+pub fn may_become_java_archive(buf: &[u8]) -> bool
+    ensures { MayBecome IsJavaArchive buf.now → IsTrue result }
+{
+    may_begin_first_name(buf, MANIFEST_FOLDER)
+}
+
+fn may_begin_first_name(buf: &[u8], text: &[u8]) -> bool
+    ensures { IsTrue result ↔ MayBeginFirstName text.now buf.now }
+{
+    may_stand_at(buf, b"PK\x03\x04", 0) && may_stand_at(buf, text, NAME)
 }
 
 /// Whether some bytes after `buf`, or none, may make it a package of the Open Packaging Conventions whose first folder of
