@@ -101,8 +101,10 @@ static void archives(void) {
                 memcpy(buf, "PK\3\4", 4);
                 little(buf + 26, length, 2);
                 little(buf + 28, extra, 2);
-                bool is_jar = extra >= 2 && 30 + length + 2 <= len;
-                if (is_jar) memcpy(buf + 30 + length, "\xFE\xCA", 2);
+                bool has_field = extra >= 2 && 30 + length + 2 <= len, is_jar = has_field && length >= 9;
+                if (has_field) memcpy(buf + 30 + length, "\xFE\xCA", 2);
+                wants("an archive with an extra field outside META-INF/", buf, len, "zip");
+                if (is_jar) memcpy(buf + 30, "META-INF/", 9);
                 wants("an archive with an extra field", buf, len, is_jar ? "jar" : "zip");
                 bool is_kmz = length >= 4 && 30 + length <= len;
                 if (is_kmz) memcpy(buf + 26 + length, ".kml", 4);

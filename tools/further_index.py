@@ -83,17 +83,12 @@ ghost use Rattle.infer_more.specs.Wider.{{WidensAt}};
 
 use crate::table::{{FurtherRow, row_in_lists, row_of, widens_any, widens_row}};
 
+{}
 /// Row `i`, by one look: the compiler makes a table of the addresses.
 pub(crate) fn row_at(i: usize) -> Option<&'static FurtherRow>
-    ensures listed {{ option_map (λ row. row_listed row.now) result ≡ slice_get further i }}
-    ensures ended {{ IfSome result (λ row. ended_listed row.now.ended
-        ≡ ended_shown (row_listed row.now).shows) }}
-    ensures closed {{ IfSome result (λ row. IsTrue (is_row_closed (row_listed row.now))) }}
-{{
-    match i {{
 {}
-        _ => row_in_lists(i),
-    }}
+{{
+{}
 }}
 
 /// Whether further row `i` has this parent and accepts the buffer: code of its own for each row.
@@ -101,12 +96,38 @@ pub(crate) fn row_at(i: usize) -> Option<&'static FurtherRow>
 pub(crate) fn widens(i: usize, parent: Option<usize>, buf: &[u8]) -> bool
     ensures {{ IsTrue result ↔ WidensAt parent buf.now i }}
 {{
-    match i {{
 {}
+}}
+"""
+# What a row by its number is.
+ROW_IS = """    ensures listed { option_map (λ row. row_listed row.now) result ≡ slice_get further i }
+    ensures ended { IfSome result (λ row. ended_listed row.now.ended
+        ≡ ended_shown (row_listed row.now).shows) }
+    ensures closed { IfSome result (λ row. IsTrue (is_row_closed (row_listed row.now))) }"""
+# The rows before one of these numbers: the borrow checker takes no function with some 500 arms.
+BLOCK = """/// [`row_at`] for the rows before {0}.
+#[inline(always)]
+fn row_before_{0}(i: usize) -> Option<&'static FurtherRow>
+{1}
+{{
+    match i {{
+{2}
+        _ => row_in_lists(i),
+    }}
+}}
+
+/// [`widens`] for the rows before {0}.
+#[inline(always)]
+fn widens_before_{0}(i: usize, parent: Option<usize>, buf: &[u8]) -> bool
+    ensures {{ IsTrue result ↔ WidensAt parent buf.now i }}
+{{
+    match i {{
+{3}
         _ => widens_any(i, parent, buf),
     }}
 }}
 """
+BLOCK_SIZE = 256
 NO_OTHER_PARENT = """-- Made by `tools/tables` from the further rows: no row that the code does not name is the parent of one.
 use Rattle.infer_more.proofs.Common.{{◌∷◌, [], None, arith, refl}}
 use Rattle.infer_more.proofs.Common.{{{names}}}
@@ -195,6 +216,7 @@ MARKUP = [{0: set(b"\t\n\r <")}, {0: {0xEF}, 1: {0xBB}, 2: {0xBF}}]
 JSON = [{0: set(b"\t\n\r [{")}, {0: {0xEF}, 1: {0xBB}, 2: {0xBF}}]
 OUTLINES = {
     "HasEntry": [ZIP],
+    "JavaArchive": [named(b"META-INF/")],
     # (its own pieces tell them)
     "BinaryBytes": None,
     "ClassId": [{0: {0xD0}, 1: {0xCF}, 2: {0x11}, 3: {0xE0}}],
@@ -694,9 +716,28 @@ def computed(rows, parents):
     yield "told_below", TOLD_BELOW.format(parents=others, differ=differing(apart(ways)))
 
 
+def blocks(count):
+    """The numbers of so many rows, some at a time."""
+    return [range(first, min(first + BLOCK_SIZE, count)) for first in range(0, count, BLOCK_SIZE)]
+
+
+def block(numbers):
+    """What tells the rows of these numbers."""
+    return BLOCK.format(numbers.stop, ROW_IS, *(arms(numbers, it) for it in ("row_of::<{}>()", "widens_row::<{}>(parent, buf)")))
+
+
+def by_block(ends, call):
+    """The first block that ends behind row `i`, and the last for what is behind it."""
+    yield from (f"    if i < {end} {{\n        return {call.format(end)};\n    }}" for end in ends[:-1])
+    yield f"    {call.format(ends[-1])}"
+
+
 def by_number(rows):
     """The file with each row by its number, and with code for each."""
-    return BY_NUMBER.format(*(arms(range(len(rows)), it) for it in ("row_of::<{}>()", "widens_row::<{}>(parent, buf)")))
+    parts = blocks(len(rows))
+    ends = [it.stop for it in parts]
+    found = ("\n".join(by_block(ends, it)) for it in ("row_before_{}(i)", "widens_before_{}(i, parent, buf)"))
+    return BY_NUMBER.format("\n".join(map(block, parts)), ROW_IS, *found)
 
 
 def text(rows, parents):

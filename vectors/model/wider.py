@@ -75,6 +75,11 @@ def never_packed(buf: bytes, said: str) -> bool:
     return found is not None and found[1] != folder
 
 
+def never_java(buf: bytes, _: str) -> bool:
+    """The first entry of a ZIP archive has a name that begins otherwise."""
+    return not agrees(buf, b"PK\3\4", 0) or not agrees(buf, b"META-INF/", 30)
+
+
 def never_tagged(buf: bytes, said: str) -> bool:
     """The first directory is whole, and no entry has the tag."""
     if not agrees(buf, b"II*\0", 0) and not agrees(buf, b"MM\0*", 0):
@@ -162,7 +167,7 @@ def never_summed(buf: bytes, _: str) -> bool:
 
 # What each relation is called in the notation, and what rules an alternative of it out.
 NEVER: dict[str, Callable[[bytes, str], bool]] = {
-    "shared object": never_shared, "first entry:": never_named, "package with:": never_packed, "first directory has tag": never_tagged,
+    "shared object": never_shared, "first entry:": never_named, "package with:": never_packed, "Java archive": never_java, "first directory has tag": never_tagged,
     'chunk "acTL" before "IDAT"': never_animated, "behind an ID3 tag:": never_behind_tag, "class id:": never_class, "entry:": lambda buf, said: False, "begins:": never_begun, "JSON lines": never_json,
     "JSON": never_json, "root:": never_rooted, "program:": never_run, "text": never_text, "first cue of SubRip": never_subtitles, "dBASE header": never_dbase, "tar checksum": never_summed,
 }

@@ -1,7 +1,7 @@
 -- What a computation says of buffers that a built-in signature refuses: by their first byte, by what stands behind white
 -- space, or since they begin with no frame; and whether they are markup.
 use Rattle.infer_more.proofs.Common.{◌≡◌, ◌⊎◌, ◌↔◌, inl, inr, ℕ, zero, suc, Bool, true, false, not, IsTrue, List, [], ◌∷◌, ◌++◌, get_or, length, map, take, refl, ap, sym, subst, ◌∙◌, codes, arith, if◌then◌else◌, nat_tests, OccursAt, OccursAt-append, BuiltIn, NoneHas, is_white, Accepts, table, Known, proved, refuted, unknown, at_most, each_before, either, needs, negated, proved_if, refuted_if, takes, ByPlace, occurs, not_both, ◌>>◌}
-use Rattle.std.proofs.Common.{le_refl}
+use Rattle.std.proofs.Common.{◌≤◌, append-nil, le_refl}
 use Rattle.std.specs.Prelude.{Any}
 use Rattle.std.specs.Char.{to_ascii_lowercase}
 use Rattle.infer_deep.specs.Frames.{IsFrame}
@@ -9,7 +9,7 @@ use Rattle.infer_deep.specs.Joined.{NoneBegins, SkipsTo}
 use Rattle.infer_deep.specs.Text.{BeginsInAnyCase, BeginsWithTag, IsHtml, IsMark, IsSpace, IsWhite, IsXml, tags}
 use Rattle.infer_deep.proofs.FrameLemmas.{IsFramed-left}
 use Rattle.infer_deep.proofs.JoinedLemmas.{SkipsTo-cons, SkipsTo-none}
-use Rattle.infer_deep.proofs.TextLemmas.{IsHtml-left, IsXml-lead, IsXml-left, IsXml-trimmed, begins_in_any_case, front_in_any_case, tag_from_text, text_of_tag}
+use Rattle.infer_deep.proofs.TextLemmas.{IsHtml-left, IsXml-lead, IsXml-left, IsXml-trimmed, begins_in_any_case, front_in_any_case, tag_end, tag_from_text, text_of_tag}
 use Rattle.infer.specs.BuiltIn.{framed, html, xml, IsAccepted}
 use Rattle.infer.specs.Leads.{Leads, allows_first}
 use Rattle.infer.proofs.DecisionLemmas.{known}
@@ -74,11 +74,14 @@ module _ (b : List ℕ) where
   abbrev begins_with : (t : List ℕ) → Known (map to_ascii_lowercase (take (length t) left) ≡ map to_ascii_lowercase t)
   begins_with t = same_text (map to_ascii_lowercase (take (length t) left)) (map to_ascii_lowercase t)
 
+  pub ends_tag : (tag : List ℕ) → suc (length tag) ≤ length left → BeginsWithTag tag left → (get_or left (length tag) 0 ≡ 0x20) ⊎ (get_or left (length tag) 0 ≡ 0x3E)
+  ends_tag tag long h = tag_end left [] tag (subst (BeginsWithTag tag) (sym (append-nil left)) h) (omega arith)
+
   abbrev has_tag : (tag : List ℕ) → Known (BeginsWithTag tag left)
   has_tag tag = do
     equal ← needs (begins_with tag) (λ h. front_in_any_case left tag (text_of_tag left tag h))
     long ← takes (at_most (suc (length tag)) (length left))
-    closes ← takes (either (same (get_or left (length tag) 0) 0x20) (same (get_or left (length tag) 0) 0x3E))
+    closes ← needs (either (same (get_or left (length tag) 0) 0x20) (same (get_or left (length tag) 0) 0x3E)) (ends_tag tag long)
     proved (tag_from_text left tag long closes (begins_in_any_case left tag equal))
 
   abbrev pub known_html : Known (IsHtml b)

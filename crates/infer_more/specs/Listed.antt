@@ -1,5 +1,5 @@
 -- The further rows as the code lists them.
-use Rattle.std.specs.Prelude.{◌≡◌, ◌==◌, ℕ, Bool, true, false, List, [], ◌∷◌, ◌++◌, MatchOption, if◌then◌else◌, map, slice_get}
+use Rattle.std.specs.Prelude.{◌≡◌, ◌==◌, ℕ, Bool, true, false, List, [], ◌∷◌, ◌++◌, Some, MatchOption, if◌then◌else◌, map, slice_get}
 use denote.Ref.{Bor}
 use Rattle.infer_formats.specs.Relation.{relation_listed}
 use Rattle.infer_sig.specs.Signature as fixed
@@ -58,3 +58,12 @@ AreEnded rows = map (λ r. ended_listed r.ended) rows ≡ map (λ r. ended_shown
 abbrev pub joined : List (Bor (List FurtherRow)) → List Further
 joined [] = []
 joined (rows ∷ others) = map row_listed rows.now ++ joined others
+
+-- row i of these lists is this one, whatever lists are behind them
+abbrev pub IsAmong : List (Bor (List FurtherRow)) → ℕ → Further → Type 0
+IsAmong lists i row = (others : List (Bor (List FurtherRow))) → Some row ≡ slice_get (joined (lists ++ others)) i
+
+-- these lists have no row i: it is row `left` of whatever lists are behind them
+abbrev pub IsBehind : List (Bor (List FurtherRow)) → ℕ → ℕ → Type 0
+IsBehind lists i left =
+    (others : List (Bor (List FurtherRow))) → slice_get (joined others) left ≡ slice_get (joined (lists ++ others)) i

@@ -1,12 +1,12 @@
 -- The further rows, in order. A row whose signature has no alternative accepts nothing.
 use Rattle.std.specs.Prelude.{ℕ, List, [], ◌∷◌, ◌++◌, Option, None, Some, codes}
-use Rattle.infer_formats.specs.Relation.{animated, behind_id3, class_id, dbase, directory_tag, first_entry_ends_in, first_entry_has_extra, first_entry_is, has_entry, json_lines, json_text, package_with, plain_text, program, root, root_with, shared_object, subrip, tar_checksum, text_first, text_first_with}
+use Rattle.infer_formats.specs.Relation.{animated, behind_id3, class_id, dbase, directory_tag, first_entry_ends_in, first_entry_is, has_entry, java_archive, json_lines, json_text, package_with, plain_text, program, root, root_with, shared_object, subrip, tar_checksum, text_first, text_first_with}
 use Rattle.infer_sig.specs.Signature as fixed
 use Rattle.infer_sig.specs.Signature.{text, byte, any_of, between}
 use Rattle.infer.specs.Triple.{triple}
 use Rattle.infer.specs.declared.table.file_type.MatcherType.{MatcherType}
 use Rattle.infer.specs.declared.table.file_type.MatcherType.TheVariants.{App, Archive, Audio, Book, Doc, Font, Image, Text, Video}
-use Rattle.infer.specs.declared.table.rows.TheConstants.{AR, CAB, DER, DJVU, DOCX, ELF, EXE, GZ, HEIF, HTML, JPEG, JPEG2000, MP3, MSI, ODP, ODS, ODT, OGG, PEM, PNG, PPTX, PS, RPM, SHELLSCRIPT, SQLITE, TAR, TIFF, XLSX, XML, ZIP}
+use Rattle.infer.specs.declared.table.rows.TheConstants.{AR, CAB, DER, DJVU, DOCX, ELF, EXE, GZ, HEIF, HTML, ICO, JPEG, JPEG2000, MP3, MSI, ODP, ODS, ODT, OGG, PEM, PNG, PPTX, PS, RPM, SHELLSCRIPT, SQLITE, TAR, TIFF, WOFF2, XLSX, XML, ZIP}
 use Rattle.infer_more.specs.Row.{Further}
 use Rattle.infer_notation.specs.Alternative.{Alternative, at_least, binary_bytes, related}
 
@@ -22,7 +22,7 @@ packages =
     ∷ row App (codes "application/x-sharedlib") (codes "so") (Some ELF) (related shared_object ∷ [])
     ∷ row App (codes "application/vnd.android.package-archive") (codes "apk") (Some ZIP) (related (first_entry_is (codes "AndroidManifest.xml")) ∷ related (first_entry_is (codes "META-INF/com/android/build/gradle/app-metadata.properties")) ∷ [])
     ∷ row Archive (codes "application/vnd.google-earth.kmz") (codes "kmz") (Some ZIP) (related (first_entry_ends_in (codes ".kml")) ∷ [])
-    ∷ row Archive (codes "application/java-archive") (codes "jar") (Some ZIP) (related (first_entry_is (codes "META-INF/MANIFEST.MF")) ∷ related (first_entry_is (codes "META-INF/")) ∷ related (first_entry_has_extra (0xFE ∷ 0xCA ∷ [])) ∷ [])
+    ∷ row Archive (codes "application/java-archive") (codes "jar") (Some ZIP) (related java_archive ∷ [])
     ∷ row Doc (codes "application/vnd.openxmlformats-officedocument.wordprocessingml.document") (codes "docx") (Some ZIP) (related (package_with (codes "word/")) ∷ [])
     ∷ row Doc (codes "application/vnd.openxmlformats-officedocument.spreadsheetml.sheet") (codes "xlsx") (Some ZIP) (related (package_with (codes "xl/")) ∷ [])
     ∷ row Doc (codes "application/vnd.openxmlformats-officedocument.presentationml.presentation") (codes "pptx") (Some ZIP) (related (package_with (codes "ppt/")) ∷ [])
@@ -582,6 +582,394 @@ tunes =
     ∷ row Video (codes "video/x-dirac") (codes "drc") None (at_least 5 (text 0 (codes "BBCD" ++ 0x00 ∷ []) ∷ []) ∷ [])
     ∷ []
 
+-- pictures, sounds and archives that few programs write
+unfoldable pub squeezed : List Further
+squeezed =
+    row Image (codes "image/x-paintnet") (codes "pdn") None (binary_bytes (fixed.at_least 5 (text 0 (codes "PDN3") ∷ [])) ∷ [])
+    ∷ row Image (codes "image/x-niff") (codes "niff") None (binary_bytes (fixed.at_least 5 (text 0 (codes "IIN1") ∷ [])) ∷ [])
+    ∷ row Image (codes "image/x-hsi") (codes "hsi") None (binary_bytes (fixed.at_least 5 (text 0 (codes "hsi1") ∷ [])) ∷ [])
+    ∷ row Image (codes "image/x-godot-stex") (codes "stex") None (binary_bytes (fixed.at_least 5 (text 0 (codes "GDST") ∷ [])) ∷ [])
+    ∷ row Image (codes "image/x-epoc-mbm") (codes "mbm") None (at_least 8 (text 0 (0x37 ∷ 0x00 ∷ 0x00 ∷ 0x10 ∷ 0x42 ∷ 0x00 ∷ 0x00 ∷ 0x10 ∷ []) ∷ []) ∷ [])
+    ∷ row Audio (codes "audio/x-tta") (codes "tta") None (at_least 6 (text 0 (codes "TTA") ∷ byte 3 (any_of (0x31 ∷ 0x32 ∷ [])) ∷ text 5 (0x00 ∷ []) ∷ []) ∷ [])
+    ∷ row Audio (codes "audio/x-avr") (codes "avr") None (binary_bytes (fixed.at_least 5 (text 0 (codes "2BIT") ∷ [])) ∷ [])
+    ∷ row Audio (codes "audio/x-hx-aac-adif") (codes "adif") None (binary_bytes (fixed.at_least 5 (text 0 (codes "ADIF") ∷ [])) ∷ [])
+    ∷ row Video (codes "video/x-nsv") (codes "nsv") None (binary_bytes (fixed.at_least 5 (text 0 (codes "NSVf") ∷ [])) ∷ [])
+    ∷ row Archive (codes "application/x-zoo") (codes "zoo") None (at_least 24 (text 0 (codes "ZOO ") ∷ text 20 (0xDC ∷ 0xA7 ∷ 0xC4 ∷ 0xFD ∷ []) ∷ []) ∷ [])
+    ∷ row Archive (codes "application/x-stuffit") (codes "sit") None (at_least 14 (text 0 (codes "SIT!") ∷ text 10 (codes "rLau") ∷ []) ∷ at_least 16 (text 0 (codes "StuffIt (c)1997-") ∷ []) ∷ [])
+    ∷ row Archive (codes "application/x-rzip") (codes "rz") None (at_least 6 (text 0 (codes "RZIP" ++ 0x02 ∷ []) ∷ byte 5 (between 0x00 0x01) ∷ []) ∷ [])
+    ∷ row Archive (codes "application/x-zpaq") (codes "zpaq") None (at_least 16 (text 0 (codes "7kSt" ++ 0xA0 ∷ 0x31 ∷ 0x83 ∷ 0xD3 ∷ 0x8C ∷ 0xB2 ∷ 0x28 ∷ 0xB0 ∷ 0xD3 ∷ [] ++ codes "zPQ") ∷ []) ∷ [])
+    ∷ row Archive (codes "application/x-par") (codes "par") None (at_least 8 (text 0 (codes "PAR" ++ 0x00 ∷ 0x00 ∷ 0x00 ∷ 0x00 ∷ 0x00 ∷ []) ∷ []) ∷ [])
+    ∷ row Archive (codes "application/x-egg") (codes "egg") None (at_least 6 (text 0 (codes "EGGA" ++ 0x00 ∷ 0x01 ∷ []) ∷ []) ∷ [])
+    ∷ row Archive (codes "application/x-ms-compress-szdd") (codes "szdd") None (at_least 9 (text 0 (codes "SZDD" ++ 0x88 ∷ 0xF0 ∷ [] ++ codes "'3A") ∷ []) ∷ [])
+    ∷ row Archive (codes "application/x-ms-compress-kwaj") (codes "kwaj") None (at_least 8 (text 0 (codes "KWAJ" ++ 0x88 ∷ 0xF0 ∷ 0x27 ∷ 0xD1 ∷ []) ∷ []) ∷ [])
+    ∷ row Archive (codes "application/x-ms-compress-sz") (codes "szq") None (at_least 8 (text 0 (codes "SZ " ++ 0x88 ∷ 0xF0 ∷ [] ++ codes "'3" ++ 0xD1 ∷ []) ∷ []) ∷ [])
+    ∷ row Archive (codes "application/x-lzfse") (codes "lzfse") None (binary_bytes (fixed.at_least 5 (text 0 (codes "bvx") ∷ byte 3 (any_of (0x2D ∷ 0x31 ∷ 0x32 ∷ 0x6E ∷ [])) ∷ [])) ∷ [])
+    ∷ row Archive (codes "application/x-std-dictionary") (codes "zdict") None (at_least 4 (text 0 (0x37 ∷ 0xA4 ∷ 0x30 ∷ 0xEC ∷ []) ∷ []) ∷ [])
+    ∷ []
+
+-- packed files, packs of version control, and archives
+unfoldable pub bundles : List Further
+bundles =
+    row Archive (codes "application/x-bzip") (codes "bz1") None (at_least 4 (text 0 (codes "BZ0") ∷ byte 3 (between 0x31 0x39) ∷ []) ∷ [])
+    ∷ row Archive (codes "application/x-lz4+json") (codes "jsonlz4") None (at_least 8 (text 0 (codes "mozLz40" ++ 0x00 ∷ []) ∷ []) ∷ [])
+    ∷ row App (codes "application/x-openssl-encrypted") (codes "openssl") None (at_least 8 (text 0 (codes "Salted__") ∷ []) ∷ [])
+    ∷ row Archive (codes "application/x-vcdiff") (codes "vcdiff") None (at_least 5 (text 0 (0xD6 ∷ 0xC3 ∷ 0xC4 ∷ []) ∷ byte 3 (any_of (0x00 ∷ 0x53 ∷ [])) ∷ byte 4 (between 0x00 0x07) ∷ []) ∷ [])
+    ∷ row Archive (codes "application/x-git") (codes "pack") None (at_least 8 (text 0 (codes "PACK" ++ 0x00 ∷ 0x00 ∷ 0x00 ∷ []) ∷ byte 7 (any_of (0x02 ∷ 0x03 ∷ [])) ∷ []) ∷ [])
+    ∷ row App (codes "application/x-git-pack-index") (codes "gitidx") None (at_least 8 (text 0 (0xFF ∷ [] ++ codes "tOc" ++ 0x00 ∷ 0x00 ∷ 0x00 ∷ 0x02 ∷ []) ∷ []) ∷ [])
+    ∷ row App (codes "application/x-git-index") (codes "gitindex") None (at_least 8 (text 0 (codes "DIRC" ++ 0x00 ∷ 0x00 ∷ 0x00 ∷ []) ∷ byte 7 (between 0x02 0x04) ∷ []) ∷ [])
+    ∷ row Archive (codes "application/x-git-bundle") (codes "gitbundle") None (at_least 16 (text 0 (codes "# v") ∷ byte 3 (any_of (0x32 ∷ 0x33 ∷ [])) ∷ text 4 (codes " git bundle" ++ 0x0A ∷ []) ∷ []) ∷ [])
+    ∷ row Archive (codes "application/x-hg-bundle") (codes "hgbundle") None (at_least 6 (text 0 (codes "HG10") ∷ byte 4 (any_of (0x42 ∷ 0x47 ∷ 0x55 ∷ [])) ∷ byte 5 (any_of (0x4E ∷ 0x5A ∷ [])) ∷ []) ∷ at_least 7 (text 0 (codes "HG20" ++ 0x00 ∷ 0x00 ∷ []) ∷ byte 6 (between 0x00 0x0F) ∷ []) ∷ [])
+    ∷ row Archive (codes "application/x-svn-dump") (codes "svndump") None (at_least 29 (text 0 (codes "SVN-fs-dump-format-version: ") ∷ byte 28 (between 0x31 0x33) ∷ []) ∷ [])
+    ∷ row Archive (codes "application/x-unix-archive") (codes "thin") None (at_least 8 (text 0 (codes "!<thin>" ++ 0x0A ∷ []) ∷ []) ∷ [])
+    ∷ row App (codes "x-epoc/x-sisx-app") (codes "sisx") None (at_least 4 (text 0 (0x7A ∷ 0x1A ∷ 0x20 ∷ 0x10 ∷ []) ∷ []) ∷ [])
+    ∷ row Archive (codes "application/x-acronis-tib") (codes "tib") None (at_least 8 (text 0 (0xCE ∷ 0x24 ∷ 0xB9 ∷ 0xA2 ∷ 0x20 ∷ 0x00 ∷ 0x00 ∷ 0x00 ∷ []) ∷ []) ∷ [])
+    ∷ row Archive (codes "application/x-ia-arc") (codes "iaarc") None (at_least 11 (text 0 (codes "filedesc://") ∷ []) ∷ [])
+    ∷ row Archive (codes "application/x-eet") (codes "eet") None (at_least 4 (text 0 (0x1E ∷ 0xE7 ∷ 0xFF ∷ 0x00 ∷ []) ∷ []) ∷ [])
+    ∷ row Archive (codes "application/mac-binhex40") (codes "hqx") None (at_least 45 (text 0 (codes "(This file must be converted with BinHex 4.0)") ∷ []) ∷ [])
+    ∷ row Archive (codes "application/x-xbmc-xbt") (codes "xbt") None (at_least 5 (text 0 (codes "XBTF") ∷ byte 4 (between 0x30 0x39) ∷ []) ∷ [])
+    ∷ row Archive (codes "application/vnd.sar") (codes "sar") None (at_least 8 (text 0 (codes "CAR 2.0") ∷ byte 7 (between 0x30 0x31) ∷ []) ∷ [])
+    ∷ row Archive (codes "application/x-compressed-iso") (codes "cso") None (at_least 21 (text 0 (codes "CISO") ∷ text 16 (0x00 ∷ 0x08 ∷ 0x00 ∷ 0x00 ∷ []) ∷ byte 20 (between 0x00 0x02) ∷ []) ∷ [])
+    ∷ row Archive (codes "application/x-apple-diskimage") (codes "apm") None (at_least 516 (text 0 (codes "ER") ∷ text 512 (codes "PM" ++ 0x00 ∷ 0x00 ∷ []) ∷ []) ∷ [])
+    ∷ []
+
+-- disks, file systems, images of memory, and pictures
+unfoldable pub volumes : List Further
+volumes =
+    row Archive (codes "application/x-vmdk-disk") (codes "vmdkcow") None (at_least 8 (text 0 (codes "COWD" ++ 0x01 ∷ 0x00 ∷ 0x00 ∷ 0x00 ∷ []) ∷ []) ∷ [])
+    ∷ row Archive (codes "application/x-parallels-disk") (codes "hdd") None (at_least 20 (text 0 (codes "WithoutFreeSpace" ++ 0x02 ∷ 0x00 ∷ 0x00 ∷ 0x00 ∷ []) ∷ []) ∷ at_least 20 (text 0 (codes "WithouFreSpacExt" ++ 0x02 ∷ 0x00 ∷ 0x00 ∷ 0x00 ∷ []) ∷ []) ∷ [])
+    ∷ row Archive (codes "application/x-atari-msa") (codes "msa") None (at_least 6 (text 0 (0x0E ∷ 0x0F ∷ 0x00 ∷ []) ∷ byte 3 (between 0x01 0x14) ∷ text 4 (0x00 ∷ []) ∷ byte 5 (any_of (0x00 ∷ 0x01 ∷ [])) ∷ []) ∷ [])
+    ∷ row Archive (codes "application/x-spectrum-tzx") (codes "tzx") None (at_least 9 (text 0 (codes "ZXTape!" ++ 0x1A ∷ 0x01 ∷ []) ∷ []) ∷ [])
+    ∷ row Archive (codes "application/x-g64-disk") (codes "g64") None (at_least 8 (text 0 (codes "GCR-1541") ∷ []) ∷ [])
+    ∷ row Archive (codes "application/x-xfs-filesystem") (codes "xfs") None (at_least 7 (text 0 (codes "XFSB" ++ 0x00 ∷ 0x00 ∷ []) ∷ byte 6 (between 0x02 0xFF) ∷ []) ∷ [])
+    ∷ row Archive (codes "application/x-fat-filesystem") (codes "fat") None (at_least 512 (byte 0 (any_of (0xE9 ∷ 0xEB ∷ [])) ∷ text 54 (codes "FAT1") ∷ byte 58 (any_of (0x32 ∷ 0x36 ∷ [])) ∷ text 510 (0x55 ∷ 0xAA ∷ []) ∷ []) ∷ at_least 512 (byte 0 (any_of (0xE9 ∷ 0xEB ∷ [])) ∷ text 82 (codes "FAT32   ") ∷ text 510 (0x55 ∷ 0xAA ∷ []) ∷ []) ∷ [])
+    ∷ row Archive (codes "application/x-cramfs") (codes "cramfs") None (at_least 32 (text 0 (codes "E=" ++ 0xCD ∷ 0x28 ∷ []) ∷ text 16 (codes "Compressed ROMFS") ∷ []) ∷ at_least 32 (text 0 (0x28 ∷ 0xCD ∷ [] ++ codes "=E") ∷ text 16 (codes "Compressed ROMFS") ∷ []) ∷ [])
+    ∷ row Archive (codes "application/x-romfs") (codes "romfs") None (at_least 8 (text 0 (codes "-rom1fs-") ∷ []) ∷ [])
+    ∷ row Archive (codes "application/x-jffs2") (codes "jffs2") None (at_least 4 (text 0 (0x85 ∷ 0x19 ∷ []) ∷ byte 2 (any_of (0x01 ∷ 0x02 ∷ 0x03 ∷ 0x06 ∷ [])) ∷ byte 3 (any_of (0x20 ∷ 0xE0 ∷ [])) ∷ []) ∷ at_least 4 (text 0 (0x19 ∷ 0x85 ∷ []) ∷ byte 2 (any_of (0x20 ∷ 0xE0 ∷ [])) ∷ byte 3 (any_of (0x01 ∷ 0x02 ∷ 0x03 ∷ 0x06 ∷ [])) ∷ []) ∷ [])
+    ∷ row Archive (codes "application/x-ubi") (codes "ubi") None (at_least 5 (text 0 (codes "UBI#" ++ 0x01 ∷ []) ∷ []) ∷ [])
+    ∷ row Archive (codes "application/x-ubifs") (codes "ubifs") None (at_least 4 (text 0 (0x31 ∷ 0x18 ∷ 0x10 ∷ 0x06 ∷ []) ∷ []) ∷ [])
+    ∷ row App (codes "application/x-dtb") (codes "dtb") None (at_least 5 (text 0 (0xD0 ∷ 0x0D ∷ 0xFE ∷ 0xED ∷ 0x00 ∷ []) ∷ []) ∷ [])
+    ∷ row App (codes "application/x-uimage") (codes "uimage") None (at_least 32 (text 0 (0x27 ∷ 0x05 ∷ 0x19 ∷ 0x56 ∷ []) ∷ byte 28 (between 0x01 0x1F) ∷ byte 29 (between 0x01 0x1F) ∷ byte 30 (between 0x01 0x0F) ∷ byte 31 (between 0x00 0x06) ∷ []) ∷ [])
+    ∷ row App (codes "application/x-android-boot-image") (codes "bootimg") None (at_least 8 (text 0 (codes "ANDROID!") ∷ []) ∷ [])
+    ∷ row Archive (codes "application/x-android-sparse-image") (codes "simg") None (at_least 12 (text 0 (0x3A ∷ 0xFF ∷ 0x26 ∷ 0xED ∷ 0x01 ∷ 0x00 ∷ []) ∷ text 8 (0x1C ∷ 0x00 ∷ 0x0C ∷ 0x00 ∷ []) ∷ []) ∷ [])
+    ∷ row App (codes "application/x-uf2") (codes "uf2") None (at_least 8 (text 0 (codes "UF2" ++ 0x0A ∷ [] ++ codes "WQ]" ++ 0x9E ∷ []) ∷ []) ∷ [])
+    ∷ row Archive (codes "application/zstd") (codes "zstold") None (at_least 4 (byte 0 (between 0x22 0x27) ∷ text 1 (0xB5 ∷ 0x2F ∷ 0xFD ∷ []) ∷ []) ∷ [])
+    ∷ row Image (codes "image/x-pic") (codes "pic") None (at_least 92 (text 0 (0x53 ∷ 0x80 ∷ 0xF6 ∷ 0x34 ∷ []) ∷ text 88 (codes "PICT") ∷ []) ∷ [])
+    ∷ row Image (codes "image/x-blp") (codes "blp") None (at_least 8 (text 0 (codes "BLP") ∷ byte 3 (any_of (0x30 ∷ 0x31 ∷ 0x32 ∷ [])) ∷ byte 4 (any_of (0x00 ∷ 0x01 ∷ [])) ∷ text 5 (0x00 ∷ 0x00 ∷ 0x00 ∷ []) ∷ []) ∷ [])
+    ∷ []
+
+-- models, sounds, pictures, and what installers write
+unfoldable pub assorted : List Further
+assorted =
+    row Image (codes "image/x-svm") (codes "svm") None (at_least 8 (text 0 (codes "VCLMTF" ++ 0x01 ∷ 0x00 ∷ []) ∷ []) ∷ [])
+    ∷ row Image (codes "image/x-gd2") (codes "gd2") None (at_least 6 (text 0 (codes "gd2" ++ 0x00 ∷ 0x00 ∷ []) ∷ byte 5 (between 0x01 0x02) ∷ []) ∷ [])
+    ∷ row Image (codes "image/x-gdkpixdata") (codes "gdkp") None (at_least 6 (text 0 (codes "GdkP" ++ 0x00 ∷ 0x00 ∷ []) ∷ []) ∷ [])
+    ∷ row Audio (codes "application/x-guitar-pro") (codes "gtp") None (at_least 21 (byte 0 (between 0x10 0x1F) ∷ text 1 (codes "FICHIER GUITAR PRO v") ∷ []) ∷ [])
+    ∷ row Audio (codes "application/x-supercollider-synthdef") (codes "scsyn") None (at_least 8 (text 0 (codes "SCgf" ++ 0x00 ∷ 0x00 ∷ 0x00 ∷ []) ∷ byte 7 (between 0x00 0x03) ∷ []) ∷ [])
+    ∷ row Image (codes "model/x-milkshape") (codes "ms3d") None (at_least 14 (text 0 (codes "MS3D000000" ++ 0x03 ∷ 0x00 ∷ 0x00 ∷ 0x00 ∷ []) ∷ []) ∷ at_least 14 (text 0 (codes "MS3D000000" ++ 0x04 ∷ 0x00 ∷ 0x00 ∷ 0x00 ∷ []) ∷ []) ∷ [])
+    ∷ row Archive (codes "application/x-spectrum-szx") (codes "szx") None (at_least 5 (text 0 (codes "ZXST" ++ 0x01 ∷ []) ∷ []) ∷ [])
+    ∷ row App (codes "application/x-intel-aml") (codes "aml") None (at_least 9 (text 0 (codes "DSDT") ∷ text 7 (0x00 ∷ []) ∷ byte 8 (between 0x01 0x02) ∷ []) ∷ at_least 9 (text 0 (codes "SSDT") ∷ text 7 (0x00 ∷ []) ∷ byte 8 (between 0x01 0x02) ∷ []) ∷ [])
+    ∷ row Audio (codes "audio/eac3") (codes "eac3") None (at_least 6 (text 0 (0x0B ∷ 0x77 ∷ []) ∷ byte 2 (between 0x00 0x07) ∷ byte 5 (between 0x80 0x87) ∷ []) ∷ [])
+    ∷ row Image (codes "image/x-vips") (codes "vips") None (at_least 7 (text 0 (0x08 ∷ 0xF2 ∷ 0xA6 ∷ 0xB6 ∷ 0x00 ∷ 0x00 ∷ []) ∷ byte 6 (between 0x00 0x7F) ∷ []) ∷ at_least 8 (text 0 (0xB6 ∷ 0xA6 ∷ 0xF2 ∷ 0x08 ∷ []) ∷ text 6 (0x00 ∷ 0x00 ∷ []) ∷ []) ∷ [])
+    ∷ row Audio (codes "audio/x-maud") (codes "maud") None (at_least 12 (text 0 (codes "FORM") ∷ text 8 (codes "MAUD") ∷ []) ∷ [])
+    ∷ row Audio (codes "audio/x-sample-vision") (codes "smp") None (at_least 18 (text 0 (codes "SOUND SAMPLE DATA ") ∷ []) ∷ [])
+    ∷ row Audio (codes "audio/x-yamaha-txw") (codes "txw") None (at_least 8 (text 0 (codes "LM8953" ++ 0x00 ∷ 0x00 ∷ []) ∷ []) ∷ [])
+    ∷ row Image (codes "image/x-dib") (codes "dib") None (at_least 16 (text 0 (0x28 ∷ 0x00 ∷ 0x00 ∷ 0x00 ∷ []) ∷ text 12 (0x01 ∷ 0x00 ∷ []) ∷ byte 14 (any_of (0x01 ∷ 0x04 ∷ 0x08 ∷ 0x10 ∷ 0x18 ∷ 0x20 ∷ [])) ∷ text 15 (0x00 ∷ []) ∷ []) ∷ [])
+    ∷ row App (codes "application/x-innosetup") (codes "innolog") None (at_least 32 (text 0 (codes "Inno Setup Uninstall Log (b)" ++ 0x00 ∷ 0x00 ∷ 0x00 ∷ 0x00 ∷ []) ∷ []) ∷ [])
+    ∷ row Archive (codes "application/x-ms-sdi") (codes "sdi") None (at_least 8 (text 0 (codes "$SDI0001") ∷ []) ∷ [])
+    ∷ row Font (codes "font/x-drdos-cpi") (codes "drdoscpi") None (at_least 7 (text 0 (0x7F ∷ [] ++ codes "DRFONT") ∷ []) ∷ [])
+    ∷ row App (codes "application/x-os2-msg") (codes "os2msg") None (at_least 8 (text 0 (0xFF ∷ [] ++ codes "MKMSGF" ++ 0x00 ∷ []) ∷ []) ∷ [])
+    ∷ row Doc (codes "application/x-kspread-crypt") (codes "kspcrypt") None (at_least 4 (text 0 (0x0D ∷ []) ∷ text 1 (0x1A ∷ 0x27 ∷ 0x02 ∷ []) ∷ []) ∷ [])
+    ∷ row Doc (codes "application/x-kword-crypt") (codes "kwdcrypt") None (at_least 4 (text 0 (0x0D ∷ []) ∷ text 1 (0x1A ∷ 0x27 ∷ 0x01 ∷ []) ∷ []) ∷ [])
+    ∷ []
+
+-- databases and caches
+unfoldable pub databases : List Further
+databases =
+    row App (codes "application/x-grub-keyboard") (codes "grubkbd") None (at_least 10 (text 0 (codes "GRUBLAYO" ++ 0x0A ∷ 0x00 ∷ []) ∷ []) ∷ [])
+    ∷ row App (codes "application/x-rrd") (codes "rrd") None (at_least 8 (text 0 (codes "RRD" ++ 0x00 ∷ [] ++ codes "000") ∷ byte 7 (between 0x30 0x39) ∷ []) ∷ [])
+    ∷ row App (codes "application/x-tdb") (codes "tdb") None (at_least 9 (text 0 (codes "TDB file" ++ 0x0A ∷ []) ∷ []) ∷ [])
+    ∷ row App (codes "application/x-tokyocabinet-hash") (codes "tch") None (at_least 33 (text 0 (codes "ToKyO CaBiNeT" ++ 0x0A ∷ []) ∷ text 32 (0x00 ∷ []) ∷ []) ∷ [])
+    ∷ row App (codes "application/x-tokyocabinet-btree") (codes "tcb") None (at_least 33 (text 0 (codes "ToKyO CaBiNeT" ++ 0x0A ∷ []) ∷ text 32 (0x01 ∷ []) ∷ []) ∷ [])
+    ∷ row App (codes "application/x-tokyocabinet-fixed") (codes "tcf") None (at_least 33 (text 0 (codes "ToKyO CaBiNeT" ++ 0x0A ∷ []) ∷ text 32 (0x02 ∷ []) ∷ []) ∷ [])
+    ∷ row App (codes "application/x-tokyocabinet-table") (codes "tct") None (at_least 33 (text 0 (codes "ToKyO CaBiNeT" ++ 0x0A ∷ []) ∷ text 32 (0x03 ∷ []) ∷ []) ∷ [])
+    ∷ row App (codes "application/x-mysql-myisam") (codes "myi") None (at_least 4 (text 0 (0xFE ∷ 0xFE ∷ 0x07 ∷ []) ∷ byte 3 (between 0x00 0x05) ∷ []) ∷ [])
+    ∷ row App (codes "application/x-mysql-binlog") (codes "binlog") None (at_least 5 (text 0 (0xFE ∷ [] ++ codes "bin") ∷ []) ∷ [])
+    ∷ row App (codes "application/x-postgresql-dump") (codes "pgdump") None (at_least 7 (text 0 (codes "PGDMP" ++ 0x01 ∷ []) ∷ byte 6 (between 0x00 0x20) ∷ []) ∷ [])
+    ∷ row App (codes "application/x-redis-dump") (codes "rdb") None (at_least 9 (text 0 (codes "REDIS") ∷ byte 5 (between 0x30 0x39) ∷ byte 6 (between 0x30 0x39) ∷ byte 7 (between 0x30 0x39) ∷ byte 8 (between 0x30 0x39) ∷ []) ∷ [])
+    ∷ row App (codes "application/vnd.hdt") (codes "hdt") None (at_least 5 (text 0 (codes "$HDT" ++ 0x01 ∷ []) ∷ []) ∷ [])
+    ∷ row App (codes "application/x-apt-cache") (codes "aptcache") None (at_least 4 (text 0 (0xDC ∷ 0x76 ∷ 0xFE ∷ 0x98 ∷ []) ∷ []) ∷ [])
+    ∷ row App (codes "application/x-ld-so-cache") (codes "ldcache") None (at_least 20 (text 0 (codes "glibc-ld.so.cache1.1") ∷ []) ∷ at_least 11 (text 0 (codes "ld.so-1.7.0") ∷ []) ∷ [])
+    ∷ row App (codes "application/x-glibc-locale-archive") (codes "locarch") None (at_least 4 (text 0 (0x09 ∷ []) ∷ text 1 (0x01 ∷ 0x02 ∷ 0xDE ∷ []) ∷ []) ∷ [])
+    ∷ row App (codes "application/x-gconv-cache") (codes "gconv") None (at_least 4 (text 0 (0x24 ∷ 0x03 ∷ 0x01 ∷ 0x20 ∷ []) ∷ []) ∷ [])
+    ∷ row App (codes "application/x-fontconfig-cache") (codes "fccache") None (at_least 8 (text 0 (0x04 ∷ 0xFC ∷ 0x02 ∷ 0xFC ∷ []) ∷ text 5 (0x00 ∷ 0x00 ∷ 0x00 ∷ []) ∷ []) ∷ [])
+    ∷ row App (codes "application/x-gvdb") (codes "gvdb") None (at_least 12 (text 0 (codes "GVariant" ++ 0x00 ∷ 0x00 ∷ 0x00 ∷ 0x00 ∷ []) ∷ []) ∷ at_least 12 (text 0 (codes "raVGtnai" ++ 0x00 ∷ 0x00 ∷ 0x00 ∷ 0x00 ∷ []) ∷ []) ∷ [])
+    ∷ row App (codes "application/x-gir-typelib") (codes "typelib") None (at_least 16 (text 0 (codes "GOBJ" ++ 0x0A ∷ [] ++ codes "METADATA" ++ 0x0D ∷ 0x0A ∷ 0x1A ∷ []) ∷ []) ∷ [])
+    ∷ row App (codes "application/syzygy") (codes "syzygy") None (at_least 4 (text 0 (0xD7 ∷ 0x66 ∷ 0x0C ∷ 0xA5 ∷ []) ∷ []) ∷ at_least 4 (text 0 (0x71 ∷ 0xE8 ∷ [] ++ codes "#]") ∷ []) ∷ [])
+    ∷ []
+
+-- data of science, and lists of genes
+unfoldable pub science : List Further
+science =
+    row App (codes "application/x-netcdf") (codes "nc") None (at_least 4 (text 0 (codes "CDF") ∷ byte 3 (any_of (0x01 ∷ 0x02 ∷ 0x05 ∷ [])) ∷ []) ∷ [])
+    ∷ row App (codes "application/x-cdf") (codes "cdf") None (at_least 4 (text 0 (0xCD ∷ 0xF3 ∷ 0x00 ∷ 0x01 ∷ []) ∷ []) ∷ at_least 4 (text 0 (0xCD ∷ 0xF2 ∷ 0x60 ∷ 0x02 ∷ []) ∷ []) ∷ [])
+    ∷ row App (codes "application/x-grib") (codes "grib") None (at_least 8 (text 0 (codes "GRIB") ∷ text 7 (0x01 ∷ []) ∷ []) ∷ [])
+    ∷ row App (codes "application/x-grib2") (codes "grib2") None (at_least 8 (text 0 (codes "GRIB") ∷ text 7 (0x02 ∷ []) ∷ []) ∷ [])
+    ∷ row App (codes "application/x-bufr") (codes "bufr") None (at_least 8 (text 0 (codes "BUFR") ∷ byte 7 (any_of (0x02 ∷ 0x03 ∷ 0x04 ∷ [])) ∷ []) ∷ [])
+    ∷ row App (codes "application/x-matlab-data") (codes "mat") None (at_least 19 (text 0 (codes "MATLAB 5.0 MAT-file") ∷ []) ∷ [])
+    ∷ row App (codes "application/x-r-data") (codes "rdata") None (at_least 5 (text 0 (codes "RDX") ∷ byte 3 (any_of (0x32 ∷ 0x33 ∷ [])) ∷ text 4 (0x0A ∷ []) ∷ []) ∷ at_least 5 (text 0 (codes "RDA") ∷ byte 3 (any_of (0x32 ∷ 0x33 ∷ [])) ∷ text 4 (0x0A ∷ []) ∷ []) ∷ [])
+    ∷ row App (codes "application/x-cern-root") (codes "root") None (at_least 12 (text 0 (codes "root" ++ 0x00 ∷ []) ∷ text 8 (0x00 ∷ 0x00 ∷ 0x00 ∷ 0x64 ∷ []) ∷ []) ∷ [])
+    ∷ row Text (codes "chemical/x-pdb") (codes "pdbmol") None (at_least 57 (text 0 (codes "HEADER    ") ∷ byte 50 (between 0x30 0x39) ∷ byte 51 (between 0x30 0x39) ∷ text 52 (codes "-") ∷ text 56 (codes "-") ∷ []) ∷ [])
+    ∷ row Text (codes "chemical/x-mol2") (codes "mol2") None (at_least 17 (text 0 (codes "@<TRIPOS>MOLECULE") ∷ []) ∷ [])
+    ∷ row App (codes "application/x-bam") (codes "bam") None (at_least 4 (text 0 (codes "BAM" ++ 0x01 ∷ []) ∷ []) ∷ [])
+    ∷ row App (codes "application/x-bai") (codes "bai") None (at_least 4 (text 0 (codes "BAI" ++ 0x01 ∷ []) ∷ []) ∷ [])
+    ∷ row App (codes "application/x-csi") (codes "csi") None (at_least 4 (text 0 (codes "CSI") ∷ byte 3 (any_of (0x01 ∷ 0x02 ∷ [])) ∷ []) ∷ [])
+    ∷ row App (codes "application/x-tabix") (codes "tbi") None (at_least 4 (text 0 (codes "TBI" ++ 0x01 ∷ []) ∷ []) ∷ [])
+    ∷ row App (codes "application/x-cram") (codes "cram") None (at_least 6 (text 0 (codes "CRAM") ∷ byte 4 (between 0x02 0x04) ∷ byte 5 (between 0x00 0x01) ∷ []) ∷ [])
+    ∷ row Text (codes "text/x-vcf") (codes "vcfg") None (at_least 17 (text 0 (codes "##fileformat=VCFv") ∷ []) ∷ [])
+    ∷ row Text (codes "text/x-gff3") (codes "gff3") None (at_least 15 (text 0 (codes "##gff-version") ∷ byte 13 (any_of (0x09 ∷ 0x20 ∷ [])) ∷ byte 14 (between 0x31 0x33) ∷ []) ∷ at_least 17 (text 0 (codes "##gff-version   ") ∷ byte 16 (between 0x31 0x33) ∷ []) ∷ [])
+    ∷ row Text (codes "text/x-sam") (codes "sam") None (at_least 7 (text 0 (codes "@HD" ++ 0x09 ∷ [] ++ codes "VN:") ∷ []) ∷ at_least 7 (text 0 (codes "@SQ" ++ 0x09 ∷ [] ++ codes "SN:") ∷ []) ∷ [])
+    ∷ row App (codes "application/x-scf") (codes "scf") None (at_least 5 (text 0 (codes ".scf" ++ 0x00 ∷ []) ∷ []) ∷ [])
+    ∷ row App (codes "application/x-edf") (codes "edf") None (at_least 179 (text 0 (codes "0       ") ∷ text 170 (codes ".") ∷ text 173 (codes ".") ∷ text 178 (codes ".") ∷ []) ∷ [])
+    ∷ []
+
+-- measurements, objects, and old documents
+unfoldable pub measures : List Further
+measures =
+    row App (codes "application/x-bdf") (codes "bdfb") None (at_least 8 (text 0 (0xFF ∷ [] ++ codes "BIOSEMI") ∷ []) ∷ [])
+    ∷ row App (codes "application/x-gdf") (codes "gdf") None (at_least 8 (text 0 (codes "GDF ") ∷ byte 4 (between 0x31 0x32) ∷ text 5 (codes ".") ∷ byte 6 (between 0x30 0x39) ∷ byte 7 (between 0x30 0x39) ∷ []) ∷ [])
+    ∷ row App (codes "application/cbor") (codes "cbor") None (at_least 3 (text 0 (0xD9 ∷ 0xD9 ∷ 0xF7 ∷ []) ∷ []) ∷ [])
+    ∷ row App (codes "application/sereal") (codes "sereal") None (at_least 5 (text 0 (codes "=srl") ∷ byte 4 (between 0x01 0x3F) ∷ []) ∷ at_least 5 (text 0 (0x3D ∷ 0xF3 ∷ [] ++ codes "rl") ∷ byte 4 (between 0x01 0x3F) ∷ []) ∷ [])
+    ∷ row Text (codes "text/x-nexus") (codes "nex") None (at_least 6 (text 0 (codes "#NEXUS") ∷ []) ∷ [])
+    ∷ row App (codes "application/x-octave-data") (codes "octave") None (at_least 10 (text 0 (codes "Octave-1-") ∷ byte 9 (any_of (0x42 ∷ 0x4C ∷ [])) ∷ []) ∷ [])
+    ∷ row Doc (codes "application/mathematica") (codes "nbold") None (at_least 53 (text 0 (codes "(************** Content-type: application/mathematica") ∷ []) ∷ [])
+    ∷ row App (codes "application/x-python-pickle") (codes "pkl") None (at_least 11 (text 0 (0x80 ∷ 0x04 ∷ 0x95 ∷ []) ∷ text 8 (0x00 ∷ 0x00 ∷ 0x00 ∷ []) ∷ []) ∷ at_least 11 (text 0 (0x80 ∷ 0x05 ∷ 0x95 ∷ []) ∷ text 8 (0x00 ∷ 0x00 ∷ 0x00 ∷ []) ∷ []) ∷ [])
+    ∷ row Book (codes "application/x-ms-reader") (codes "lit") None (at_least 8 (text 0 (codes "ITOLITLS") ∷ []) ∷ [])
+    ∷ row Doc (codes "application/vnd.wordperfect") (codes "wpd") None (at_least 10 (text 0 (0xFF ∷ [] ++ codes "WPC") ∷ text 8 (0x01 ∷ []) ∷ byte 9 (any_of (0x0A ∷ 0x2C ∷ [])) ∷ []) ∷ [])
+    ∷ row Image (codes "image/x-wpg") (codes "wpg") None (at_least 10 (text 0 (0xFF ∷ [] ++ codes "WPC") ∷ text 8 (0x01 ∷ 0x16 ∷ []) ∷ []) ∷ [])
+    ∷ row Doc (codes "application/x-wordperfect-wpm") (codes "wpm") None (at_least 10 (text 0 (0xFF ∷ [] ++ codes "WPC") ∷ text 8 (0x01 ∷ 0x01 ∷ []) ∷ []) ∷ [])
+    ∷ row Doc (codes "application/x-mswrite") (codes "wri") None (at_least 6 (byte 0 (any_of (0x31 ∷ 0x32 ∷ [])) ∷ text 1 (0xBE ∷ 0x00 ∷ 0x00 ∷ 0x00 ∷ 0xAB ∷ []) ∷ []) ∷ [])
+    ∷ row Doc (codes "application/msword") (codes "doc2") None (at_least 6 (text 0 (0xDB ∷ 0xA5 ∷ 0x2D ∷ 0x00 ∷ 0x00 ∷ 0x00 ∷ []) ∷ []) ∷ [])
+    ∷ row Doc (codes "application/x-hwp") (codes "hwp") None (at_least 17 (text 0 (codes "HWP Document File") ∷ []) ∷ [])
+    ∷ row Doc (codes "application/vnd.ms-excel") (codes "biff") None (at_least 8 (text 0 (0x09 ∷ 0x04 ∷ 0x06 ∷ 0x00 ∷ []) ∷ text 6 (0x10 ∷ 0x00 ∷ []) ∷ []) ∷ at_least 8 (text 0 (0x09 ∷ 0x02 ∷ 0x06 ∷ 0x00 ∷ []) ∷ text 6 (0x10 ∷ 0x00 ∷ []) ∷ []) ∷ at_least 8 (text 0 (0x09 ∷ 0x00 ∷ 0x04 ∷ 0x00 ∷ []) ∷ text 6 (0x10 ∷ 0x00 ∷ []) ∷ []) ∷ [])
+    ∷ row Doc (codes "application/x-os2-inf") (codes "os2inf") None (at_least 6 (text 0 (codes "HSP" ++ 0x01 ∷ 0x9B ∷ 0x00 ∷ []) ∷ []) ∷ [])
+    ∷ row Doc (codes "application/x-os2-hlp") (codes "os2hlp") None (at_least 6 (text 0 (codes "HSP" ++ 0x10 ∷ 0x9B ∷ 0x00 ∷ []) ∷ []) ∷ [])
+    ∷ row Doc (codes "application/vnd.mif") (codes "mif") None (at_least 9 (text 0 (codes "<MIFFile ") ∷ []) ∷ [])
+    ∷ row Doc (codes "application/vnd.framemaker") (codes "fm") None (at_least 11 (text 0 (codes "<MakerFile ") ∷ []) ∷ [])
+    ∷ []
+
+-- pages for printers, books, and code of machines
+unfoldable pub prints : List Further
+prints =
+    row Doc (codes "application/vnd.hp-pjl") (codes "pjl") None (at_least 13 (text 0 (0x1B ∷ [] ++ codes "%-12345X@PJL") ∷ []) ∷ [])
+    ∷ row Doc (codes "application/vnd.hp-pcl") (codes "pcl") None (at_least 4 (text 0 (0x1B ∷ 0x45 ∷ 0x1B ∷ []) ∷ byte 3 (any_of (0x26 ∷ 0x28 ∷ 0x2A ∷ [])) ∷ []) ∷ [])
+    ∷ row Text (codes "application/vnd.cups-ppd") (codes "ppd") None (at_least 12 (text 0 (codes "*PPD-Adobe: ") ∷ []) ∷ [])
+    ∷ row Image (codes "image/pwg-raster") (codes "pwg") None (at_least 14 (text 0 (codes "RaS2PwgRaster" ++ 0x00 ∷ []) ∷ []) ∷ [])
+    ∷ row Image (codes "application/vnd.cups-raster") (codes "cupsraster") None (at_least 4 (text 0 (codes "RaS") ∷ byte 3 (any_of (0x32 ∷ 0x33 ∷ 0x74 ∷ [])) ∷ []) ∷ at_least 4 (byte 0 (any_of (0x32 ∷ 0x33 ∷ 0x74 ∷ [])) ∷ text 1 (codes "SaR") ∷ []) ∷ [])
+    ∷ row Book (codes "application/x-sony-bbeb") (codes "lrf") None (at_least 8 (text 0 (0x4C ∷ 0x00 ∷ 0x52 ∷ 0x00 ∷ 0x46 ∷ 0x00 ∷ 0x00 ∷ 0x00 ∷ []) ∷ []) ∷ [])
+    ∷ row Doc (codes "application/x-t602") (codes "t602") None (at_least 6 (text 0 (codes "@CT ") ∷ byte 4 (between 0x30 0x32) ∷ byte 5 (any_of (0x0A ∷ 0x0D ∷ [])) ∷ []) ∷ [])
+    ∷ row Doc (codes "application/vnd.fdf") (codes "fdf") None (at_least 5 (text 0 (codes "%FDF-") ∷ []) ∷ [])
+    ∷ row Doc (codes "application/x-applix-word") (codes "aw") None (at_least 12 (text 0 (codes "*BEGIN WORDS") ∷ []) ∷ [])
+    ∷ row Doc (codes "application/x-applix-spreadsheet") (codes "as") None (at_least 19 (text 0 (codes "*BEGIN SPREADSHEETS") ∷ []) ∷ [])
+    ∷ row Image (codes "image/x-applix-graphics") (codes "ag") None (at_least 15 (text 0 (codes "*BEGIN GRAPHICS") ∷ []) ∷ [])
+    ∷ row App (codes "application/x-pef-executable") (codes "pef") None (at_least 8 (text 0 (codes "Joy!peff") ∷ []) ∷ [])
+    ∷ row App (codes "application/x-android-vdex") (codes "vdex") None (at_least 8 (text 0 (codes "vdex0") ∷ byte 5 (between 0x30 0x39) ∷ byte 6 (between 0x30 0x39) ∷ text 7 (0x00 ∷ []) ∷ []) ∷ [])
+    ∷ row App (codes "application/x-android-binary-xml") (codes "axml") None (at_least 12 (text 0 (0x03 ∷ 0x00 ∷ 0x08 ∷ 0x00 ∷ []) ∷ text 8 (0x01 ∷ 0x00 ∷ 0x1C ∷ 0x00 ∷ []) ∷ []) ∷ [])
+    ∷ row App (codes "application/x-android-resources") (codes "arsc") None (at_least 14 (text 0 (0x02 ∷ 0x00 ∷ 0x0C ∷ 0x00 ∷ []) ∷ text 10 (0x00 ∷ 0x00 ∷ 0x01 ∷ 0x00 ∷ []) ∷ []) ∷ [])
+    ∷ row App (codes "application/x-elc") (codes "elc") None (at_least 8 (text 0 (codes ";ELC") ∷ byte 4 (between 0x13 0x1F) ∷ text 5 (0x00 ∷ 0x00 ∷ 0x00 ∷ []) ∷ []) ∷ [])
+    ∷ row App (codes "application/x-ocaml-cmo") (codes "cmo") None (at_least 12 (text 0 (codes "Caml1999O") ∷ byte 9 (between 0x30 0x39) ∷ byte 10 (between 0x30 0x39) ∷ byte 11 (between 0x30 0x39) ∷ []) ∷ [])
+    ∷ row App (codes "application/x-ocaml-cma") (codes "cma") None (at_least 12 (text 0 (codes "Caml1999A") ∷ byte 9 (between 0x30 0x39) ∷ byte 10 (between 0x30 0x39) ∷ byte 11 (between 0x30 0x39) ∷ []) ∷ [])
+    ∷ row App (codes "application/x-ocaml-cmi") (codes "cmi") None (at_least 12 (text 0 (codes "Caml1999I") ∷ byte 9 (between 0x30 0x39) ∷ byte 10 (between 0x30 0x39) ∷ byte 11 (between 0x30 0x39) ∷ []) ∷ [])
+    ∷ row App (codes "application/x-ocaml-cmx") (codes "cmx") None (at_least 12 (text 0 (codes "Caml1999") ∷ byte 8 (any_of (0x59 ∷ 0x79 ∷ [])) ∷ byte 9 (between 0x30 0x39) ∷ byte 10 (between 0x30 0x39) ∷ byte 11 (between 0x30 0x39) ∷ []) ∷ [])
+    ∷ []
+
+-- what compilers and debuggers write
+unfoldable pub compiled : List Further
+compiled =
+    row App (codes "application/x-ocaml-cmxa") (codes "cmxa") None (at_least 12 (text 0 (codes "Caml1999") ∷ byte 8 (any_of (0x5A ∷ 0x7A ∷ [])) ∷ byte 9 (between 0x30 0x39) ∷ byte 10 (between 0x30 0x39) ∷ byte 11 (between 0x30 0x39) ∷ []) ∷ [])
+    ∷ row App (codes "application/x-ocaml-cmt") (codes "cmt") None (at_least 12 (text 0 (codes "Caml1999T") ∷ byte 9 (between 0x30 0x39) ∷ byte 10 (between 0x30 0x39) ∷ byte 11 (between 0x30 0x39) ∷ []) ∷ [])
+    ∷ row App (codes "application/x-rust-metadata") (codes "rmeta") None (at_least 8 (text 0 (codes "rust" ++ 0x00 ∷ 0x00 ∷ 0x00 ∷ []) ∷ byte 7 (between 0x04 0x0F) ∷ []) ∷ [])
+    ∷ row App (codes "application/x-go-object") (codes "goobj") None (at_least 10 (text 0 (codes "go object ") ∷ []) ∷ [])
+    ∷ row App (codes "application/x-spirv") (codes "spv") None (at_least 8 (text 0 (0x03 ∷ 0x02 ∷ 0x23 ∷ 0x07 ∷ 0x00 ∷ []) ∷ byte 5 (between 0x00 0x06) ∷ text 6 (0x01 ∷ 0x00 ∷ []) ∷ []) ∷ at_least 8 (text 0 (0x07 ∷ 0x23 ∷ 0x02 ∷ 0x03 ∷ 0x00 ∷ 0x01 ∷ []) ∷ byte 6 (between 0x00 0x06) ∷ text 7 (0x00 ∷ []) ∷ []) ∷ [])
+    ∷ row App (codes "application/x-llvm") (codes "bcw") None (at_least 8 (text 0 (0xDE ∷ 0xC0 ∷ 0x17 ∷ 0x0B ∷ 0x00 ∷ 0x00 ∷ 0x00 ∷ 0x00 ∷ []) ∷ []) ∷ [])
+    ∷ row Text (codes "text/x-llvm") (codes "ll") None (at_least 14 (text 0 (codes "; ModuleID = '") ∷ []) ∷ [])
+    ∷ row App (codes "application/x-gcc-pch") (codes "gch") None (at_least 5 (text 0 (codes "gpch") ∷ byte 4 (any_of (0x2E ∷ 0x43 ∷ 0x2B ∷ 0x6F ∷ 0x4F ∷ [])) ∷ []) ∷ [])
+    ∷ row App (codes "application/x-clang-pch") (codes "pch") None (binary_bytes (fixed.at_least 5 (text 0 (codes "CPCH") ∷ [])) ∷ [])
+    ∷ row App (codes "application/x-gcov-notes") (codes "gcno") None (at_least 8 (text 0 (codes "oncg") ∷ byte 7 (any_of (0x41 ∷ 0x42 ∷ [])) ∷ []) ∷ at_least 5 (text 0 (codes "gcno") ∷ byte 4 (any_of (0x41 ∷ 0x42 ∷ [])) ∷ []) ∷ [])
+    ∷ row App (codes "application/x-gcov-data") (codes "gcda") None (at_least 8 (text 0 (codes "adcg") ∷ byte 7 (any_of (0x41 ∷ 0x42 ∷ [])) ∷ []) ∷ at_least 5 (text 0 (codes "gcda") ∷ byte 4 (any_of (0x41 ∷ 0x42 ∷ [])) ∷ []) ∷ [])
+    ∷ row App (codes "application/x-llvm-profraw") (codes "profraw") None (at_least 8 (text 0 (0x81 ∷ []) ∷ byte 1 (any_of (0x72 ∷ 0x52 ∷ [])) ∷ text 2 (codes "forpl" ++ 0xFF ∷ []) ∷ []) ∷ at_least 8 (text 0 (0xFF ∷ [] ++ codes "lprof") ∷ byte 6 (any_of (0x72 ∷ 0x52 ∷ [])) ∷ text 7 (0x81 ∷ []) ∷ []) ∷ [])
+    ∷ row App (codes "application/x-llvm-profdata") (codes "profdata") None (at_least 8 (text 0 (0xFF ∷ [] ++ codes "lprofi" ++ 0x81 ∷ []) ∷ []) ∷ [])
+    ∷ row App (codes "application/x-dmp") (codes "dmp") None (at_least 6 (text 0 (codes "MDMP" ++ 0x93 ∷ 0xA7 ∷ []) ∷ []) ∷ [])
+    ∷ row App (codes "application/x-ms-pdb") (codes "pdb") None (at_least 16 (text 0 (codes "Microsoft C/C++ ") ∷ []) ∷ [])
+    ∷ row App (codes "application/x-ms-crash-dump") (codes "memdmp") None (at_least 8 (text 0 (codes "PAGEDU") ∷ byte 6 (any_of (0x4D ∷ 0x36 ∷ [])) ∷ byte 7 (any_of (0x50 ∷ 0x34 ∷ [])) ∷ []) ∷ [])
+    ∷ row App (codes "application/x-kdump") (codes "kdump") None (at_least 8 (text 0 (codes "KDUMP   ") ∷ []) ∷ [])
+    ∷ row App (codes "application/x-java-hprof") (codes "hprof") None (at_least 19 (text 0 (codes "JAVA PROFILE 1.0.") ∷ byte 17 (between 0x31 0x33) ∷ text 18 (0x00 ∷ []) ∷ []) ∷ [])
+    ∷ row App (codes "application/x-java-flight-recording") (codes "jfr") None (at_least 6 (text 0 (codes "FLR" ++ 0x00 ∷ 0x00 ∷ []) ∷ byte 5 (any_of (0x01 ∷ 0x02 ∷ [])) ∷ []) ∷ [])
+    ∷ row App (codes "application/x-java-image") (codes "jimage") None (at_least 4 (text 0 (0xDA ∷ 0xDA ∷ 0xFE ∷ 0xCA ∷ []) ∷ []) ∷ at_least 4 (text 0 (0xCA ∷ 0xFE ∷ 0xDA ∷ 0xDA ∷ []) ∷ []) ∷ [])
+    ∷ []
+
+-- captures, fonts and keys
+unfoldable pub keyrings : List Further
+keyrings =
+    row App (codes "application/x-nekovm-bytecode") (codes "neko") None (at_least 8 (text 0 (codes "NEKO") ∷ text 7 (0x00 ∷ []) ∷ []) ∷ [])
+    ∷ row App (codes "application/x-snoop") (codes "snoop") None (at_least 12 (text 0 (codes "snoop" ++ 0x00 ∷ 0x00 ∷ 0x00 ∷ 0x00 ∷ 0x00 ∷ 0x00 ∷ 0x02 ∷ []) ∷ []) ∷ [])
+    ∷ row App (codes "application/x-netmon") (codes "netmon") None (at_least 6 (text 0 (codes "GMBU") ∷ text 5 (0x02 ∷ []) ∷ []) ∷ at_least 4 (text 0 (codes "RTSS") ∷ []) ∷ [])
+    ∷ row App (codes "application/x-ms-registry") (codes "regf") None (at_least 24 (text 0 (codes "regf") ∷ text 20 (0x01 ∷ 0x00 ∷ 0x00 ∷ 0x00 ∷ []) ∷ []) ∷ [])
+    ∷ row App (codes "application/x-nintendo-nso") (codes "nso") None (at_least 8 (text 0 (codes "NSO0" ++ 0x00 ∷ 0x00 ∷ 0x00 ∷ 0x00 ∷ []) ∷ []) ∷ [])
+    ∷ row Font (codes "application/x-font-bdf") (codes "bdf") None (at_least 11 (text 0 (codes "STARTFONT 2") ∷ []) ∷ [])
+    ∷ row Font (codes "application/x-font-pcf") (codes "pcf") None (at_least 8 (text 0 (0x01 ∷ [] ++ codes "fcp") ∷ text 5 (0x00 ∷ 0x00 ∷ 0x00 ∷ []) ∷ []) ∷ [])
+    ∷ row Font (codes "application/x-font-linux-psf") (codes "psf1") None (at_least 4 (text 0 (0x36 ∷ 0x04 ∷ []) ∷ byte 2 (between 0x00 0x05) ∷ byte 3 (between 0x01 0x20) ∷ []) ∷ [])
+    ∷ row Font (codes "application/x-font-linux-psf") (codes "psf2") None (at_least 8 (text 0 (0x72 ∷ 0xB5 ∷ 0x4A ∷ 0x86 ∷ 0x00 ∷ 0x00 ∷ 0x00 ∷ 0x00 ∷ []) ∷ []) ∷ [])
+    ∷ row Font (codes "application/x-font-pf2") (codes "pf2") None (at_least 12 (text 0 (codes "FILE" ++ 0x00 ∷ 0x00 ∷ 0x00 ∷ 0x04 ∷ [] ++ codes "PFF2") ∷ []) ∷ [])
+    ∷ row Font (codes "application/vnd.font-fontforge-sfd") (codes "sfd") None (at_least 14 (text 0 (codes "SplineFontDB: ") ∷ []) ∷ [])
+    ∷ row Font (codes "application/x-font-speedo") (codes "spd") None (at_least 5 (text 0 (codes "D1.0" ++ 0x0D ∷ []) ∷ []) ∷ [])
+    ∷ row Font (codes "font/x-dos-cpi") (codes "cpi") None (at_least 8 (text 0 (0xFF ∷ [] ++ codes "FONT   ") ∷ []) ∷ [])
+    ∷ row App (codes "application/x-keepass2") (codes "kdbx") None (at_least 8 (text 0 (0x03 ∷ 0xD9 ∷ 0xA2 ∷ 0x9A ∷ 0x67 ∷ 0xFB ∷ 0x4B ∷ 0xB5 ∷ []) ∷ []) ∷ [])
+    ∷ row App (codes "application/x-keepass") (codes "kdb") None (at_least 8 (text 0 (0x03 ∷ 0xD9 ∷ 0xA2 ∷ 0x9A ∷ 0x65 ∷ 0xFB ∷ 0x4B ∷ 0xB5 ∷ []) ∷ []) ∷ [])
+    ∷ row App (codes "application/x-putty-private-key") (codes "ppk") None (at_least 20 (text 0 (codes "PuTTY-User-Key-File-") ∷ []) ∷ [])
+    ∷ row Text (codes "application/x-openssh-public-key") (codes "sshpub") None (at_least 12 (text 0 (codes "ssh-rsa AAAA") ∷ []) ∷ at_least 12 (text 0 (codes "ssh-dss AAAA") ∷ []) ∷ at_least 16 (text 0 (codes "ssh-ed25519 AAAA") ∷ []) ∷ at_least 24 (text 0 (codes "ecdsa-sha2-nistp") ∷ text 19 (codes " AAAA") ∷ []) ∷ at_least 15 (text 0 (codes "sk-ssh-ed25519@") ∷ []) ∷ at_least 14 (text 0 (codes "sk-ecdsa-sha2-") ∷ []) ∷ [])
+    ∷ row Text (codes "application/x-ssh2-public-key") (codes "ssh2pub") None (at_least 31 (text 0 (codes "---- BEGIN SSH2 PUBLIC KEY ----") ∷ []) ∷ [])
+    ∷ row App (codes "application/x-ssh1-private-key") (codes "ssh1") None (at_least 32 (text 0 (codes "SSH PRIVATE KEY FILE FORMAT 1.1" ++ 0x0A ∷ []) ∷ []) ∷ [])
+    ∷ row Text (codes "application/x-minisign") (codes "minisig") None (at_least 19 (text 0 (codes "untrusted comment: ") ∷ []) ∷ [])
+    ∷ []
+
+-- what is sealed, and games
+unfoldable pub consoles : List Further
+consoles =
+    row App (codes "application/x-aes-encrypted") (codes "aes") None (at_least 5 (text 0 (codes "AES") ∷ byte 3 (any_of (0x00 ∷ 0x01 ∷ 0x02 ∷ [])) ∷ text 4 (0x00 ∷ []) ∷ []) ∷ [])
+    ∷ row App (codes "application/pgp-encrypted") (codes "pgpmsg") None (at_least 13 (text 0 (0x85 ∷ []) ∷ byte 1 (between 0x00 0x08) ∷ text 3 (0x03 ∷ []) ∷ byte 12 (any_of (0x01 ∷ 0x02 ∷ 0x10 ∷ 0x12 ∷ [])) ∷ []) ∷ at_least 12 (text 0 (0x84 ∷ []) ∷ text 2 (0x03 ∷ []) ∷ byte 11 (any_of (0x01 ∷ 0x02 ∷ 0x10 ∷ 0x12 ∷ [])) ∷ []) ∷ at_least 5 (text 0 (0x8C ∷ 0x0D ∷ 0x04 ∷ []) ∷ byte 3 (any_of (0x07 ∷ 0x08 ∷ 0x09 ∷ [])) ∷ text 4 (0x03 ∷ []) ∷ []) ∷ [])
+    ∷ row App (codes "application/pgp-signature") (codes "pgpsig") None (at_least 7 (byte 0 (any_of (0x88 ∷ 0xC2 ∷ [])) ∷ text 2 (0x04 ∷ []) ∷ byte 3 (any_of (0x00 ∷ 0x01 ∷ [])) ∷ byte 4 (any_of (0x01 ∷ 0x11 ∷ 0x13 ∷ 0x16 ∷ [])) ∷ byte 5 (any_of (0x02 ∷ 0x08 ∷ 0x09 ∷ 0x0A ∷ 0x0B ∷ [])) ∷ text 6 (0x00 ∷ []) ∷ []) ∷ at_least 8 (text 0 (0x89 ∷ []) ∷ byte 1 (between 0x00 0x04) ∷ text 3 (0x04 ∷ []) ∷ byte 4 (any_of (0x00 ∷ 0x01 ∷ [])) ∷ byte 5 (any_of (0x01 ∷ 0x11 ∷ 0x13 ∷ 0x16 ∷ [])) ∷ byte 6 (any_of (0x02 ∷ 0x08 ∷ 0x09 ∷ 0x0A ∷ 0x0B ∷ [])) ∷ text 7 (0x00 ∷ []) ∷ []) ∷ [])
+    ∷ row App (codes "application/x-gnupg-trustdb") (codes "trustdb") None (at_least 5 (text 0 (0x01 ∷ [] ++ codes "gpg" ++ 0x03 ∷ []) ∷ []) ∷ [])
+    ∷ row Text (codes "text/x-ansible-vault") (codes "vault") None (at_least 18 (text 0 (codes "$ANSIBLE_VAULT;1.") ∷ byte 17 (between 0x30 0x39) ∷ []) ∷ [])
+    ∷ row App (codes "application/x-wii-rom") (codes "rvz") None (at_least 4 (text 0 (codes "RVZ" ++ 0x01 ∷ []) ∷ []) ∷ at_least 4 (text 0 (codes "WIA" ++ 0x01 ∷ []) ∷ []) ∷ [])
+    ∷ row App (codes "application/x-nintendo-3ds-executable") (codes "3dsx") None (at_least 6 (text 0 (codes "3DSX " ++ 0x00 ∷ []) ∷ []) ∷ at_least 6 (text 0 (codes "3DSX," ++ 0x00 ∷ []) ∷ []) ∷ [])
+    ∷ row App (codes "audio/x-xbox-executable") (codes "xbe") None (binary_bytes (fixed.at_least 5 (text 0 (codes "XBEH") ∷ [])) ∷ [])
+    ∷ row App (codes "audio/x-xbox360-executable") (codes "xex") None (binary_bytes (fixed.at_least 5 (text 0 (codes "XEX2") ∷ [])) ∷ [])
+    ∷ row App (codes "application/x-psx-executable") (codes "psx") None (at_least 8 (text 0 (codes "PS-X EXE") ∷ []) ∷ [])
+    ∷ row Archive (codes "application/x-valve-pak") (codes "vpk") None (at_least 8 (text 0 (0x34 ∷ 0x12 ∷ 0xAA ∷ 0x55 ∷ []) ∷ byte 4 (between 0x01 0x02) ∷ text 5 (0x00 ∷ 0x00 ∷ 0x00 ∷ []) ∷ []) ∷ [])
+    ∷ row App (codes "application/x-quake-bsp") (codes "bsp") None (at_least 8 (byte 0 (any_of (0x49 ∷ 0x56 ∷ [])) ∷ text 1 (codes "BSP") ∷ byte 4 (between 0x13 0x2F) ∷ text 5 (0x00 ∷ 0x00 ∷ 0x00 ∷ []) ∷ []) ∷ [])
+    ∷ row Archive (codes "application/x-pak") (codes "pak") None (at_least 12 (text 0 (codes "PACK") ∷ byte 6 (between 0x00 0x3F) ∷ text 7 (0x00 ∷ []) ∷ byte 8 (any_of (0x00 ∷ 0x40 ∷ 0x80 ∷ 0xC0 ∷ [])) ∷ text 11 (0x00 ∷ []) ∷ []) ∷ [])
+    ∷ row App (codes "application/x-quake-model") (codes "mdl") None (at_least 8 (text 0 (codes "IDPO" ++ 0x06 ∷ 0x00 ∷ 0x00 ∷ 0x00 ∷ []) ∷ []) ∷ at_least 8 (text 0 (codes "IDP2" ++ 0x08 ∷ 0x00 ∷ 0x00 ∷ 0x00 ∷ []) ∷ []) ∷ at_least 8 (text 0 (codes "IDP3" ++ 0x0F ∷ 0x00 ∷ 0x00 ∷ 0x00 ∷ []) ∷ []) ∷ at_least 8 (text 0 (codes "IDST" ++ 0x0A ∷ 0x00 ∷ 0x00 ∷ 0x00 ∷ []) ∷ []) ∷ at_least 8 (text 0 (codes "IDSQ" ++ 0x0A ∷ 0x00 ∷ 0x00 ∷ 0x00 ∷ []) ∷ []) ∷ [])
+    ∷ row Archive (codes "application/x-mpq") (codes "mpq") None (at_least 5 (text 0 (codes "MPQ" ++ 0x1A ∷ []) ∷ byte 4 (between 0x20 0xD0) ∷ []) ∷ [])
+    ∷ row Archive (codes "application/x-build-grp") (codes "grp") None (at_least 12 (text 0 (codes "KenSilverman") ∷ []) ∷ [])
+    ∷ row Archive (codes "application/x-maxis-dbpf") (codes "dbpf") None (at_least 8 (text 0 (codes "DBPF" ++ 0x01 ∷ 0x00 ∷ 0x00 ∷ 0x00 ∷ []) ∷ []) ∷ at_least 8 (text 0 (codes "DBPF" ++ 0x02 ∷ 0x00 ∷ 0x00 ∷ 0x00 ∷ []) ∷ []) ∷ [])
+    ∷ row App (codes "application/x-glulx") (codes "ulx") None (at_least 6 (text 0 (codes "Glul" ++ 0x00 ∷ []) ∷ byte 5 (between 0x02 0x03) ∷ []) ∷ [])
+    ∷ row Archive (codes "application/x-ups-patch") (codes "ups") None (binary_bytes (fixed.at_least 5 (text 0 (codes "UPS1") ∷ [])) ∷ [])
+    ∷ []
+
+-- patches, families of files, and rows that ask for little
+unfoldable pub shallow : List Further
+shallow =
+    row Archive (codes "application/x-ppf-patch") (codes "ppf") None (at_least 5 (text 0 (codes "PPF") ∷ byte 3 (between 0x31 0x33) ∷ text 4 (codes "0") ∷ []) ∷ [])
+    ∷ row App (codes "application/pgp-keys") (codes "gpgold") None (at_least 11 (text 0 (0x99 ∷ []) ∷ byte 1 (between 0x00 0x03) ∷ byte 3 (any_of (0x02 ∷ 0x03 ∷ [])) ∷ text 8 (0x00 ∷ 0x00 ∷ 0x01 ∷ []) ∷ []) ∷ [])
+    ∷ row App (codes "application/x-riff") (codes "riff") None (at_least 12 (text 0 (codes "RIFF") ∷ byte 8 (between 0x20 0x7A) ∷ byte 9 (between 0x20 0x7A) ∷ byte 10 (between 0x20 0x7A) ∷ byte 11 (between 0x20 0x7A) ∷ []) ∷ [])
+    ∷ row App (codes "application/x-iff") (codes "iff") None (at_least 12 (text 0 (codes "FORM" ++ 0x00 ∷ []) ∷ byte 8 (between 0x20 0x5A) ∷ byte 9 (between 0x20 0x5A) ∷ byte 10 (between 0x20 0x5A) ∷ byte 11 (between 0x20 0x5A) ∷ []) ∷ [])
+    ∷ row Doc (codes "application/x-appleworks") (codes "cwk") None (at_least 8 (byte 0 (between 0x01 0x06) ∷ text 4 (codes "BOBO") ∷ []) ∷ [])
+    ∷ row Doc (codes "application/vnd.ms-works") (codes "wps") None (at_least 114 (text 0 (0x01 ∷ 0xFE ∷ []) ∷ text 112 (0x01 ∷ 0x00 ∷ []) ∷ []) ∷ [])
+    ∷ row Audio (codes "audio/x-dss") (codes "dss") None (at_least 4 (byte 0 (any_of (0x02 ∷ 0x03 ∷ 0x06 ∷ [])) ∷ text 1 (codes "ds") ∷ byte 3 (any_of (0x73 ∷ 0x32 ∷ [])) ∷ []) ∷ [])
+    ∷ row Doc (codes "application/postscript") (codes "ps") None (at_least 3 (text 0 (0x04 ∷ [] ++ codes "%!") ∷ []) ∷ [])
+    ∷ row Audio (codes "audio/mpeg") (codes "mp3old") None (at_least 3 (text 0 (0xFF ∷ []) ∷ byte 1 (any_of (0xE2 ∷ 0xE3 ∷ 0xF4 ∷ 0xF5 ∷ 0xFA ∷ 0xFC ∷ 0xFD ∷ [])) ∷ byte 2 (between 0x10 0xEB) ∷ []) ∷ [])
+    ∷ row Text (codes "text/x-git-patch") (codes "gitpatch") None (at_least 70 (text 0 (codes "From ") ∷ text 45 (codes " Mon Sep 17 00:00:00 2001") ∷ []) ∷ [])
+    ∷ row Text (codes "message/http") (codes "http") None (at_least 9 (text 0 (codes "HTTP/1.") ∷ byte 7 (any_of (0x30 ∷ 0x31 ∷ [])) ∷ text 8 (codes " ") ∷ []) ∷ [])
+    ∷ row Text (codes "text/x-uuencode") (codes "uu") None (at_least 11 (text 0 (codes "begin ") ∷ byte 6 (between 0x30 0x37) ∷ byte 7 (between 0x30 0x37) ∷ byte 8 (between 0x30 0x37) ∷ text 9 (codes " ") ∷ byte 10 (between 0x21 0x7E) ∷ []) ∷ at_least 13 (text 0 (codes "begin-base64 ") ∷ []) ∷ [])
+    ∷ []
+
+-- kinds of XML: schemas, models and books
+unfoldable pub schemas : List Further
+schemas =
+    row Text (codes "application/xslt+xml") (codes "xslt") (Some XML) (related (root_with (codes "stylesheet") (codes "http://www.w3.org/1999/XSL/Transform")) ∷ related (root_with (codes "transform") (codes "http://www.w3.org/1999/XSL/Transform")) ∷ [])
+    ∷ row Text (codes "application/x-xsd+xml") (codes "xsd") (Some XML) (related (root_with (codes "schema") (codes "http://www.w3.org/2001/XMLSchema")) ∷ [])
+    ∷ row Text (codes "application/x-relaxng+xml") (codes "rng") (Some XML) (related (root_with (codes "grammar") (codes "http://relaxng.org/ns/structure/1.0")) ∷ [])
+    ∷ row Text (codes "application/x-schematron+xml") (codes "sch") (Some XML) (related (root_with (codes "schema") (codes "http://purl.oclc.org/dsdl/schematron")) ∷ [])
+    ∷ row Text (codes "application/wsdl+xml") (codes "wsdl") (Some XML) (related (root_with (codes "definitions") (codes "http://schemas.xmlsoap.org/wsdl/")) ∷ related (root_with (codes "description") (codes "http://www.w3.org/ns/wsdl")) ∷ [])
+    ∷ row Image (codes "model/vnd.collada+xml") (codes "dae") (Some XML) (related (root (codes "COLLADA")) ∷ [])
+    ∷ row Image (codes "model/x3d+xml") (codes "x3d") (Some XML) (related (root (codes "X3D")) ∷ [])
+    ∷ row Image (codes "application/x-amf") (codes "amf") (Some XML) (related (root (codes "amf")) ∷ [])
+    ∷ row Image (codes "application/vnd.ms-package.3dmanufacturing-3dmodel+xml") (codes "3dmodel") (Some XML) (related (root_with (codes "model") (codes "http://schemas.microsoft.com/3dmanufacturing")) ∷ [])
+    ∷ row Audio (codes "application/vnd.recordare.musicxml+xml") (codes "musicxml") (Some XML) (related (root (codes "score-partwise")) ∷ related (root (codes "score-timewise")) ∷ [])
+    ∷ row Audio (codes "application/x-musescore+xml") (codes "mscx") (Some XML) (related (root (codes "museScore")) ∷ [])
+    ∷ row Text (codes "application/mathml+xml") (codes "mml") (Some XML) (related (root (codes "math")) ∷ [])
+    ∷ row Text (codes "application/ttml+xml") (codes "ttml") (Some XML) (related (root_with (codes "tt") (codes "http://www.w3.org/ns/ttml")) ∷ [])
+    ∷ row Text (codes "application/xliff+xml") (codes "xliff") (Some XML) (related (root (codes "xliff")) ∷ [])
+    ∷ row Text (codes "application/docbook+xml") (codes "dbk") (Some XML) (related (root_with (codes "book") (codes "http://docbook.org/ns/docbook")) ∷ related (root_with (codes "article") (codes "http://docbook.org/ns/docbook")) ∷ related (root (codes "refentry")) ∷ related (root_with (codes "chapter") (codes "http://docbook.org/ns/docbook")) ∷ related (root_with (codes "section") (codes "http://docbook.org/ns/docbook")) ∷ related (root_with (codes "set") (codes "http://docbook.org/ns/docbook")) ∷ [])
+    ∷ row Text (codes "application/tei+xml") (codes "tei") (Some XML) (related (root_with (codes "TEI") (codes "http://www.tei-c.org/ns/1.0")) ∷ [])
+    ∷ row Book (codes "application/oebps-package+xml") (codes "opf") (Some XML) (related (root_with (codes "package") (codes "http://www.idpf.org/2007/opf")) ∷ [])
+    ∷ row Book (codes "application/x-dtbncx+xml") (codes "ncx") (Some XML) (related (root (codes "ncx")) ∷ [])
+    ∷ row Text (codes "application/x-msbuild+xml") (codes "msbuild") (Some XML) (related (root_with (codes "Project") (codes "http://schemas.microsoft.com/developer/msbuild/2003")) ∷ related (root_with (codes "Project") (codes "Sdk=")) ∷ [])
+    ∷ row Text (codes "application/x-maven-pom+xml") (codes "pom") (Some XML) (related (root_with (codes "project") (codes "http://maven.apache.org/POM/4.0.0")) ∷ [])
+    ∷ []
+
+-- kinds of XML: settings of programs, maps and films
+unfoldable pub dialects : List Further
+dialects =
+    row Text (codes "application/x-glade") (codes "glade") (Some XML) (related (root (codes "glade-interface")) ∷ [])
+    ∷ row Text (codes "application/x-designer") (codes "ui") (Some XML) (related (root_with (codes "ui") (codes "version=")) ∷ related (root_with (codes "UI") (codes "version=")) ∷ [])
+    ∷ row Text (codes "application/x-dbus-config+xml") (codes "busconfig") (Some XML) (related (root (codes "busconfig")) ∷ [])
+    ∷ row Text (codes "application/x-dbus-introspection+xml") (codes "dbusintro") (Some XML) (related (root_with (codes "node") (codes "name=")) ∷ [])
+    ∷ row Text (codes "application/x-fontconfig+xml") (codes "fontconfig") (Some XML) (related (root (codes "fontconfig")) ∷ [])
+    ∷ row Text (codes "application/x-gschema+xml") (codes "gschema") (Some XML) (related (root (codes "schemalist")) ∷ [])
+    ∷ row Text (codes "application/x-gresource+xml") (codes "gresource") (Some XML) (related (root (codes "gresources")) ∷ [])
+    ∷ row Text (codes "application/x-appstream+xml") (codes "metainfo") (Some XML) (related (root_with (codes "component") (codes "type=")) ∷ [])
+    ∷ row Text (codes "application/x-mime-info+xml") (codes "mimeinfo") (Some XML) (related (root_with (codes "mime-info") (codes "http://www.freedesktop.org/standards/shared-mime-info")) ∷ [])
+    ∷ row Text (codes "application/vnd.xmi+xml") (codes "xmi") (Some XML) (related (root (codes "XMI")) ∷ [])
+    ∷ row Text (codes "application/rdf+xml") (codes "rdf") (Some XML) (related (root_with (codes "RDF") (codes "http://www.w3.org/1999/02/22-rdf-syntax-ns#")) ∷ [])
+    ∷ row Text (codes "application/gml+xml") (codes "gml") (Some XML) (related (root_with (codes "FeatureCollection") (codes "http://www.opengis.net/gml")) ∷ [])
+    ∷ row Text (codes "application/vnd.openstreetmap.data+xml") (codes "osm") (Some XML) (related (root (codes "osm")) ∷ [])
+    ∷ row Audio (codes "application/xspf+xml") (codes "xspf") (Some XML) (related (root_with (codes "playlist") (codes "http://xspf.org/ns/0/")) ∷ [])
+    ∷ row Video (codes "application/smil+xml") (codes "smil") (Some XML) (related (root (codes "smil")) ∷ [])
+    ∷ row Video (codes "application/dash+xml") (codes "mpd") (Some XML) (related (root (codes "MPD")) ∷ [])
+    ∷ row Text (codes "application/metalink+xml") (codes "metalink") (Some XML) (related (root (codes "metalink")) ∷ [])
+    ∷ []
+
+-- kinds of XML: documents, and lists of programs
+unfoldable pub notations : List Further
+notations =
+    row Text (codes "application/x-xbel") (codes "xbel") (Some XML) (related (root (codes "xbel")) ∷ [])
+    ∷ row Doc (codes "application/x-abiword") (codes "abw") (Some XML) (related (root (codes "abiword")) ∷ [])
+    ∷ row Image (codes "application/x-dia-diagram") (codes "dia") (Some XML) (related (root_with (codes "diagram") (codes "http://www.lysator.liu.se/~alla/dia/")) ∷ [])
+    ∷ row Doc (codes "application/x-gnumeric") (codes "gnumeric") (Some XML) (related (root_with (codes "Workbook") (codes "http://www.gnumeric.org/v10.dtd")) ∷ [])
+    ∷ row Doc (codes "application/x-wordml-2003") (codes "wordml") (Some XML) (related (root_with (codes "wordDocument") (codes "http://schemas.microsoft.com/office/word/2003/wordml")) ∷ [])
+    ∷ row Doc (codes "application/vnd.oasis.opendocument.spreadsheet-flat-xml") (codes "fods") (Some XML) (related (root_with (codes "document") (codes "application/vnd.oasis.opendocument.spreadsheet")) ∷ [])
+    ∷ row Doc (codes "application/vnd.oasis.opendocument.presentation-flat-xml") (codes "fodp") (Some XML) (related (root_with (codes "document") (codes "application/vnd.oasis.opendocument.presentation")) ∷ [])
+    ∷ row Image (codes "application/vnd.oasis.opendocument.graphics-flat-xml") (codes "fodg") (Some XML) (related (root_with (codes "document") (codes "application/vnd.oasis.opendocument.graphics")) ∷ [])
+    ∷ row Doc (codes "application/x-gnucash") (codes "gnucash") (Some XML) (related (root (codes "gnc-v2")) ∷ [])
+    ∷ row Doc (codes "application/vnd.scribus") (codes "sla") (Some XML) (related (root (codes "SCRIBUSUTF8NEW")) ∷ [])
+    ∷ row Text (codes "application/x-xmp+xml") (codes "xmp") (Some XML) (related (root (codes "xmpmeta")) ∷ [])
+    ∷ row Text (codes "application/xml-sitemap") (codes "sitemap") (Some XML) (related (root (codes "urlset")) ∷ related (root (codes "sitemapindex")) ∷ [])
+    ∷ row Text (codes "application/sbml+xml") (codes "sbml") (Some XML) (related (root (codes "sbml")) ∷ [])
+    ∷ row Text (codes "chemical/x-cml") (codes "cml") (Some XML) (related (root (codes "cml")) ∷ related (root_with (codes "molecule") (codes "http://www.xml-cml.org/schema")) ∷ [])
+    ∷ row Audio (codes "application/x-audacity-project") (codes "aup") (Some XML) (related (root (codes "audacityproject")) ∷ related (root_with (codes "project") (codes "http://audacity.sourceforge.net/xml/")) ∷ [])
+    ∷ row Text (codes "application/x-apple-xib") (codes "xib") (Some XML) (related (root_with (codes "document") (codes "com.apple.InterfaceBuilder3")) ∷ [])
+    ∷ row Text (codes "application/vnd.gentoo.catmetadata+xml") (codes "catmeta") (Some XML) (related (root (codes "catmetadata")) ∷ [])
+    ∷ row Text (codes "application/vnd.gentoo.pkgmetadata+xml") (codes "pkgmeta") (Some XML) (related (root (codes "pkgmetadata")) ∷ [])
+    ∷ row Text (codes "application/x-keyboard-layout+xml") (codes "xkbrules") (Some XML) (related (root (codes "xkbConfigRegistry")) ∷ [])
+    ∷ row Text (codes "application/x-ldml+xml") (codes "ldml") (Some XML) (related (root (codes "ldml")) ∷ related (root (codes "supplementalData")) ∷ [])
+    ∷ []
+
+-- markup without a declaration
+unfoldable pub unheaded : List Further
+unheaded =
+    row Text (codes "application/xslt+xml") (codes "xslt") None (related (root_with (codes "stylesheet") (codes "http://www.w3.org/1999/XSL/Transform")) ∷ related (root_with (codes "transform") (codes "http://www.w3.org/1999/XSL/Transform")) ∷ [])
+    ∷ row Text (codes "application/x-xsd+xml") (codes "xsd") None (related (root_with (codes "schema") (codes "http://www.w3.org/2001/XMLSchema")) ∷ [])
+    ∷ row Text (codes "application/x-msbuild+xml") (codes "msbuild") None (related (root_with (codes "Project") (codes "http://schemas.microsoft.com/developer/msbuild/2003")) ∷ related (root_with (codes "Project") (codes "Sdk=")) ∷ [])
+    ∷ row Text (codes "application/x-maven-pom+xml") (codes "pom") None (related (root_with (codes "project") (codes "http://maven.apache.org/POM/4.0.0")) ∷ [])
+    ∷ row Doc (codes "application/x-freemind") (codes "mm") None (related (root_with (codes "map") (codes "version=")) ∷ [])
+    ∷ row Text (codes "application/x-qt-resource") (codes "qrc") None (related (root (codes "RCC")) ∷ [])
+    ∷ row Audio (codes "audio/x-ms-asx") (codes "asx") None (related (root (codes "asx")) ∷ related (root (codes "ASX")) ∷ related (root (codes "Asx")) ∷ [])
+    ∷ row Text (codes "application/x-dbus-introspection+xml") (codes "dbusintro") None (related (root_with (codes "node") (codes "name=")) ∷ [])
+    ∷ row Text (codes "application/x-dbus-config+xml") (codes "busconfig") None (related (root (codes "busconfig")) ∷ [])
+    ∷ row Video (codes "application/smil+xml") (codes "smil") None (related (root (codes "smil")) ∷ [])
+    ∷ []
+
+-- kinds of which their parents tell too little
+unfoldable pub mended : List Further
+mended =
+    row Doc (codes "application/vnd.visio") (codes "vsd") (Some MSI) (related (class_id (0x13 ∷ 0x1A ∷ 0x02 ∷ 0x00 ∷ 0x00 ∷ 0x00 ∷ 0x00 ∷ 0x00 ∷ 0xC0 ∷ 0x00 ∷ 0x00 ∷ 0x00 ∷ 0x00 ∷ 0x00 ∷ 0x00 ∷ 0x46 ∷ [])) ∷ [])
+    ∷ row App (codes "application/pkix-pkipath") (codes "pkipath") (Some DER) (at_least 17 (text 4 (0x30 ∷ 0x82 ∷ []) ∷ text 8 (0x30 ∷ 0x82 ∷ []) ∷ text 12 (0xA0 ∷ 0x03 ∷ 0x02 ∷ 0x01 ∷ 0x02 ∷ []) ∷ []) ∷ [])
+    ∷ row Font (codes "application/x-dfont") (codes "dfont") (Some ICO) (at_least 16 (text 4 (0x00 ∷ 0x00 ∷ []) ∷ text 8 (0x00 ∷ 0x00 ∷ []) ∷ text 12 (0x00 ∷ 0x00 ∷ []) ∷ []) ∷ [])
+    ∷ row Font (codes "font/woff2") (codes "woff2") (Some WOFF2) (at_least 8 (text 4 (0x00 ∷ 0x01 ∷ 0x00 ∷ 0x00 ∷ []) ∷ []) ∷ [])
+    ∷ row Font (codes "font/woff2") (codes "woff2") None (at_least 8 (text 0 (codes "wOF2OTTO") ∷ []) ∷ at_least 8 (text 0 (codes "wOF2true") ∷ []) ∷ [])
+    ∷ []
+
 -- texts that begin with a text of their own
 unfoldable pub openings : List Further
 openings =
@@ -628,6 +1016,53 @@ prefaces =
     ∷ row Image (codes "image/x-mvg") (codes "mvg") None (related (text_first (codes "push graphic-context")) ∷ [])
     ∷ []
 
+-- texts by their first words and lines
+unfoldable pub remarks : List Further
+remarks =
+    row Text (codes "text/cloud-config") (codes "cloudcfg") None (at_least 14 (text 0 (codes "#cloud-config" ++ 0x0A ∷ []) ∷ []) ∷ at_least 17 (text 0 (0xEF ∷ 0xBB ∷ 0xBF ∷ [] ++ codes "#cloud-config" ++ 0x0A ∷ []) ∷ []) ∷ at_least 15 (text 0 (codes "#cloud-config" ++ 0x0D ∷ 0x0A ∷ []) ∷ []) ∷ at_least 18 (text 0 (0xEF ∷ 0xBB ∷ 0xBF ∷ [] ++ codes "#cloud-config" ++ 0x0D ∷ 0x0A ∷ []) ∷ []) ∷ [])
+    ∷ row Text (codes "application/vnd.flatpak.ref") (codes "flatpakref") None (at_least 14 (text 0 (codes "[Flatpak Ref]" ++ 0x0A ∷ []) ∷ []) ∷ at_least 17 (text 0 (0xEF ∷ 0xBB ∷ 0xBF ∷ [] ++ codes "[Flatpak Ref]" ++ 0x0A ∷ []) ∷ []) ∷ [])
+    ∷ row Text (codes "application/vnd.flatpak.repo") (codes "flatpakrepo") None (at_least 15 (text 0 (codes "[Flatpak Repo]" ++ 0x0A ∷ []) ∷ []) ∷ at_least 18 (text 0 (0xEF ∷ 0xBB ∷ 0xBF ∷ [] ++ codes "[Flatpak Repo]" ++ 0x0A ∷ []) ∷ []) ∷ [])
+    ∷ row Text (codes "application/x-mswinurl") (codes "url") None (at_least 18 (text 0 (codes "[InternetShortcut]") ∷ []) ∷ at_least 21 (text 0 (0xEF ∷ 0xBB ∷ 0xBF ∷ [] ++ codes "[InternetShortcut]") ∷ []) ∷ at_least 19 (text 0 (codes "[DEFAULT]" ++ 0x0D ∷ 0x0A ∷ [] ++ codes "BASEURL=") ∷ []) ∷ at_least 22 (text 0 (0xEF ∷ 0xBB ∷ 0xBF ∷ [] ++ codes "[DEFAULT]" ++ 0x0D ∷ 0x0A ∷ [] ++ codes "BASEURL=") ∷ []) ∷ [])
+    ∷ row Text (codes "application/vnd.chess-pgn") (codes "pgn") None (at_least 8 (text 0 (codes "[Event " ++ 0x22 ∷ []) ∷ []) ∷ at_least 11 (text 0 (0xEF ∷ 0xBB ∷ 0xBF ∷ [] ++ codes "[Event " ++ 0x22 ∷ []) ∷ []) ∷ [])
+    ∷ row Image (codes "model/x3d-vrml") (codes "x3dv") None (related (text_first (codes "#X3D V")) ∷ [])
+    ∷ row Image (codes "model/vnd.usda") (codes "usda") None (related (text_first (codes "#usda 1")) ∷ [])
+    ∷ row Image (codes "model/x-ply") (codes "ply") None (at_least 11 (text 0 (codes "ply" ++ 0x0A ∷ [] ++ codes "format ") ∷ []) ∷ at_least 14 (text 0 (0xEF ∷ 0xBB ∷ 0xBF ∷ [] ++ codes "ply" ++ 0x0A ∷ [] ++ codes "format ") ∷ []) ∷ at_least 12 (text 0 (codes "ply" ++ 0x0D ∷ 0x0A ∷ [] ++ codes "format ") ∷ []) ∷ at_least 15 (text 0 (0xEF ∷ 0xBB ∷ 0xBF ∷ [] ++ codes "ply" ++ 0x0D ∷ 0x0A ∷ [] ++ codes "format ") ∷ []) ∷ at_least 11 (text 0 (codes "ply" ++ 0x0D ∷ [] ++ codes "format ") ∷ []) ∷ at_least 14 (text 0 (0xEF ∷ 0xBB ∷ 0xBF ∷ [] ++ codes "ply" ++ 0x0D ∷ [] ++ codes "format ") ∷ []) ∷ [])
+    ∷ row Image (codes "application/x-tgif") (codes "tgif") None (related (text_first (codes "%TGIF ")) ∷ [])
+    ∷ row Text (codes "text/x-gimp-gpl") (codes "gpl") None (at_least 13 (text 0 (codes "GIMP Palette" ++ 0x0A ∷ []) ∷ []) ∷ at_least 16 (text 0 (0xEF ∷ 0xBB ∷ 0xBF ∷ [] ++ codes "GIMP Palette" ++ 0x0A ∷ []) ∷ []) ∷ at_least 14 (text 0 (codes "GIMP Palette" ++ 0x0D ∷ 0x0A ∷ []) ∷ []) ∷ at_least 17 (text 0 (0xEF ∷ 0xBB ∷ 0xBF ∷ [] ++ codes "GIMP Palette" ++ 0x0D ∷ 0x0A ∷ []) ∷ []) ∷ [])
+    ∷ row Text (codes "text/x-gimp-ggr") (codes "ggr") None (at_least 14 (text 0 (codes "GIMP Gradient" ++ 0x0A ∷ []) ∷ []) ∷ at_least 17 (text 0 (0xEF ∷ 0xBB ∷ 0xBF ∷ [] ++ codes "GIMP Gradient" ++ 0x0A ∷ []) ∷ []) ∷ at_least 15 (text 0 (codes "GIMP Gradient" ++ 0x0D ∷ 0x0A ∷ []) ∷ []) ∷ at_least 18 (text 0 (0xEF ∷ 0xBB ∷ 0xBF ∷ [] ++ codes "GIMP Gradient" ++ 0x0D ∷ 0x0A ∷ []) ∷ []) ∷ [])
+    ∷ row Image (codes "image/x-xpixmap") (codes "xpm2") None (at_least 7 (text 0 (codes "! XPM2" ++ 0x0A ∷ []) ∷ []) ∷ at_least 10 (text 0 (0xEF ∷ 0xBB ∷ 0xBF ∷ [] ++ codes "! XPM2" ++ 0x0A ∷ []) ∷ []) ∷ [])
+    ∷ []
+
+-- more texts by their first words and lines
+unfoldable pub captions : List Further
+captions =
+    row Text (codes "text/troff") (codes "roff") None (at_least 3 (text 0 (0x2E ∷ 0x5C ∷ 0x22 ∷ []) ∷ []) ∷ at_least 6 (text 0 (0xEF ∷ 0xBB ∷ 0xBF ∷ 0x2E ∷ 0x5C ∷ 0x22 ∷ []) ∷ []) ∷ at_least 3 (text 0 (0x27 ∷ 0x5C ∷ 0x22 ∷ []) ∷ []) ∷ at_least 6 (text 0 (0xEF ∷ 0xBB ∷ 0xBF ∷ 0x27 ∷ 0x5C ∷ 0x22 ∷ []) ∷ []) ∷ at_least 4 (text 0 (codes ".TH ") ∷ []) ∷ at_least 7 (text 0 (0xEF ∷ 0xBB ∷ 0xBF ∷ [] ++ codes ".TH ") ∷ []) ∷ at_least 4 (text 0 (codes ".Dd ") ∷ []) ∷ at_least 7 (text 0 (0xEF ∷ 0xBB ∷ 0xBF ∷ [] ++ codes ".Dd ") ∷ []) ∷ at_least 7 (text 0 (codes ".so man") ∷ []) ∷ at_least 10 (text 0 (0xEF ∷ 0xBB ∷ 0xBF ∷ [] ++ codes ".so man") ∷ []) ∷ [])
+    ∷ row Text (codes "text/x-ms-regedit") (codes "reg") None (at_least 10 (text 0 (codes "REGEDIT4" ++ 0x0D ∷ 0x0A ∷ []) ∷ []) ∷ at_least 13 (text 0 (0xEF ∷ 0xBB ∷ 0xBF ∷ [] ++ codes "REGEDIT4" ++ 0x0D ∷ 0x0A ∷ []) ∷ []) ∷ at_least 36 (text 0 (codes "Windows Registry Editor Version 5.00") ∷ []) ∷ at_least 39 (text 0 (0xEF ∷ 0xBB ∷ 0xBF ∷ [] ++ codes "Windows Registry Editor Version 5.00") ∷ []) ∷ at_least 9 (text 0 (codes "REGEDIT" ++ 0x0D ∷ 0x0A ∷ []) ∷ []) ∷ at_least 12 (text 0 (0xEF ∷ 0xBB ∷ 0xBF ∷ [] ++ codes "REGEDIT" ++ 0x0D ∷ 0x0A ∷ []) ∷ []) ∷ at_least 14 (text 0 (0xFF ∷ 0xFE ∷ 0x57 ∷ 0x00 ∷ 0x69 ∷ 0x00 ∷ 0x6E ∷ 0x00 ∷ 0x64 ∷ 0x00 ∷ 0x6F ∷ 0x00 ∷ 0x77 ∷ 0x00 ∷ []) ∷ []) ∷ [])
+    ∷ row Text (codes "text/x-wine-extension-reg") (codes "wreg") None (related (text_first (codes "WINE REGISTRY Version ")) ∷ [])
+    ∷ row Doc (codes "application/x-dif") (codes "dif") None (at_least 9 (text 0 (codes "TABLE" ++ 0x0D ∷ 0x0A ∷ [] ++ codes "0,") ∷ []) ∷ at_least 12 (text 0 (0xEF ∷ 0xBB ∷ 0xBF ∷ [] ++ codes "TABLE" ++ 0x0D ∷ 0x0A ∷ [] ++ codes "0,") ∷ []) ∷ at_least 8 (text 0 (codes "TABLE" ++ 0x0A ∷ [] ++ codes "0,") ∷ []) ∷ at_least 11 (text 0 (0xEF ∷ 0xBB ∷ 0xBF ∷ [] ++ codes "TABLE" ++ 0x0A ∷ [] ++ codes "0,") ∷ []) ∷ [])
+    ∷ row Text (codes "text/x-xmcd") (codes "xmcd") None (related (text_first (codes "# xmcd")) ∷ [])
+    ∷ row Text (codes "text/vnd.familysearch.gedcom") (codes "ged") None (at_least 7 (text 0 (codes "0 HEAD" ++ 0x0A ∷ []) ∷ []) ∷ at_least 10 (text 0 (0xEF ∷ 0xBB ∷ 0xBF ∷ [] ++ codes "0 HEAD" ++ 0x0A ∷ []) ∷ []) ∷ at_least 7 (text 0 (codes "0 HEAD" ++ 0x0D ∷ []) ∷ []) ∷ at_least 10 (text 0 (0xEF ∷ 0xBB ∷ 0xBF ∷ [] ++ codes "0 HEAD" ++ 0x0D ∷ []) ∷ []) ∷ [])
+    ∷ row Video (codes "video/vnd.mpegurl") (codes "m4u") None (related (text_first (codes "#EXTM4U")) ∷ [])
+    ∷ row Text (codes "text/x-microdvd") (codes "microdvd") None (related (text_first (codes "{1}{")) ∷ related (text_first (codes "{0}{")) ∷ [])
+    ∷ row Text (codes "text/x-mpl2") (codes "mpl2") None (related (text_first (codes "[1][")) ∷ related (text_first (codes "[0][")) ∷ [])
+    ∷ []
+
+-- further texts by their first words and lines
+unfoldable pub headlines : List Further
+headlines =
+    row Text (codes "text/x-iptables") (codes "iptables") None (at_least 28 (text 0 (codes "# Generated by iptables-save") ∷ []) ∷ at_least 31 (text 0 (0xEF ∷ 0xBB ∷ 0xBF ∷ [] ++ codes "# Generated by iptables-save") ∷ []) ∷ at_least 29 (text 0 (codes "# Generated by ip6tables-save") ∷ []) ∷ at_least 32 (text 0 (0xEF ∷ 0xBB ∷ 0xBF ∷ [] ++ codes "# Generated by ip6tables-save") ∷ []) ∷ at_least 27 (text 0 (codes "# Generated by xtables-save") ∷ []) ∷ at_least 30 (text 0 (0xEF ∷ 0xBB ∷ 0xBF ∷ [] ++ codes "# Generated by xtables-save") ∷ []) ∷ at_least 15 (text 0 (codes "*filter" ++ 0x0A ∷ [] ++ codes ":INPUT ") ∷ []) ∷ at_least 18 (text 0 (0xEF ∷ 0xBB ∷ 0xBF ∷ [] ++ codes "*filter" ++ 0x0A ∷ [] ++ codes ":INPUT ") ∷ []) ∷ [])
+    ∷ row Text (codes "text/cache-manifest") (codes "mf") None (at_least 15 (text 0 (codes "CACHE MANIFEST" ++ 0x0A ∷ []) ∷ []) ∷ at_least 18 (text 0 (0xEF ∷ 0xBB ∷ 0xBF ∷ [] ++ codes "CACHE MANIFEST" ++ 0x0A ∷ []) ∷ []) ∷ at_least 15 (text 0 (codes "CACHE MANIFEST" ++ 0x0D ∷ []) ∷ []) ∷ at_least 18 (text 0 (0xEF ∷ 0xBB ∷ 0xBF ∷ [] ++ codes "CACHE MANIFEST" ++ 0x0D ∷ []) ∷ []) ∷ at_least 15 (text 0 (codes "CACHE MANIFEST ") ∷ []) ∷ at_least 18 (text 0 (0xEF ∷ 0xBB ∷ 0xBF ∷ [] ++ codes "CACHE MANIFEST ") ∷ []) ∷ [])
+    ∷ row Text (codes "text/x-modulefile") (codes "modulefile") None (related (text_first (codes "#%Module")) ∷ [])
+    ∷ row Text (codes "text/x-mup") (codes "mup") None (related (text_first (codes "//!Mup")) ∷ [])
+    ∷ row Archive (codes "application/x-svr4-package") (codes "pkgstream") None (related (text_first (codes "# PaCkAgE DaTaStReAm")) ∷ [])
+    ∷ row Text (codes "application/x-abook-addressbook") (codes "abook") None (related (text_first (codes "# abook addressbook file")) ∷ [])
+    ∷ row Text (codes "text/vnd.abc") (codes "abc") None (at_least 4 (text 0 (codes "%abc") ∷ []) ∷ at_least 7 (text 0 (0xEF ∷ 0xBB ∷ 0xBF ∷ [] ++ codes "%abc") ∷ []) ∷ at_least 6 (text 0 (codes "X:1" ++ 0x0A ∷ [] ++ codes "T:") ∷ []) ∷ at_least 9 (text 0 (0xEF ∷ 0xBB ∷ 0xBF ∷ [] ++ codes "X:1" ++ 0x0A ∷ [] ++ codes "T:") ∷ []) ∷ at_least 7 (text 0 (codes "X: 1" ++ 0x0A ∷ [] ++ codes "T:") ∷ []) ∷ at_least 10 (text 0 (0xEF ∷ 0xBB ∷ 0xBF ∷ [] ++ codes "X: 1" ++ 0x0A ∷ [] ++ codes "T:") ∷ []) ∷ [])
+    ∷ row Text (codes "application/sdp") (codes "sdp") None (at_least 7 (text 0 (codes "v=0" ++ 0x0D ∷ 0x0A ∷ [] ++ codes "o=") ∷ []) ∷ at_least 10 (text 0 (0xEF ∷ 0xBB ∷ 0xBF ∷ [] ++ codes "v=0" ++ 0x0D ∷ 0x0A ∷ [] ++ codes "o=") ∷ []) ∷ at_least 6 (text 0 (codes "v=0" ++ 0x0A ∷ [] ++ codes "o=") ∷ []) ∷ at_least 9 (text 0 (0xEF ∷ 0xBB ∷ 0xBF ∷ [] ++ codes "v=0" ++ 0x0A ∷ [] ++ codes "o=") ∷ []) ∷ [])
+    ∷ row Text (codes "text/x-msdos-batch") (codes "bat") None (at_least 10 (text 0 (codes "@echo off" ++ 0x0D ∷ []) ∷ []) ∷ at_least 13 (text 0 (0xEF ∷ 0xBB ∷ 0xBF ∷ [] ++ codes "@echo off" ++ 0x0D ∷ []) ∷ []) ∷ at_least 10 (text 0 (codes "@ECHO OFF" ++ 0x0D ∷ []) ∷ []) ∷ at_least 13 (text 0 (0xEF ∷ 0xBB ∷ 0xBF ∷ [] ++ codes "@ECHO OFF" ++ 0x0D ∷ []) ∷ []) ∷ at_least 10 (text 0 (codes "@Echo off" ++ 0x0D ∷ []) ∷ []) ∷ at_least 13 (text 0 (0xEF ∷ 0xBB ∷ 0xBF ∷ [] ++ codes "@Echo off" ++ 0x0D ∷ []) ∷ []) ∷ at_least 10 (text 0 (codes "@echo off" ++ 0x0A ∷ []) ∷ []) ∷ at_least 13 (text 0 (0xEF ∷ 0xBB ∷ 0xBF ∷ [] ++ codes "@echo off" ++ 0x0A ∷ []) ∷ []) ∷ at_least 10 (text 0 (codes "@ECHO OFF" ++ 0x0A ∷ []) ∷ []) ∷ at_least 13 (text 0 (0xEF ∷ 0xBB ∷ 0xBF ∷ [] ++ codes "@ECHO OFF" ++ 0x0A ∷ []) ∷ []) ∷ [])
+    ∷ row Text (codes "text/x-m4") (codes "m4") None (related (text_first (codes "dnl ")) ∷ [])
+    ∷ row Text (codes "text/x-gimp-curve") (codes "gcurve") None (related (text_first (codes "# GIMP Curves File")) ∷ [])
+    ∷ []
+
 -- texts, which come last, as they accept what other rows do
 unfoldable pub texts : List Further
 texts =
@@ -639,4 +1074,4 @@ texts =
 -- all of them
 unfoldable pub further : List Further
 further =
-    packages ++ (headers ++ (markup ++ (code ++ (records ++ (archives ++ (images ++ (media ++ (late ++ (office ++ (kinds ++ (roots ++ (elements ++ (pictures ++ (rasters ++ (sounds ++ (packed ++ (disks ++ (papers ++ (stores ++ (games ++ (others ++ (scripts ++ (documents ++ (secrets ++ (bitmaps ++ (shapes ++ (chunks ++ (tunes ++ (openings ++ (prefaces ++ (texts ++ [])))))))))))))))))))))))))))))))
+    packages ++ (headers ++ (markup ++ (code ++ (records ++ (archives ++ (images ++ (media ++ (late ++ (office ++ (kinds ++ (roots ++ (elements ++ (pictures ++ (rasters ++ (sounds ++ (packed ++ (disks ++ (papers ++ (stores ++ (games ++ (others ++ (scripts ++ (documents ++ (secrets ++ (bitmaps ++ (shapes ++ (chunks ++ (tunes ++ (squeezed ++ (bundles ++ (volumes ++ (assorted ++ (databases ++ (science ++ (measures ++ (prints ++ (compiled ++ (keyrings ++ (consoles ++ (shallow ++ (schemas ++ (dialects ++ (notations ++ (unheaded ++ (mended ++ (openings ++ (prefaces ++ (remarks ++ (captions ++ (headlines ++ (texts ++ [])))))))))))))))))))))))))))))))))))))))))))))))))))

@@ -9,7 +9,7 @@ use crate::table::{EndedTexts, FurtherRow};
 use infer::MatcherType;
 use infer::rows::{ELF, ODP, ODS, ODT, ZIP};
 use infer_formats::relation::Relation::{
-    FirstEntryEndsIn, FirstEntryHasExtra, FirstEntryIs, PackageWith, SharedObject,
+    FirstEntryEndsIn, FirstEntryIs, JavaArchive, PackageWith, SharedObject,
 };
 
 static ROWS: &[FurtherRow] = rows![
@@ -19,7 +19,7 @@ static ROWS: &[FurtherRow] = rows![
     App "application/x-sharedlib" "so": ELF => [SharedObject];
     App "application/vnd.android.package-archive" "apk": ZIP => [FirstEntryIs(b"AndroidManifest.xml")] [FirstEntryIs(b"META-INF/com/android/build/gradle/app-metadata.properties")];
     Archive "application/vnd.google-earth.kmz" "kmz": ZIP => [FirstEntryEndsIn(b".kml")];
-    Archive "application/java-archive" "jar": ZIP => [FirstEntryIs(b"META-INF/MANIFEST.MF")] [FirstEntryIs(b"META-INF/")] [FirstEntryHasExtra(*b"\xFE\xCA")];
+    Archive "application/java-archive" "jar": ZIP => [JavaArchive];
     Doc "application/vnd.openxmlformats-officedocument.wordprocessingml.document" "docx": ZIP => [PackageWith(b"word/")];
     Doc "application/vnd.openxmlformats-officedocument.spreadsheetml.sheet" "xlsx": ZIP => [PackageWith(b"xl/")];
     Doc "application/vnd.openxmlformats-officedocument.presentationml.presentation" "pptx": ZIP => [PackageWith(b"ppt/")];

@@ -39,6 +39,26 @@ returns-clause-listed c =
       c.rows-30.ensures.listed,
       c.rows-31.ensures.listed,
       c.rows-32.ensures.listed,
+      c.rows-33.ensures.listed,
+      c.rows-34.ensures.listed,
+      c.rows-35.ensures.listed,
+      c.rows-36.ensures.listed,
+      c.rows-37.ensures.listed,
+      c.rows-38.ensures.listed,
+      c.rows-39.ensures.listed,
+      c.rows-40.ensures.listed,
+      c.rows-41.ensures.listed,
+      c.rows-42.ensures.listed,
+      c.rows-43.ensures.listed,
+      c.rows-44.ensures.listed,
+      c.rows-45.ensures.listed,
+      c.rows-46.ensures.listed,
+      c.rows-47.ensures.listed,
+      c.rows-48.ensures.listed,
+      c.rows-49.ensures.listed,
+      c.rows-50.ensures.listed,
+      c.rows-51.ensures.listed,
+      c.rows-52.ensures.listed,
     )
     refl
 
@@ -77,4 +97,24 @@ returns-clause-ended c =
     more _ _ c.rows-30.ensures.ended (
     more _ _ c.rows-31.ensures.ended (
     more _ _ c.rows-32.ensures.ended (
-    none)))))))))))))))))))))))))))))))))
+    more _ _ c.rows-33.ensures.ended (
+    more _ _ c.rows-34.ensures.ended (
+    more _ _ c.rows-35.ensures.ended (
+    more _ _ c.rows-36.ensures.ended (
+    more _ _ c.rows-37.ensures.ended (
+    more _ _ c.rows-38.ensures.ended (
+    more _ _ c.rows-39.ensures.ended (
+    more _ _ c.rows-40.ensures.ended (
+    more _ _ c.rows-41.ensures.ended (
+    more _ _ c.rows-42.ensures.ended (
+    more _ _ c.rows-43.ensures.ended (
+    more _ _ c.rows-44.ensures.ended (
+    more _ _ c.rows-45.ensures.ended (
+    more _ _ c.rows-46.ensures.ended (
+    more _ _ c.rows-47.ensures.ended (
+    more _ _ c.rows-48.ensures.ended (
+    more _ _ c.rows-49.ensures.ended (
+    more _ _ c.rows-50.ensures.ended (
+    more _ _ c.rows-51.ensures.ended (
+    more _ _ c.rows-52.ensures.ended (
+    none)))))))))))))))))))))))))))))))))))))))))))))))))))))

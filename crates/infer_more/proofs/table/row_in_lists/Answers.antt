@@ -1,29 +1,22 @@
-use Rattle.infer_more.proofs.Common.{◌<◌, length, arith, refl, slice_get_past, slice_get_read, is_row_closed, further}
-use Rattle.infer_more.proofs.JoinedLemmas.{ended_here, found_here, found_later}
-use Rattle.infer_more.proofs.NamedLemmas.{row_passes}
+use Rattle.infer_more.proofs.Common.{◌∙◌, ap, further, is_row_closed}
+use Rattle.std.proofs.Common.{slice_get}
+use Rattle.infer_more.proofs.JoinedLemmas.{in_back, in_front}
+use Rattle.infer_more.proofs.NamedLemmas.{row_passes, row_passes_if}
 use Rattle.infer_more.proofs.TableLemmas.{all_closed}
 use Rattle.infer_more.proofs.table.row_in_lists.Goals as goal
 
-pub returns-in-Some-clause-listed : goal.returns-in-Some-clause-listed
-returns-in-Some-clause-listed c =
-    let h = c.in-Some.ensures.lookup in
-    let lt : c.loop-rows.rows-index < length c.lists-rows-items.result = omega arith in
-    found_here _ _ _ _ _ lt c.loop-rows.invariant _ (slice_get_read _ _ _ _ refl h.3.0 h.1)
+pub returns-in-Ok-clause-closed : goal.returns-in-Ok-clause-closed
+returns-in-Ok-clause-closed c =
+    let cut = c.split_at.ensures in
+    let found = in_front c.lists-all.result _ _ 26 cut.front cut.back _ _ c.in-Ok.ensures.found in
+    row_passes is_row_closed further c.args.i _ all_closed (found ∙ ap (λ rows. slice_get rows c.args.i) c.lists-all.ensures.listed)
 
-pub returns-in-Some-clause-ended : goal.returns-in-Some-clause-ended
-returns-in-Some-clause-ended c =
-    let h = c.in-Some.ensures.lookup in
-    let lt : c.loop-rows.rows-index < length c.lists-rows-items.result = omega arith in
-    ended_here _ _ _ _ lt c.lists-rows-items.ensures.ended _ (slice_get_read _ _ _ _ refl h.3.0 h.1)
+pub returns-in-Err-clause-listed : goal.returns-in-Err-clause-listed
+returns-in-Err-clause-listed c =
+    let cut = c.split_at.ensures in
+    let asked = c.row_among-in-Err.ensures in
+    let found = in_back c.lists-all.result _ _ 26 cut.front cut.back _ _ _ c.in-Err.ensures.behind asked.found asked.behind in
+    rw c.ok.ensures.value (found ∙ ap (λ rows. slice_get rows c.args.i) c.lists-all.ensures.listed)
 
-pub returns-in-Some-clause-closed : goal.returns-in-Some-clause-closed
-returns-in-Some-clause-closed c =
-    let h = c.in-Some.ensures.lookup in
-    let lt : c.loop-rows.rows-index < length c.lists-rows-items.result = omega arith in
-    row_passes is_row_closed further c.args.i _ all_closed (found_here _ _ _ _ _ lt c.loop-rows.invariant _ (slice_get_read _ _ _ _ refl h.3.0 h.1))
-
-pub loop-rows-preserved : goal.loop-rows-preserved
-loop-rows-preserved c =
-    let h = c.in-None.ensures.lookup in
-    let lt : c.loop-rows.rows-index < length c.lists-rows-items.result = omega arith in
-    found_later _ _ _ _ _ lt c.loop-rows.invariant (slice_get_past _ _ h.3)
+pub returns-in-Err-clause-closed : goal.returns-in-Err-clause-closed
+returns-in-Err-clause-closed c = row_passes_if _ is_row_closed further c.args.i _ all_closed (returns-in-Err-clause-listed c)
