@@ -60,6 +60,9 @@ module _ (a b : List ℕ) (ps : List Parameter) (a_token : is_a_token a ≡ true
   trimmed : trim x ≡ y
   trimmed = ap trim regrouped ∙ (ap trim_end (start_dark a (0x2F ∷ (b ++ p)) a_token) ∙ trimmed_end y dark)
 
+  pub trimmed_again : trim x ≡ x
+  trimmed_again = trimmed ∙ sym regrouped
+
   no_slash : list_all (λ z. not (is_slash z)) a ≡ true
   no_slash = no_end is_slash not_slash a (token_bytes a a_token)
 
@@ -86,12 +89,22 @@ kept_all s =
     ap (kept []) (written_again (parameters s) (kept_clean [] (written s) (written_lower (length s) s)))
     ∙ kept_again [] [] (written s) (λ name h. h)
 
+module _ (t : List ℕ) (m : Mime) (is : Parsed t m) where
+  type_token_again : is_a_token m.kind.type_name ≡ true
+  type_token_again = ap is_a_token is.type_name ∙ (token_in_lower (type_text t) ∙ is.type_token)
+
+  subtype_token_again : is_a_token m.kind.subtype ≡ true
+  subtype_token_again = ap is_a_token is.subtype ∙ (token_in_lower (subtype_text t) ∙ is.subtype_token)
+
+pub serialize_trimmed : (t : List ℕ) (m : Mime) → Parsed t m → trim (serialize m) ≡ serialize m
+serialize_trimmed t m is = trimmed_again m.kind.type_name m.kind.subtype m.parameters (type_token_again t m is) (subtype_token_again t m is)
+
 pub again : (t : List ℕ) (m : Mime) → Parsed t m → Parsed (serialize m) m
 again t m is =
     let a = m.kind.type_name in
     let b = m.kind.subtype in
-    let a_token : is_a_token a ≡ true = ap is_a_token is.type_name ∙ (token_in_lower (type_text t) ∙ is.type_token) in
-    let b_token : is_a_token b ≡ true = ap is_a_token is.subtype ∙ (token_in_lower (subtype_text t) ∙ is.subtype_token) in
+    let a_token = type_token_again t m is in
+    let b_token = subtype_token_again t m is in
     let one = type_again a b m.parameters a_token b_token in
     let two = subtype_again a b m.parameters a_token b_token in
     let three = tail_again a b m.parameters a_token b_token in

@@ -7,7 +7,7 @@ use Rattle.mime_types.specs.Nosniff.{IsNosniff, ends_piece, next_place}
 use Rattle.mime_types.specs.Parse.{Parsed}
 use Rattle.mime_types.specs.Pieces.{pieces}
 use Rattle.mime_types.specs.Serialize.{serialize}
-use Rattle.mime_types.specs.Text.{lower}
+use Rattle.mime_types.specs.Text.{lower, trim}
 use Rattle.mime_types.specs.declared.nosniff.Place.{Place}
 use Rattle.mime_types.specs.declared.nosniff.Place.TheVariants.{Outside}
 
@@ -18,6 +18,10 @@ SaysOne = (t : List ℕ) (m n : Mime) → Parsed t m → Parsed t n → m ≡ n
 -- what a text says, its own text says
 abbrev pub SaysItself : Type 0
 SaysItself = (t : List ℕ) (m : Mime) → Parsed t m → Parsed (serialize m) m
+
+-- no white space stands at either end of it
+abbrev pub IsTrimmed : Type 0
+IsTrimmed = (t : List ℕ) (m : Mime) → Parsed t m → trim (serialize m) ≡ serialize m
 
 -- the commas outside of quotes, of what begins there
 abbrev pub commas : Place → List ℕ → ℕ

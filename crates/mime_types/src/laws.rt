@@ -1,5 +1,5 @@
 //! Facts about the definitions, each the contract of a function that does nothing beside. To use a law, call it.
-ghost use Rattle.mime_types.specs.Laws.{HasPieces, LeavesLastOut, SaysItself, SaysNoStars, SaysOne};
+ghost use Rattle.mime_types.specs.Laws.{HasPieces, IsTrimmed, LeavesLastOut, SaysItself, SaysNoStars, SaysOne};
 
 /// No text says two MIME types.
 pub fn one_mime()
@@ -9,6 +9,11 @@ pub fn one_mime()
 /// What is written of a MIME type says that MIME type again.
 pub fn says_itself()
     ensures { SaysItself }
+{}
+
+/// It has no white space at its ends.
+pub fn is_trimmed()
+    ensures { IsTrimmed }
 {}
 
 /// A value has one piece more than commas outside of quotes.
