@@ -1,9 +1,13 @@
 -- Texts that are written one behind the other.
-use Rattle.std.proofs.Common.{◌≡◌, ◌∙◌, ◌++◌, ◌∷◌, [], ℕ, ◌≤◌, List, Option, None, Some, ap, append_assoc, arith, length, length-append, subst, sym, take, refl}
+use Rattle.std.proofs.Common.{◌≡◌, ◌∙◌, ◌++◌, ◌∷◌, [], ℕ, ◌≤◌, List, Option, None, Some, ap, append_assoc, arith, length, length-append, option_map, subst, sym, take, refl}
 use Rattle.std.proofs.lemmas.List.{append-nil}
+use Rattle.mime_types.specs.Extracted.{carried, charset_of, mime_together}
+use Rattle.mime_types.specs.Groups.{essence}
 use Rattle.mime_types.specs.Mime.{Parameter}
-use Rattle.mime_types.specs.Serialize.{parameter_text, parameters_text}
+use Rattle.mime_types.specs.Seen.{kind_of, mime_of, value_seen}
+use Rattle.mime_types.specs.Serialize.{parameter_text, parameters_text, serialize}
 use Rattle.mime_types.specs.Wrote.{Wrote}
+use Rattle.mime_types.specs.declared.extraction.Extracted.{Extracted}
 
 pub wrote_nothing : (a : List ℕ) (at : ℕ) → at ≤ length a → Wrote a a at [] (Some at)
 wrote_nothing a at within = (omega arith, within, sym (append-nil (take at a)))
@@ -33,6 +37,25 @@ text_more p ps = refl
 pub text_none : parameters_text [] ≡ []
 unfolding parameters_text
 text_none = refl
+
+pub text_joined : (ps qs : List Parameter) → parameters_text (ps ++ qs) ≡ parameters_text ps ++ parameters_text qs
+text_joined [] qs = sym (ap (λ s. s ++ parameters_text qs) text_none)
+text_joined (p ∷ ps) qs =
+    text_more p (ps ++ qs)
+    ∙ (ap (λ s. parameter_text p ++ s) (text_joined ps qs)
+    ∙ (sym (append_assoc (parameter_text p) (parameters_text ps) (parameters_text qs)) ∙ ap (λ s. s ++ parameters_text qs) (sym (text_more p ps))))
+
+pub text_one : (p : Parameter) → parameters_text (p ∷ []) ≡ parameter_text p
+text_one p = text_more p [] ∙ (ap (λ s. parameter_text p ++ s) text_none ∙ append-nil (parameter_text p))
+
+-- the charset stands behind the parameters
+pub text_together : (e : Extracted) (ps : List Parameter) → ps ≡ carried (charset_of (mime_of e.mime_type)) (option_map value_seen e.charset)
+    → serialize (mime_of e.mime_type) ++ parameters_text ps ≡ serialize (mime_together e)
+text_together e ps is =
+    let own = (mime_of e.mime_type).parameters in
+    let kind = essence (kind_of e.mime_type) in
+    append_assoc kind (parameters_text own) (parameters_text ps)
+    ∙ (ap (λ s. kind ++ s) (sym (text_joined own ps)) ∙ ap (λ cs. kind ++ parameters_text (own ++ cs)) is)
 
 -- the parameters of w are p and those of v
 module _ (w v : List Parameter) (p : Parameter) (more : w ≡ p ∷ v) where

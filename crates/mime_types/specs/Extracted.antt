@@ -3,12 +3,12 @@ use Rattle.std.specs.Prelude.{◌≡◌, ◌&&◌, ℕ, Bool, List, [], ◌∷�
 use Rattle.std.specs.List.{AllByRecursion}
 use Rattle.std.specs.Option.{option_or}
 use Rattle.std.specs.Str.{bytes_eq}
-use Rattle.mime_types.specs.Mime.{Kind, Mime}
+use Rattle.mime_types.specs.Mime.{Kind, Mime, Parameter}
 use Rattle.mime_types.specs.Named.{value_of}
 use Rattle.mime_types.specs.Parameters.{parameters}
 use Rattle.mime_types.specs.Parse.{subtype_text, tail_text, type_text}
 use Rattle.mime_types.specs.Pieces.{pieces}
-use Rattle.mime_types.specs.Seen.{mime_of, value_seen}
+use Rattle.mime_types.specs.Seen.{kind_of, mime_of, value_seen}
 use Rattle.mime_types.specs.Text.{is_a_token, lower}
 use Rattle.mime_types.specs.declared.extraction.Extracted.{Extracted}
 use Rattle.mime_types.specs.declared.extraction.Run.{Run}
@@ -78,3 +78,16 @@ IsExtracted value None = said (pieces value) ≡ []
 IsExtracted value (Some e) =
     (charset : Option (List ℕ)) × EndsInRun (said (pieces value)) (mime_of e.mime_type) charset
     × (option_map value_seen e.charset ≡ option_or (charset_of (mime_of e.mime_type)) charset)
+
+-- the charset that is told of a MIME type as a parameter, if that has none of its own
+abbrev pub carried : Option (List ℕ) → Option (List ℕ) → List Parameter
+carried (Some own) told = []
+carried None None = []
+carried None (Some charset) = record { name = codes "charset"; value = charset } ∷ []
+
+-- what the values say together: the MIME type, with that parameter behind its own
+abbrev pub mime_together : Extracted → Mime
+mime_together e = record {
+  kind = kind_of e.mime_type;
+  parameters = (mime_of e.mime_type).parameters ++ carried (charset_of (mime_of e.mime_type)) (option_map value_seen e.charset);
+}

@@ -3,7 +3,6 @@ use crate::{
     Destination, Extracted, MimeType, Minimal, Pieces, WriteError, extract, is_blocked, is_nosniff,
     parse,
 };
-use std::alloc::Global;
 use std::test::Fail;
 
 mod generated;
@@ -174,27 +173,19 @@ fn as_others_split(rt: HostRuntime) -> Result<(), Fail> {
 fn as_others_extract(rt: HostRuntime) -> Result<(), Fail> {
     for (i, (value, wanted)) in generated::EXTRACTED.iter().enumerate() {
         match extract(*value) {
-            Some(found) => assert!(rt; is_extracted(rt.alloc(), &found, *wanted)?, "value {i}"),
+            Some(found) => assert!(rt; is_extracted(&found, *wanted), "value {i}"),
             None => assert!(rt; wanted.is_empty(), "value {i}"),
         }
     }
     Ok(())
 }
 
-/// Whether the MIME type says this, with the charset behind its parameters if it has none.
-fn is_extracted(alloc: Global, found: &Extracted<'_>, wanted: &[u8]) -> Result<bool, Fail> {
+fn is_extracted(found: &Extracted<'_>, wanted: &[u8]) -> bool {
     let mut out = [0; 1024];
-    let end = found.mime_type.write(&mut out).map_err(|_| "no room")?;
-    let mut text = Vec::new(alloc);
-    text.extend_from_slice(&out[..end.min(1024)])?;
-    if let (Some(value), None) = (found.charset, found.mime_type.parameter(b"charset")) {
-        text.extend_from_slice(b";charset=")?;
-        let quote = if value.is_quoted { "\"" } else { "" };
-        text.extend_from_slice(quote.as_bytes())?;
-        text.extend_from_slice(value.text)?;
-        text.extend_from_slice(quote.as_bytes())?;
+    match found.write(&mut out) {
+        Ok(end) => end <= out.len() && &out[..end] == wanted,
+        Err(_) => false,
     }
-    Ok(is_said(&text, wanted))
 }
 
 #[test]
@@ -236,6 +227,12 @@ fn a_long_header(rt: HostRuntime) -> Result<(), Fail> {
     );
     let found = extract(&text).ok_or("no MIME type")?;
     assert!(rt; found.mime_type.is_html() && found.charset.is_none());
+    assert!(rt;
+        matches!(
+            found.write(&mut [0; 64]),
+            Err(WriteError::TooManyParameters)
+        )
+    );
     Ok(())
 }
 
@@ -248,5 +245,8 @@ fn a_long_list(rt: HostRuntime) -> Result<(), Fail> {
     }
     let found = extract(&text).ok_or("no MIME type")?;
     assert!(rt; found.charset.ok_or("no charset")?.text == b"x".as_slice());
+    let mut out = [0; 13];
+    assert!(rt; matches!(found.write(&mut out), Ok(13)) && out == *b"a/b;charset=x");
+    assert!(rt; matches!(found.write(&mut out[..12]), Err(WriteError::NoRoom)));
     Ok(())
 }

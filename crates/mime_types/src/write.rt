@@ -1,5 +1,5 @@
 //! The text of a MIME type, written into a buffer.
-ghost use Rattle.std.specs.Prelude.{◌≡◌, ◌↔◌, ◌≤◌, ◌∷◌, ◌+◌, ◌<◌, [], length, IsTrue, IsSome};
+ghost use Rattle.std.specs.Prelude.{◌≡◌, ◌↔◌, ◌≤◌, ◌∷◌, ◌+◌, ◌<◌, [], length, option_map, option_to_list, IsTrue, IsSome};
 ghost use Rattle.mime_types.specs.Segment.{left_by};
 ghost use Rattle.mime_types.specs.Parameters.{parameters};
 ghost use Rattle.mime_types.specs.Seen.{parameter_seen, value_seen};
@@ -7,6 +7,7 @@ ghost use Rattle.mime_types.specs.Serialize.{escaped, in_quotes, parameter_text,
 ghost use Rattle.mime_types.specs.Text.{lower};
 ghost use Rattle.mime_types.specs.Wrote.{Wrote};
 
+use crate::extraction::Extracted;
 use crate::mime_type::MimeType;
 use crate::parameter::{Parameter, Value};
 use crate::parameters::Parameters;
@@ -135,7 +136,7 @@ impl<'a> MimeType<'a> {
 
     /// The parameters that count, or none if there are more than 256 segments.
     pub fn parameters(&self) -> Option<Parameters<'a>>
-        ensures few { IsSome result ↔ HasFew MOST_SEGMENTS self.now }
+        ensures few { IsSome result ↔ HasFew MOST_SEGMENTS self.now.tail.now }
         ensures all { IfSome result (λ p. left p ≡ parameters self.now.tail.now) }
     {
         if has_few(self.tail) {
@@ -146,7 +147,7 @@ impl<'a> MimeType<'a> {
 
     /// Writes the text of the MIME type, and returns how long it is.
     pub fn write(&self, out: &mut [u8]) -> Result<usize, WriteError>
-        ensures { IsWritten MOST_SEGMENTS self.now out.old out.new result }
+        ensures { IsWritten MOST_SEGMENTS self.now.tail.now (mime_of self.now) out.old out.new result }
     {
         if !has_few(self.tail) {
             return Err(WriteError::TooManyParameters);
@@ -172,6 +173,65 @@ impl<'a> MimeType<'a> {
         let at = write_lower(out, 0, self.type_name)?;
         let at = write_byte(out, at, b'/')?;
         write_lower(out, at, self.subtype)
+    }
+}
+
+impl<'a> Extracted<'a> {
+    ghost use Rattle.std.specs.Prelude.{option_map, option_to_list};
+    ghost use Rattle.mime_types.specs.Extracted.{carried, charset_of, mime_together};
+    ghost use Rattle.mime_types.specs.Seen.{mime_of};
+    ghost use Rattle.mime_types.specs.Serialize.{serialize};
+    ghost use Rattle.mime_types.specs.Wrote.{IsWritten};
+
+    /// Writes the text of what the values say, and returns how long it is. A MIME type without a charset has the other behind its
+    /// parameters.
+    ///
+    /// ```
+    /// let found = mime_types::extract(b"text/html;charset=gbk, text/html").ok_or("a MIME type")?;
+    /// let mut out = [0; 21];
+    /// assert!(rt; matches!(found.write(&mut out), Ok(21)) && out == *b"text/html;charset=gbk");
+    /// ```
+    pub fn write(&self, out: &mut [u8]) -> Result<usize, WriteError>
+        ensures { IsWritten MOST_SEGMENTS self.now.mime_type.tail.now (mime_together self.now) out.old out.new result }
+    {
+        if !has_few(self.mime_type.tail) {
+            return Err(WriteError::TooManyParameters);
+        }
+        match self.write_text(out) {
+            Some(end) => Ok(end),
+            None => Err(WriteError::NoRoom),
+        }
+    }
+
+    fn write_text(&self, out: &mut [u8]) -> Option<usize>
+        ensures { Wrote out.old out.new 0 (serialize (mime_together self.now)) result }
+    {
+        let at = self.mime_type.write_text(out)?;
+        write_carried(out, at, self.carried())
+    }
+
+    /// The charset as a parameter, if the MIME type has none of its own.
+    fn carried(&self) -> Option<Parameter<'a>>
+        ensures { option_to_list (option_map parameter_seen result)
+            ≡ carried (charset_of (mime_of self.now.mime_type)) (option_map value_seen self.now.charset) }
+    {
+        match (self.mime_type.parameter(b"charset"), self.charset) {
+            (None, Some(value)) => Some(Parameter {
+                name: b"charset",
+                value,
+            }),
+            _ => None,
+        }
+    }
+}
+
+fn write_carried(out: &mut [u8], at: usize, carried: Option<Parameter<'_>>) -> Option<usize>
+    requires { at ≤ length out.old }
+    ensures { Wrote out.old out.new at (parameters_text (option_to_list (option_map parameter_seen carried.entry))) result }
+{
+    match carried {
+        Some(parameter) => write_parameter(out, at, &parameter),
+        None => Some(at),
     }
 }
 
