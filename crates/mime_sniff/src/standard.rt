@@ -2,9 +2,9 @@
 ghost use Rattle.std.specs.Prelude.{◌≡◌, ◌∷◌, ◌++◌, [], Some, option_map};
 ghost use Rattle.std.specs.Option.{option_or};
 ghost use Rattle.mime_sniff.specs.Computed.{Answers};
-ghost use Rattle.mime_sniff.specs.Rule.{Accepts, TellsFirst};
+ghost use Rattle.mime_sniff.specs.Rule.{Accepts, FitsRule, TellsFirst};
 ghost use Rattle.mime_sniff.specs.Standard.{archives, documents, fonts, markup, marks, media, octets, scriptable, text_or_binary_rules, text_rule, texts, unscripted};
-ghost use Rattle.mime_sniff.specs.Table.{images, sounds};
+ghost use Rattle.mime_sniff.specs.Table.{images, led_by, sounds};
 
 use crate::mp3::is_mp3;
 use crate::mp4::is_mp4_of_any_box;
@@ -149,7 +149,23 @@ pub(crate) fn of_images(header: &[u8]) -> Option<&'static str>
     if header.is_empty() {
         return None;
     }
-    first_type(images(header[0]), header)
+    image_led_by(header[0], header)
+}
+
+/// Each first byte by itself, so that the compiler knows the rows: to find them takes longer than to ask them.
+#[inline(always)]
+fn image_led_by(first: u8, header: &[u8]) -> Option<&'static str>
+    ensures { TellsFirst (FitsRule header.now) (led_by first images) (option_map (λ t. t.now) result) }
+{
+    match first {
+        0x00 => first_type(images(0x00), header),
+        b'B' => first_type(images(b'B'), header),
+        b'G' => first_type(images(b'G'), header),
+        b'R' => first_type(images(b'R'), header),
+        0x89 => first_type(images(0x89), header),
+        0xFF => first_type(images(0xFF), header),
+        other => first_type(images(other), header),
+    }
 }
 
 /// The type of the first rule of sounds, of those with the first byte.

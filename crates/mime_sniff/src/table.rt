@@ -34,6 +34,7 @@ macro_rules! markup {
 
 pub(crate) use markup;
 
+#[inline(always)]
 #[tactic(auto, unfolding(crate::specs::Table::images))]
 pub(crate) fn images(first: u8) -> &'static [Row]
     ensures { map rule_listed result.now ≡ led_by first images }

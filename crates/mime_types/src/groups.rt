@@ -63,8 +63,8 @@ impl<'a> MimeType<'a> {
         ensures { IsTrue result ↔ IsXml (kind_of self.now) }
     {
         ends_in(self.subtype, b"+xml")
-            || self.is(b"text", b"xml")
-            || self.is(b"application", b"xml")
+            || is_same(self.subtype, b"xml")
+                && (is_same(self.type_name, b"text") || is_same(self.type_name, b"application"))
     }
 
     /// Whether it is HTML.
