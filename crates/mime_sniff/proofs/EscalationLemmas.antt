@@ -9,7 +9,7 @@ use Rattle.mime_sniff.specs.Computed.{Answers, IsAsked, IsScriptableText, Supply
 use Rattle.mime_sniff.specs.Laws.{MayEscalate}
 use Rattle.mime_sniff.specs.Rule.{Accepts, Rule, TellsFirst}
 use Rattle.mime_sniff.specs.Standard.{documents, header, scriptable, unscripted}
-use Rattle.mime_sniff.specs.Table.{markup_rules}
+use Rattle.mime_sniff.specs.Table.{tag_rules, xml_rules}
 use Rattle.mime_sniff.specs.declared.question.Question.{Question}
 use Rattle.mime_sniff.specs.declared.question.Question.TheVariants.{Anything}
 use Rattle.mime_sniff.proofs.DecidedLemmas.{grows}
@@ -49,7 +49,7 @@ runs_scripts t is = cases (bytes_eq t (codes "text/html")) (bytes_eq t (codes "t
     cases false false false x y z is = cc
 
 all_run : list_all (λ r. runs r.mime_type) scriptable ≡ true
-unfolding markup_rules documents
+unfolding tag_rules xml_rules documents
 all_run = refl
 
 module _ (s : Supply) (b : List ℕ) (told : Option (List ℕ)) (may : MayEscalate s b) where
@@ -67,7 +67,7 @@ module _ (s : Supply) (b : List ℕ) (told : Option (List ℕ)) (may : MayEscala
   escalates_so q (inr (known, asked)) h = absurd (known may.0)
 
 all_begun : list_all is_begun_rule scriptable ≡ true
-unfolding markup_rules documents
+unfolding tag_rules xml_rules documents
 all_begun = refl
 
 -- what may escalate goes on to

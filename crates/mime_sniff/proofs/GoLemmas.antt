@@ -5,14 +5,10 @@ use Rattle.std.specs.List.{list_all}
 use Rattle.infer_formats.specs.Text.{IsBinary}
 use Rattle.mime_sniff.specs.Mp4.{IsMp4}
 use Rattle.mime_sniff.specs.Go.{between, documents, earlier, later, markup, mp4_rule, rules, text_rule}
-use Rattle.mime_sniff.specs.Table.{images, markup_rules, sounds}
+use Rattle.mime_sniff.specs.Table.{images, sounds, tag_rules, xml_rules}
 use Rattle.mime_sniff.specs.Rule.{Accepts, Rule, TellsFirst}
 use Rattle.mime_sniff.proofs.FirstLemmas.{told_passes, tells_here, tells_later, tells_left, tells_none, tells_right}
-use Rattle.mime_sniff.proofs.RuleLemmas.{is_direct_rule, is_markup_rule, is_plain_rule}
-
-pub markup_is : list_all is_markup_rule markup ≡ true
-unfolding markup_rules
-markup_is = refl
+use Rattle.mime_sniff.proofs.RuleLemmas.{is_direct_rule, is_plain_rule}
 
 pub documents_is : list_all is_plain_rule documents ≡ true
 unfolding documents
@@ -94,7 +90,7 @@ abbrev is_short : Rule → Bool
 is_short rule = nat_lt 0 (length rule.mime_type) && nat_le (length rule.mime_type) 29
 
 all_short : list_all is_short rules ≡ true
-unfolding markup_rules documents images sounds between later
+unfolding tag_rules xml_rules documents images sounds between later
 all_short = refl
 
 pub told_short : (P : Rule → Type 0) (t : List ℕ) → TellsFirst P rules (Some t) → (0 < length t) × (length t ≤ 29)

@@ -1,5 +1,6 @@
 pub mod FirstLemmas
 pub mod RuleLemmas
+pub mod TagLemmas
 pub mod RowLemmas
 pub mod GoLemmas
 pub mod StandardLemmas

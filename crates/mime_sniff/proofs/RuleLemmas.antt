@@ -166,9 +166,9 @@ module _ (b text : List ℕ) (skips : SkipsTo IsSpace b text) (stops : NoneBegin
       (λ r m a. let lead = markup_lead r.signature m ((markup_signature r.signature m).1 a) in other lead.0 lead.1) rules is)
 
 -- behind white space too a byte is a byte
-pub first_behind : (b text : List ℕ) → SkipsTo IsSpace b text → ((i : ℕ) → get_or b i 0 < 256) → get_or text 0 0 < 256
-first_behind b text skips bytes =
+pub bytes_behind : (b text : List ℕ) → SkipsTo IsSpace b text → ((i : ℕ) → get_or b i 0 < 256) → (i : ℕ) → get_or text i 0 < 256
+bytes_behind b text skips bytes i =
     let front = concat skips.words in
-    let byte = bytes (length front + 0) in
-    let read : get_or b (length front + 0) 0 ≡ get_or text 0 0 = ap (λ l. get_or l (length front + 0) 0) skips.whole ∙ get_or-append-add front text 0 0 in
+    let byte = bytes (length front + i) in
+    let read : get_or b (length front + i) 0 ≡ get_or text i 0 = ap (λ l. get_or l (length front + i) 0) skips.whole ∙ get_or-append-add front text i 0 in
     omega (arith, byte, read)

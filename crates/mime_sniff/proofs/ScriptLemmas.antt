@@ -10,7 +10,7 @@ use Rattle.mime_types.specs.Text.{lower}
 use Rattle.mime_sniff.specs.Computed.{Answers, IsAsked, IsAskedOf, IsUnknown, Supply, asked_of_unknown, otherwise, rules_of}
 use Rattle.mime_sniff.specs.Rule.{Accepts, Rule, TellsFirst}
 use Rattle.mime_sniff.specs.Standard.{archives, documents, marks, media, scriptable, text_or_binary_rules, texts, unscripted}
-use Rattle.mime_sniff.specs.Table.{images, markup_rules, sounds}
+use Rattle.mime_sniff.specs.Table.{images, sounds, tag_rules, xml_rules}
 use Rattle.mime_sniff.specs.declared.question.Question.{Question}
 use Rattle.mime_sniff.specs.declared.question.Question.TheVariants.{Anything, Images, Media, Nothing, TextOrBinary, Unscripted}
 use Rattle.mime_sniff.proofs.FirstLemmas.{told_passes}
@@ -50,7 +50,7 @@ other_first rules b else_told (Some t) all safe h =
     let (rule, passes, same) = told_passes (Accepts b) is_other_rule rules t all h in ap is_other (sym same) ∙ passes
 
 all_anything : list_all is_other_rule (scriptable ++ unscripted) ≡ true
-unfolding markup_rules documents texts images sounds archives
+unfolding tag_rules xml_rules documents texts images sounds archives
 all_anything = refl
 
 all_unscripted : list_all is_other_rule unscripted ≡ true

@@ -6,14 +6,10 @@ use Rattle.mime_sniff.specs.Mp3.{IsMp3}
 use Rattle.mime_sniff.specs.Mp4.{IsMp4OfAnyBox}
 use Rattle.mime_sniff.specs.Webm.{IsWebm}
 use Rattle.mime_sniff.specs.Rule.{Accepts, Rule, TellsFirst}
-use Rattle.mime_sniff.specs.Standard.{archives, documents, fonts, markup, marks, media, mp3_rule, mp4_rule, plain_text, text_rule, texts, unscripted, webm_rule}
-use Rattle.mime_sniff.specs.Table.{images, markup_rules, sounds}
+use Rattle.mime_sniff.specs.Standard.{archives, documents, fonts, marks, media, mp3_rule, mp4_rule, plain_text, text_rule, texts, unscripted, webm_rule}
+use Rattle.mime_sniff.specs.Table.{images, sounds}
 use Rattle.mime_sniff.proofs.FirstLemmas.{tells_here, tells_later, tells_left, tells_none, tells_right}
-use Rattle.mime_sniff.proofs.RuleLemmas.{is_direct_rule, is_markup_rule, is_plain_rule}
-
-pub markup_is : list_all is_markup_rule markup ≡ true
-unfolding markup_rules
-markup_is = refl
+use Rattle.mime_sniff.proofs.RuleLemmas.{is_direct_rule, is_plain_rule}
 
 pub documents_is : list_all is_direct_rule documents ≡ true
 unfolding documents

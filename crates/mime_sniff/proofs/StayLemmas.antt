@@ -18,7 +18,7 @@ use Rattle.mime_sniff.specs.Rule.{Accepts, IsAccepted, Rule, Signature, TellsFir
 use Rattle.mime_sniff.specs.Computed.{Answers, IsAsked, IsUnknown, Supply, asked_of_unknown, otherwise, rules_of}
 use Rattle.mime_sniff.specs.Laws.{rows_of_unknown, unscripted_rows}
 use Rattle.mime_sniff.specs.Standard.{archives, documents, header, scriptable, text_rule, texts, unscripted}
-use Rattle.mime_sniff.specs.Table.{images, markup_rules, sounds}
+use Rattle.mime_sniff.specs.Table.{images, sounds, tag_rules, xml_rules}
 use Rattle.mime_sniff.specs.declared.question.Question.{Question}
 use Rattle.mime_sniff.specs.declared.question.Question.TheVariants.{Anything, Unscripted}
 use Rattle.mime_sniff.proofs.DecidedLemmas.{grows, no_rule}
@@ -308,7 +308,7 @@ unscripted_pairs = (refl, refl, refl)
 
 all_pairs : (pairs (scriptable ++ unscripted_rows) ≡ true) × (list_all (λ r. is_row r.signature) (scriptable ++ unscripted_rows) ≡ true)
     × (scriptable ++ unscripted ≡ (scriptable ++ unscripted_rows) ++ text_rule ∷ [])
-unfolding markup_rules documents texts images sounds archives
+unfolding tag_rules xml_rules documents texts images sounds archives
 all_pairs = (refl, refl, refl)
 
 none_tells : (P : Rule → Type 0) (xs : List Rule) → (¬ Any P xs) → TellsFirst P xs None

@@ -1,4 +1,5 @@
--- The rows as the code lists them.
+-- The rows as the code lists them. None of them is a tag.
+use Rattle.std.specs.Prelude.{false}
 use Rattle.mime_sniff.specs.Row.{Pattern}
 use Rattle.mime_sniff.specs.Rule.{Rule, fixed}
 use Rattle.mime_sniff.specs.declared.row.Row as code
@@ -8,7 +9,7 @@ pattern_listed row = record {
   bytes = row.pattern.now;
   mask = row.mask.now;
   ignores_white = row.ignores_white;
-  ends_tag = row.ends_tag;
+  ends_tag = false;
 }
 
 abbrev pub rule_listed : code.Row → Rule

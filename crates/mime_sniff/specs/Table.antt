@@ -31,9 +31,9 @@ same n = replicate n 0xFF
 abbrev pub any : ℕ → List ℕ
 any n = replicate n 0x00
 
--- markup, which begins "<", with the types of HTML and of XML
-unfoldable pub markup_rules : List ℕ → List ℕ → List Rule
-markup_rules html xml =
+-- the tags of HTML
+unfoldable pub tag_rules : List ℕ → List Rule
+tag_rules html =
     tag html (codes "<!DOCTYPE HTML") (same 2 ++ letters 7 ++ same 1 ++ letters 4)
     ∷ tag html (codes "<HTML") (same 1 ++ letters 4)
     ∷ tag html (codes "<HEAD") (same 1 ++ letters 4)
@@ -51,8 +51,15 @@ markup_rules html xml =
     ∷ tag html (codes "<BR") (same 1 ++ letters 2)
     ∷ tag html (codes "<P") (same 1 ++ letters 1)
     ∷ tag html (codes "<!--") []
-    ∷ rule (pattern (codes "<?xml") [] true false) xml
     ∷ []
+
+-- what XML begins with
+unfoldable pub xml_rules : List ℕ → List Rule
+xml_rules xml = rule (pattern (codes "<?xml") [] true false) xml ∷ []
+
+-- markup, which begins "<", with the types of HTML and of XML
+abbrev pub markup_rules : List ℕ → List ℕ → List Rule
+markup_rules html xml = tag_rules html ++ xml_rules xml
 
 unfoldable pub images : List Rule
 images =

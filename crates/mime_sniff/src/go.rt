@@ -1,12 +1,12 @@
 //! What Go's package `net/http` takes first bytes for.
 ghost use Rattle.std.specs.Prelude.{◌≡◌, ◌<◌, ◌≤◌, ◌↔◌, length, map, option_map};
-ghost use Rattle.mime_sniff.specs.Go.{IsContentType, between, documents, earlier, later, markup, rules};
+ghost use Rattle.mime_sniff.specs.Go.{IsContentType, between, documents, earlier, later, rules};
 ghost use Rattle.mime_sniff.specs.Rule.{Accepts, TellsFirst};
 
+use crate::markup::of_markup;
 use crate::mp4::is_mp4;
 use crate::row::first_type;
 use crate::standard::{of_images, of_sounds};
-use infer_deep::text::after_white_space;
 use infer_formats::text::is_binary;
 
 mod table;
@@ -38,7 +38,11 @@ pub fn detect_content_type(buf: &[u8]) -> &'static str
 fn first_rule(header: &[u8]) -> Option<&'static str>
     ensures { TellsFirst (Accepts header.now) rules (option_map (λ t. t.now) result) }
 {
-    if let Some(found) = of_markup(header) {
+    if let Some(found) = of_markup(
+        header,
+        "text/html; charset=utf-8",
+        "text/xml; charset=utf-8",
+    ) {
         return Some(found);
     }
     if let Some(found) = of_earlier(header) {
@@ -57,17 +61,6 @@ fn first_rule(header: &[u8]) -> Option<&'static str>
         return None;
     }
     Some("text/plain; charset=utf-8")
-}
-
-/// The type of the first rule of markup. Each of them asks for "<" behind the white space.
-fn of_markup(header: &[u8]) -> Option<&'static str>
-    ensures { TellsFirst (Accepts header.now) markup (option_map (λ t. t.now) result) }
-{
-    let text = after_white_space(header);
-    if text.is_empty() || text[0] != b'<' {
-        return None;
-    }
-    first_type(table::markup(), text)
 }
 
 /// The type of the first rule before MP4.

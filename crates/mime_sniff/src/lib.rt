@@ -5,6 +5,7 @@ mod computed;
 mod context;
 pub mod go;
 pub mod laws;
+mod markup;
 mod mp3;
 mod mp4;
 mod question;

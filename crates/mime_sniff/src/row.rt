@@ -3,12 +3,13 @@ ghost use Rattle.std.specs.Prelude.{◌≡◌, ◌↔◌, ◌≤◌, IfSome, IsT
 ghost use Rattle.std.specs.Bool.{OnFalse};
 ghost use Rattle.mime_sniff.specs.Growth.{FitForGood, NeverHolds};
 ghost use Rattle.mime_sniff.specs.Listed.{pattern_listed, rule_listed};
-ghost use Rattle.mime_sniff.specs.Row.{EndsTag, Fits, HasBits, mask_at};
+ghost use Rattle.mime_sniff.specs.Row.{Fits, HasBits, mask_at};
 ghost use Rattle.mime_sniff.specs.Rule.{FitsRule, TellsFirst};
 
 use infer_deep::places::same_text;
 
 /// What a row asks of a buffer, and the type that it tells.
+#[derive(Clone, Copy)]
 pub(crate) struct Row {
     /// The bytes, where the mask has bits.
     pub pattern: &'static [u8],
@@ -16,8 +17,6 @@ pub(crate) struct Row {
     pub mask: &'static [u8],
     /// Whether white space may stand in front.
     pub ignores_white: bool,
-    /// Whether a space or ">" has to follow.
-    pub ends_tag: bool,
     /// The type.
     pub mime_type: &'static str,
 }
@@ -47,13 +46,13 @@ fn first_row<'a>(rows: &'a [Row], text: &[u8]) -> Option<&'a Row>
     None
 }
 
-/// Whether the pattern stands first in `text`, and behind it a byte that ends a tag if the row asks for one.
+/// Whether the pattern stands first in `text`.
 #[inline(always)]
 fn fits(row: &Row, text: &[u8]) -> bool
     ensures { IsTrue result ↔ Fits (pattern_listed row.now) text.now }
 {
     let end = row.pattern.len();
-    if text.len() < end || row.ends_tag && !ends_tag(text, end) {
+    if text.len() < end {
         return false;
     }
     if row.mask.is_empty() {
@@ -98,9 +97,6 @@ fn may_fit(row: &Row, text: &[u8]) -> bool
     ensures { OnFalse result (NeverHolds (Fits (pattern_listed row.now)) text.now) }
 {
     let end = row.pattern.len();
-    if end < text.len() && row.ends_tag && !ends_tag(text, end) {
-        return false;
-    }
     for i in 0..end.min(text.len()) {
         if text[i] & mask_at(row.mask, i) != row.pattern[i] {
             return false;
@@ -115,15 +111,6 @@ fn mask_at(mask: &[u8], i: usize) -> u8
     match mask.get(i) {
         Some(bits) => *bits,
         None => 0xFF,
-    }
-}
-
-fn ends_tag(text: &[u8], place: usize) -> bool
-    ensures { IsTrue result ↔ EndsTag text.now place }
-{
-    match text.get(place) {
-        Some(byte) => matches!(*byte, b' ' | b'>'),
-        None => false,
     }
 }
 
@@ -142,7 +129,6 @@ macro_rules! one_row {
             pattern: $pattern,
             mask: b"",
             ignores_white: false,
-            ends_tag: false,
             mime_type: $mime_type,
         }
     };
@@ -151,25 +137,14 @@ macro_rules! one_row {
             pattern: $pattern,
             mask: $mask,
             ignores_white: false,
-            ends_tag: false,
             mime_type: $mime_type,
         }
     };
-    (tag $pattern:literal $mask:literal => $mime_type:literal) => {
-        Row {
-            pattern: $pattern,
-            mask: $mask,
-            ignores_white: true,
-            ends_tag: true,
-            mime_type: $mime_type,
-        }
-    };
-    (text $pattern:literal => $mime_type:literal) => {
+    (text $pattern:literal => $mime_type:expr) => {
         Row {
             pattern: $pattern,
             mask: b"",
             ignores_white: true,
-            ends_tag: false,
             mime_type: $mime_type,
         }
     };

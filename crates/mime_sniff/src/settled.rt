@@ -1,9 +1,12 @@
 //! What the rules tell of bytes that may go on, whatever follows them. None means that more bytes may change it.
-ghost use Rattle.std.specs.Prelude.{◌≡◌, ◌∷◌, ◌++◌, ◌↔◌, [], IfSome, IsTrue, option_map};
-ghost use Rattle.mime_sniff.specs.Growth.{AnswerForGood, MayBeginHeader, TellForGood, told_or_else};
+ghost use Rattle.std.specs.Prelude.{◌≡◌, ◌∷◌, ◌++◌, ◌↔◌, [], IfSome, IsTrue, codes, option_map};
+ghost use Rattle.mime_sniff.specs.Growth.{AnswerForGood, FitForGood, MayBeginHeader, TellForGood, told_or_else};
 ghost use Rattle.mime_sniff.specs.Standard.{archives, documents, fonts, markup, marks, media, mp3_rule, mp4_rule, scriptable, text_or_binary_rules, text_rule, texts, unscripted, webm_rule};
-ghost use Rattle.mime_sniff.specs.Table.{images, sounds};
+ghost use Rattle.mime_sniff.specs.Table.{images, sounds, tag_rules};
+ghost use Rattle.infer_deep.specs.Joined.{NoneBegins};
+ghost use Rattle.infer_deep.specs.Text.{IsSpace};
 
+use crate::markup::xml_rows;
 use crate::mp3::is_mp3;
 use crate::mp4::is_mp4_of_any_box;
 use crate::question::Question;
@@ -12,7 +15,7 @@ use crate::standard::{or_octets, table};
 use crate::table::{images, sounds};
 use crate::webm::is_webm;
 use infer_deep::places::may_stand_at;
-use infer_deep::text::after_white_space;
+use infer_deep::text::{after_white_space, is_html, may_become_html};
 use infer_formats::text::is_binary;
 
 /// What the question's rules tell of the header.
@@ -79,7 +82,20 @@ fn of_markup(header: &[u8]) -> Option<Option<&'static str>>
     if text.is_empty() {
         return None;
     }
-    settled_type(table::markup(), text)
+    or_else(of_html(text), settled_type(&xml_rows("text/xml"), text))
+}
+
+fn of_html(text: &[u8]) -> Option<Option<&'static str>>
+    requires { NoneBegins IsSpace text.now }
+    ensures { IfSome result (λ told. FitForGood text.now (tag_rules (codes "text/html")) (option_map (λ t. t.now) told)) }
+{
+    if is_html(text) {
+        return Some(Some("text/html"));
+    }
+    if may_become_html(text) {
+        return None;
+    }
+    Some(None)
 }
 
 fn of_unscripted(header: &[u8]) -> Option<Option<&'static str>>

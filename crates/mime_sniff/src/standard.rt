@@ -3,16 +3,16 @@ ghost use Rattle.std.specs.Prelude.{◌≡◌, ◌∷◌, ◌++◌, [], Some, op
 ghost use Rattle.std.specs.Option.{option_or};
 ghost use Rattle.mime_sniff.specs.Computed.{Answers};
 ghost use Rattle.mime_sniff.specs.Rule.{Accepts, FitsRule, TellsFirst};
-ghost use Rattle.mime_sniff.specs.Standard.{archives, documents, fonts, markup, marks, media, octets, scriptable, text_or_binary_rules, text_rule, texts, unscripted};
+ghost use Rattle.mime_sniff.specs.Standard.{archives, documents, fonts, marks, media, octets, scriptable, text_or_binary_rules, text_rule, texts, unscripted};
 ghost use Rattle.mime_sniff.specs.Table.{images, led_by, sounds};
 
+use crate::markup::of_markup;
 use crate::mp3::is_mp3;
 use crate::mp4::is_mp4_of_any_box;
 use crate::question::Question;
 use crate::row::first_type;
 use crate::table::{images, sounds};
 use crate::webm::is_webm;
-use infer_deep::text::after_white_space;
 use infer_formats::text::is_binary;
 
 pub(crate) mod table;
@@ -62,7 +62,7 @@ fn of_anything(header: &[u8]) -> Option<&'static str>
 pub(crate) fn of_scriptable(header: &[u8]) -> Option<&'static str>
     ensures { TellsFirst (Accepts header.now) scriptable (option_map (λ t. t.now) result) }
 {
-    if let Some(found) = of_markup(header) {
+    if let Some(found) = of_markup(header, "text/html", "text/xml") {
         return Some(found);
     }
     of_documents(header)
@@ -72,17 +72,6 @@ fn of_documents(header: &[u8]) -> Option<&'static str>
     ensures { TellsFirst (Accepts header.now) documents (option_map (λ t. t.now) result) }
 {
     first_type(table::documents(), header)
-}
-
-/// The type of the first rule of markup. Each of them asks for "<" behind the white space.
-fn of_markup(header: &[u8]) -> Option<&'static str>
-    ensures { TellsFirst (Accepts header.now) markup (option_map (λ t. t.now) result) }
-{
-    let text = after_white_space(header);
-    if text.is_empty() || text[0] != b'<' {
-        return None;
-    }
-    first_type(table::markup(), text)
 }
 
 fn of_texts(header: &[u8]) -> Option<&'static str>

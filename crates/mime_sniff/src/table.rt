@@ -6,34 +6,6 @@ ghost use Rattle.mime_sniff.specs.Table.{images, led_by, sounds};
 
 use crate::row::{Row, one_row, rows};
 
-// The tags of HTML, and XML, with their types.
-macro_rules! markup {
-    ($html:literal $xml:literal) => {
-        rows![
-            tag b"<!DOCTYPE HTML" b"\xFF\xFF\xDF\xDF\xDF\xDF\xDF\xDF\xDF\xFF\xDF\xDF\xDF\xDF" => $html;
-            tag b"<HTML" b"\xFF\xDF\xDF\xDF\xDF" => $html;
-            tag b"<HEAD" b"\xFF\xDF\xDF\xDF\xDF" => $html;
-            tag b"<SCRIPT" b"\xFF\xDF\xDF\xDF\xDF\xDF\xDF" => $html;
-            tag b"<IFRAME" b"\xFF\xDF\xDF\xDF\xDF\xDF\xDF" => $html;
-            tag b"<H1" b"\xFF\xDF\xFF" => $html;
-            tag b"<DIV" b"\xFF\xDF\xDF\xDF" => $html;
-            tag b"<FONT" b"\xFF\xDF\xDF\xDF\xDF" => $html;
-            tag b"<TABLE" b"\xFF\xDF\xDF\xDF\xDF\xDF" => $html;
-            tag b"<A" b"\xFF\xDF" => $html;
-            tag b"<STYLE" b"\xFF\xDF\xDF\xDF\xDF\xDF" => $html;
-            tag b"<TITLE" b"\xFF\xDF\xDF\xDF\xDF\xDF" => $html;
-            tag b"<B" b"\xFF\xDF" => $html;
-            tag b"<BODY" b"\xFF\xDF\xDF\xDF\xDF" => $html;
-            tag b"<BR" b"\xFF\xDF\xDF" => $html;
-            tag b"<P" b"\xFF\xDF" => $html;
-            tag b"<!--" b"" => $html;
-            text b"<?xml" => $xml;
-        ]
-    };
-}
-
-pub(crate) use markup;
-
 #[inline(always)]
 #[tactic(auto, unfolding(crate::specs::Table::images))]
 pub(crate) fn images(first: u8) -> &'static [Row]

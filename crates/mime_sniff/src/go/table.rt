@@ -1,18 +1,10 @@
 //! The rows of Go alone. Those that begin with a byte of their own stand by it, in the order in which they are asked.
 ghost use Rattle.std.specs.Prelude.{◌≡◌, map};
-ghost use Rattle.mime_sniff.specs.Go.{between, documents, later, markup};
+ghost use Rattle.mime_sniff.specs.Go.{between, documents, later};
 ghost use Rattle.mime_sniff.specs.Listed.{rule_listed};
 ghost use Rattle.mime_sniff.specs.Table.{led_by};
 
 use crate::row::{Row, one_row, rows};
-use crate::table::markup;
-
-#[tactic(auto, unfolding(crate::specs::Table::markup_rules))]
-pub(super) fn markup() -> &'static [Row]
-    ensures { map rule_listed result.now ≡ markup }
-{
-    markup!["text/html; charset=utf-8" "text/xml; charset=utf-8"]
-}
 
 #[tactic(auto, unfolding(crate::specs::Go::documents))]
 pub(super) fn documents(first: u8) -> &'static [Row]

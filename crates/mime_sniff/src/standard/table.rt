@@ -1,17 +1,9 @@
 //! The rows of the standard alone.
 ghost use Rattle.std.specs.Prelude.{◌≡◌, map};
 ghost use Rattle.mime_sniff.specs.Listed.{rule_listed};
-ghost use Rattle.mime_sniff.specs.Standard.{archives, documents, fonts, markup, marks, texts};
+ghost use Rattle.mime_sniff.specs.Standard.{archives, documents, fonts, marks, texts};
 
 use crate::row::{Row, one_row, rows};
-use crate::table::markup;
-
-#[tactic(auto, unfolding(crate::specs::Table::markup_rules))]
-pub(crate) fn markup() -> &'static [Row]
-    ensures { map rule_listed result.now ≡ markup }
-{
-    markup!["text/html" "text/xml"]
-}
 
 #[tactic(auto, unfolding(crate::specs::Standard::documents))]
 pub(crate) fn documents() -> &'static [Row]
