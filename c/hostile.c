@@ -82,6 +82,9 @@ static void ask_mime(const char *buf, size_t len) {
     wants(infer_mime_minimize(buf, len, true, again, sizeof again) == strlen(again) && !*again == !*essence);
     infer_mime_parameter(buf, len, buf, len, &has, again, sizeof again);
     wants(!has || *essence);
+    size = infer_mime_extract(buf, len, text, sizeof text);
+    wants(size == strlen(text) && size < INFER_MIME_SIZE && infer_mime_extract(buf, len, NULL, 0) == size);
+    wants(infer_mime_extract(text, size, again, sizeof again) == size && strcmp(text, again) == 0);
     infer_mime_is_nosniff(buf, len);
     infer_mime_is_old_server(buf, len);
     const char *type = types[next() % (sizeof types / sizeof *types)];

@@ -190,6 +190,11 @@ enum infer_mime_group {
 };
 uint32_t infer_mime_groups(const char *text, size_t text_len);
 
+/* The MIME type that the values of Content-Type say together, as Fetch extracts it: the last whose type and subtype are not both
+ * a star. If that has no charset, the charset of the first of the values in a row with its type and subtype stands behind it.
+ * Several values are given as one, with ", " between them. */
+size_t infer_mime_extract(const char *value, size_t value_len, char *out, size_t size);
+
 /* Whether the value of X-Content-Type-Options forbids to sniff; whether a response that does is blocked, by the value of
  * Content-Type and what it is fetched for; and whether that value is one that old servers sent of every file. Several values
  * are given as one, with ", " between them, and the last of them for the last. */

@@ -158,6 +158,36 @@ static void mime_types(void) {
     same("too many", (long)infer_mime_parse(made, 4 + 257, out, sizeof out) + *out, 0);
 }
 
+static void extracted(const char *values, const char *type) {
+    char out[INFER_MIME_SIZE];
+    same(values, (long)infer_mime_extract(values, strlen(values), out, sizeof out), (long)strlen(type));
+    same(values, strcmp(out, type), 0);
+}
+
+/* What values say together; and the longest of which there is room for with a charset that is carried, and one more. */
+static void values(void) {
+    static const char charset[] = ";charset=x, a/";
+    static char made[2 * INFER_MIME_SIZE];
+    char out[INFER_MIME_SIZE];
+    extracted("text/html;charset=gbk, text/html", "text/html;charset=gbk");
+    extracted("text/html;charset=gbk;a=b, text/plain, Text/HTML;a=b", "text/html;a=b");
+    extracted("a/b;charset=\"x y\", a/b;c=d, a/b", "a/b;charset=\"x y\"");
+    extracted("text/html, */*, x", "text/html");
+    extracted("*/*", "");
+    const size_t long_name = INFER_MIME_SIZE - 1 - 2 - 10;
+    for (size_t more = 0; more < 2; more++) {
+        size_t size = long_name + more;
+        memset(made, 'a', sizeof made);
+        made[1] = '/';
+        memcpy(made + 2 + size, charset, sizeof charset - 1);
+        same("a long one", (long)infer_mime_extract(made, 2 + size + sizeof charset - 1 + size, out, sizeof out), more ? 0 : INFER_MIME_SIZE - 1);
+    }
+    memset(made, ';', sizeof made);
+    memcpy(made, "a/a", 3);
+    same("many semicolons", (long)infer_mime_extract(made, 4 + 256, out, sizeof out), 3);
+    same("too many", (long)infer_mime_extract(made, 4 + 257, out, sizeof out) + *out, 0);
+}
+
 static void computed(const char *type, uint32_t flags, int32_t context, const char *buf, size_t len, const char *wanted) {
     char out[INFER_MIME_SIZE];
     same(wanted, (long)infer_mime_compute(type, strlen(type), flags, context, buf, len, out, sizeof out), (long)strlen(wanted));
@@ -544,6 +574,7 @@ int main(void) {
     encodings();
     content_types();
     mime_types();
+    values();
     sniffed();
     classes();
     samples();

@@ -112,6 +112,8 @@ static void ask_mime(const char *buf, size_t len) {
     note((int64_t)infer_mime_parse(buf, len, text, sizeof text));
     note_text(text);
     note((int64_t)infer_mime_essence(buf, len, text, sizeof text));
+    note((int64_t)infer_mime_extract(buf, len, text, sizeof text));
+    note_text(text);
     note((int64_t)infer_mime_parameter(buf, len, "a", 1, &has, text, sizeof text));
     note(has);
     note((int64_t)infer_mime_minimize(buf, len, has, text, sizeof text));

@@ -67,6 +67,7 @@ static bool is_same(const struct buffer *text, const char *out, size_t size) {
 
 typedef size_t write_text(const void *text, size_t len, char *out, size_t size);
 static size_t parse(const void *text, size_t len, char *out, size_t size) { return infer_mime_parse(text, len, out, size); }
+static size_t extract(const void *text, size_t len, char *out, size_t size) { return infer_mime_extract(text, len, out, size); }
 
 /* The text is this, whole and with less room. */
 static void compare_rooms(write_text *write, const struct buffer *text, const struct buffer *answer, const char *name) {
@@ -137,6 +138,31 @@ static void compare_nosniff(const char *inputs, const char *wanted) {
     WANTS(&headers, infer_mime_is_nosniff((char *)value.bytes, value.len) == (*wanted == 't'), "%s", inputs);
 }
 
+static void compare_extracted(const char *inputs, const char *wanted) {
+    static struct buffer values, answer;
+    size_t count;
+    char word;
+    read_list(inputs, &values, &count);
+    read_text(wanted, &answer, &word);
+    compare_rooms(extract, &values, &answer, inputs);
+}
+
+/* The value forbids to sniff if its first piece does, and says what the last piece does that says a MIME type. */
+static void compare_split(const char *inputs, const char *wanted) {
+    static struct buffer value, piece;
+    char said[INFER_MIME_SIZE] = "", out[INFER_MIME_SIZE], word;
+    read_text(inputs + 1, &value, &word);
+    const bool is_nosniff = infer_mime_is_nosniff((char *)value.bytes, value.len);
+    for (const char *at = wanted + 1; *at != ']';) {
+        const bool is_first = at == wanted + 1;
+        at = read_text(at, &piece, &word);
+        if (is_first) WANTS(&headers, infer_mime_is_nosniff((char *)piece.bytes, piece.len) == is_nosniff, "the first piece of %s", inputs);
+        if (infer_mime_essence((char *)piece.bytes, piece.len, out, sizeof out) && strcmp(out, "*/*") != 0) strcpy(said, out);
+    }
+    infer_mime_extract((char *)value.bytes, value.len, out, sizeof out);
+    WANTS(&headers, strlen(said) == strcspn(out, ";") && strncmp(out, said, strlen(said)) == 0, "the pieces of %s", inputs);
+}
+
 static int32_t destination(const struct buffer *name) {
     static const char *const scripts[] = {"audioworklet", "paintworklet", "script", "serviceworker", "sharedworker", "worker"};
     for (size_t i = 0; i < sizeof scripts / sizeof *scripts; i++)
@@ -168,6 +194,21 @@ static void compare_computed(const struct buffer *type, uint32_t flags, int32_t 
     WANTS(&computed, is_same(&answer, out, size), "%s in no context", name);
 }
 
+/* An archive is told of a page of which nothing is known, and none where none is due: no rule before those of archives accepts what
+ * they do. */
+static void compare_archive(const struct buffer *data, const char *wanted) {
+    static const char *const archives[] = {"application/x-gzip", "application/zip", "application/x-rar-compressed"};
+    char out[INFER_MIME_SIZE];
+    if (strcmp(wanted, "\"-\"") != 0) {
+        static const struct buffer none = {0};
+        compare_computed(&none, 0, INFER_MIME_IN_PAGE, data, wanted, "archive");
+        return;
+    }
+    infer_mime_compute("", 0, 0, INFER_MIME_IN_PAGE, data->bytes, data->len, out, sizeof out);
+    for (size_t i = 0; i < sizeof archives / sizeof *archives; i++)
+        WANTS(&computed, strcmp(out, archives[i]) != 0, "no archive, but %s", out);
+}
+
 /* A yes is never wrong, and most that are due come. */
 static void compare_decided(const struct buffer *type, uint32_t flags, const struct buffer *data, bool wanted, const char *name) {
     bool is = infer_mime_is_decided((char *)type->bytes, type->len, flags, data->bytes, data->len);
@@ -194,6 +235,7 @@ static void compare_sniffed(const char *function, const char *inputs, const stru
     if (strcmp(function, "image") == 0) return compare_computed(&none, 0, INFER_MIME_IN_IMAGE, data, wanted, function);
     if (strcmp(function, "audio_video") == 0) return compare_computed(&none, 0, INFER_MIME_IN_AUDIO_VIDEO, data, wanted, function);
     if (strcmp(function, "font") == 0) return compare_computed(&none, 0, INFER_MIME_IN_FONT, data, wanted, function);
+    if (strcmp(function, "archive") == 0) return compare_archive(data, wanted);
     if (strcmp(function, "may_be_scriptable") == 0) {
         bool may_be = infer_mime_may_be_scriptable(data->bytes, data->len);
         WANTS(&scripts, may_be || *wanted == 'f', "%s", inputs);
@@ -219,11 +261,10 @@ static void compare_typed(const char *function, const char *inputs, const char *
     if (strcmp(function, "minimize") == 0) return compare_minimal(inputs, wanted);
     if (strcmp(function, "nosniff") == 0) return compare_nosniff(inputs, wanted);
     if (strcmp(function, "blocked") == 0) return compare_blocked(inputs, wanted);
+    if (strcmp(function, "extract") == 0) return compare_extracted(inputs, wanted);
+    if (strcmp(function, "split") == 0) return compare_split(inputs, wanted);
     refuse(function, "no such question");
 }
-
-/* What no call for C asks by itself. */
-static bool is_inner(const char *function) { return strcmp(function, "split") == 0 || strcmp(function, "extract") == 0 || strcmp(function, "archive") == 0; }
 
 int main(int argc, char **argv) {
     if (argc != 3) return 2;
@@ -232,13 +273,13 @@ int main(int argc, char **argv) {
     typed = read_table(argv[1], 3);
     for (size_t i = 0; i < typed.count; i++) {
         char *const *at = typed.lines[i].fields;
-        if (!is_inner(at[0])) compare_typed(at[0], at[1], at[2]);
+        compare_typed(at[0], at[1], at[2]);
     }
     sniffed = read_table(argv[2], 4);
     for (size_t i = 0; i < sniffed.count; i++) {
         char *const *at = sniffed.lines[i].fields;
         decode(&data, at[2]);
-        if (!is_inner(at[0])) compare_sniffed(at[0], at[1], &data, at[3]);
+        compare_sniffed(at[0], at[1], &data, at[3]);
     }
     WANTS(&decided, told >= due - due / 4, "%ld yes of %ld", told, due);
     const struct tally tallies[] = {texts, cut, headers, computed, decided, scripts};

@@ -31,16 +31,16 @@ taken n room text long is =
     let l : min n (length room) ≡ length text = sym (length-take n room) ∙ ap length is in
     (omega (arith, l, long), take_min n room ∙ is)
 
-pub written_whole : (v : MimeType) (old new : List ℕ) (n : ℕ) → length new ≡ MOST → IsWritten MOST_SEGMENTS v old new (Ok n)
-    → IsTextOf v.tail.now (mime_of v) (take (min n MOST) new)
-written_whole v old new n size (few, long, is) =
-    let t = taken n new (serialize (mime_of v)) long is in
-    inl ((few, omega (arith, long, size, t.0)), subst (λ k. take (min n k) new ≡ serialize (mime_of v)) size t.1)
+pub written_whole : (tail : List ℕ) (m : Mime) (old new : List ℕ) (n : ℕ) → length new ≡ MOST → IsWritten MOST_SEGMENTS tail m old new (Ok n)
+    → IsTextOf tail m (take (min n MOST) new)
+written_whole tail m old new n size (few, long, is) =
+    let t = taken n new (serialize m) long is in
+    inl ((few, omega (arith, long, size, t.0)), subst (λ k. take (min n k) new ≡ serialize m) size t.1)
 
-pub written_none : (v : MimeType) (old new : List ℕ) (e : WriteError) → length old ≡ MOST → IsWritten MOST_SEGMENTS v old new (Err e)
-    → IsTextOf v.tail.now (mime_of v) []
-written_none v old new NoRoom size (few, short) = inr ((λ is. absurd (omega (arith, is.1, size, short))), refl)
-written_none v old new TooManyParameters size many = inr ((λ is. many is.0), refl)
+pub written_none : (tail : List ℕ) (m : Mime) (old new : List ℕ) (e : WriteError) → length old ≡ MOST → IsWritten MOST_SEGMENTS tail m old new (Err e)
+    → IsTextOf tail m []
+written_none tail m old new NoRoom size (few, short) = inr ((λ is. absurd (omega (arith, is.1, size, short))), refl)
+written_none tail m old new TooManyParameters size many = inr ((λ is. many is.0), refl)
 
 -- the same of a text that is written from the start on
 pub wrote_whole : (old new text : List ℕ) (n : ℕ) → length new ≡ MOST → Wrote old new 0 text (Some n) → IsWithRoom text (take (min n MOST) new)

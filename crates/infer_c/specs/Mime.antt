@@ -1,10 +1,12 @@
 -- What is told to C of MIME types, and of what a browser makes of them.
-use Rattle.std.specs.Prelude.{◌≡◌, ◌==◌, ◌+◌, ◌≤◌, ◌⊎◌, ◌↔◌, ℕ, ℤ, Bool, pos, List, [], Option, None, Some, IsTrue, bit_and, codes, length, option_map}
+use Rattle.std.specs.Prelude.{◌≡◌, ◌==◌, ◌+◌, ◌≤◌, ◌⊎◌, ◌↔◌, ℕ, ℤ, Bool, pos, List, [], Option, None, Some, IfSome, IsTrue, bit_and, codes, length, option_map}
+use Rattle.mime_types.specs.Extracted.{EndsInTail, IsExtracted, mime_together, tails}
 use Rattle.mime_types.specs.Groups.{IsArchive, IsAudioOrVideo, IsFont, IsHtml, IsImage, IsJavaScript, IsJson, IsScriptable, IsXml, IsZipBased, essence}
 use Rattle.mime_types.specs.Mime.{Kind, Mime}
 use Rattle.mime_types.specs.Minimal.{IsMinimal}
 use Rattle.mime_types.specs.Named.{value_of}
 use Rattle.mime_types.specs.Parse.{Parsed, tail_text}
+use Rattle.mime_types.specs.Pieces.{pieces}
 use Rattle.mime_types.specs.Seen.{mime_of}
 use Rattle.mime_types.specs.Segment.{left_by}
 use Rattle.mime_types.specs.Serialize.{serialize}
@@ -116,6 +118,15 @@ IsGroupCodeSaid (Some k) code = IsGroupCode k code
 -- the MIME type that values say together
 abbrev pub mime_extracted : Option Extracted → Option MimeType
 mime_extracted found = option_map (λ e. e.mime_type) found
+
+-- what values say together, and what stands behind the subtype there
+abbrev pub SayTogether : List ℕ → Option Extracted → Type 0
+SayTogether value found = IsExtracted value found × IfSome found (λ e. EndsInTail (tails (pieces value)) e.mime_type.tail.now)
+
+-- its text, which is empty if they say nothing or it is too long
+abbrev pub IsTogetherText : Option Extracted → List ℕ → Type 0
+IsTogetherText None written = written ≡ []
+IsTogetherText (Some e) written = IsTextOf e.mime_type.tail.now (mime_together e) written
 
 -- the number of what a resource is fetched for
 abbrev pub destination_code : Destination → ℤ

@@ -36,7 +36,7 @@ ghost use Rattle.mime_types.specs.declared.extraction.Extracted.{Extracted};
 ghost use Rattle.mime_sniff.specs.Computed.{IsComputedIn, apache_bugs};
 ghost use Rattle.mime_sniff.specs.Growth as growth;
 ghost use Rattle.mime_sniff.specs.Growth.{NeverScripts};
-ghost use Rattle.infer_c.specs.Mime.{IsContextOf, IsDestinationOf, IsEssenceText, IsGroupCodeSaid, IsMimeText, IsMinimalText, IsToldText, IsValueText, Says, kind_said, mime_extracted, supply_told, value_said};
+ghost use Rattle.infer_c.specs.Mime.{IsContextOf, IsDestinationOf, IsEssenceText, IsGroupCodeSaid, IsMimeText, IsMinimalText, IsToldText, IsTogetherText, IsValueText, SayTogether, Says, kind_said, mime_extracted, supply_told, value_said};
 ghost use Rattle.infer_c.specs.Named.{IsOddityCode, StoresNamed};
 ghost use Rattle.infer_c.specs.Why.{TellsWhy};
 ghost use Rattle.infer_c.specs.Written.{WritesText, WritesWhole};
@@ -374,6 +374,17 @@ pub extern "C" fn infer_mime_groups(text: &[u8]) -> u32
     ensures { (said : Option Mime) × Says text.now said × IsGroupCodeSaid (kind_said said) result }
 {
     mime::groups(text)
+}
+
+/// The length of the text of the MIME type that the values of `Content-Type` say together, as Fetch extracts it, which is written
+/// to `out`: with the charset of the first of its kind behind its parameters, if it has none. It is 0 if they say none, or it has
+/// more than 256 parameters, or would take more than 4095 bytes.
+#[unsafe(no_mangle)]
+pub extern "C" fn infer_mime_extract(value: &[u8], out: &mut [u8]) -> usize
+    ensures { (found : Option Extracted) × (written : List ℕ) × SayTogether value.now found × IsTogetherText found written
+        × (result ≡ length written) × WritesText written out.old out.new }
+{
+    mime::write_extracted(value, out)
 }
 
 /// Whether the value of `X-Content-Type-Options` forbids to sniff.

@@ -1,7 +1,7 @@
 //! MIME types, and what a browser makes of them and of first bytes, as C has it.
 ghost use Rattle.std.specs.Prelude.{◌≡◌, ◌↔◌, ◌≤◌, IfSome, IsTrue, List, Option, ℕ, is_some, length, option_map, unwrap_or};
 ghost use Rattle.std.specs.Bool.{OnTrue};
-ghost use Rattle.mime_types.specs.Extracted.{IsExtracted};
+ghost use Rattle.mime_types.specs.Extracted.{IsExtracted, mime_together};
 ghost use Rattle.mime_types.specs.Mime.{Mime};
 ghost use Rattle.mime_types.specs.Nosniff.{IsBlocked};
 ghost use Rattle.mime_types.specs.Parse.{tail_text};
@@ -10,13 +10,13 @@ ghost use Rattle.mime_types.specs.Text.{lower};
 ghost use Rattle.mime_types.specs.declared.extraction.Extracted.{Extracted};
 ghost use Rattle.mime_sniff.specs.Computed.{IsComputedIn};
 ghost use Rattle.mime_sniff.specs.Growth.{IsDecided};
-ghost use Rattle.infer_c.specs.Mime.{IsContextOf, IsDestinationOf, IsEssenceText, IsFoundText, IsGroupCode, IsGroupCodeSaid, IsKindText, IsLeastText, IsMimeText, IsMinimalText, IsTextOf, IsWithRoom, IsToldText, IsValueText, Says, has_bit, kind_said, mime_extracted, supply_told, value_said};
+ghost use Rattle.infer_c.specs.Mime.{IsContextOf, IsDestinationOf, IsEssenceText, IsFoundText, IsGroupCode, IsGroupCodeSaid, IsKindText, IsLeastText, IsMimeText, IsMinimalText, IsTextOf, IsWithRoom, IsToldText, IsTogetherText, IsValueText, SayTogether, Says, has_bit, kind_said, mime_extracted, supply_told, value_said};
 ghost use Rattle.infer_c.specs.Written.{WritesText};
 
 use crate::named::number_if;
 use crate::written::{write_bytes, write_text};
 use mime_sniff::{Computed, Context, Supplied};
-use mime_types::{Destination, MimeType, Minimal, Value};
+use mime_types::{Destination, Extracted, MimeType, Minimal, Value};
 
 /// How many bytes the text of a MIME type may have.
 pub const MOST: usize = 4095;
@@ -177,6 +177,29 @@ fn groups_of(view: &MimeType<'_>) -> u32
         + number_if(view.is_scriptable(), 128)
         + number_if(view.is_javascript(), 256)
         + number_if(view.is_json(), 512)
+}
+
+/// The length of the text of what values of `Content-Type` say together, which is written to `out`, and 0 if they say nothing or
+/// it is too long.
+pub fn write_extracted(value: &[u8], out: &mut [u8]) -> usize
+    ensures { (found : Option Extracted) × (written : List ℕ) × SayTogether value.now found × IsTogetherText found written
+        × (result ≡ length written) × WritesText written out.old out.new }
+{
+    match mime_types::extract(value) {
+        Some(found) => write_together(&found, out),
+        None => write_text("", out),
+    }
+}
+
+fn write_together(found: &Extracted<'_>, out: &mut [u8]) -> usize
+    ensures { (written : List ℕ) × IsTextOf found.now.mime_type.tail.now (mime_together found.now) written
+        × (result ≡ length written) × WritesText written out.old out.new }
+{
+    let mut room = [0; MOST];
+    match found.write(&mut room) {
+        Ok(end) => write_bytes(&room[..end.min(MOST)], out),
+        Err(_) => write_text("", out),
+    }
 }
 
 /// Whether a response with `nosniff` is blocked, by the values of `Content-Type` and by what it is fetched for.

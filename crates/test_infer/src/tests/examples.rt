@@ -117,6 +117,10 @@ fn mime_types_of_headers(rt: HostRuntime) -> Result<(), Fail> {
     let found = mime_types::extract(b"text/html;charset=gbk, text/html").ok_or("a MIME type")?;
     assert!(rt; found.mime_type.is_html());
     assert_eq!(rt; found.charset.ok_or("a charset")?.text, b"gbk".as_slice());
+    // mime_types::Extracted::write
+    let found = mime_types::extract(b"text/html;charset=gbk, text/html").ok_or("a MIME type")?;
+    let mut out = [0; 21];
+    assert!(rt; matches!(found.write(&mut out), Ok(21)) && out == *b"text/html;charset=gbk");
     // mime_types::Pieces
     let mut pieces = mime_types::Pieces::new(b"a, \"b,c\"");
     assert_eq!(rt; pieces.next(), Some(b"a".as_slice()));
