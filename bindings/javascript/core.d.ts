@@ -180,6 +180,13 @@ export class MIMEType {
     minimize(isSupported?: boolean): string | undefined;
 }
 
+/**
+ * The MIME type that the values of Content-Type say together, as Fetch extracts it, or null. If the last of them has no charset,
+ * it has that of the first of the values in a row with its type and subtype. Several values are given as one, with ", " between
+ * them.
+ */
+export function extractMIMEType(value: string | Bytes): MIMEType | null;
+
 /** What bytes are loaded for. */
 export const Context: {
     readonly PAGE: "page";

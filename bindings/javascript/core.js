@@ -357,6 +357,8 @@ export class MIMEType {
     }
 }
 
+export const extractMIMEType = (value) => MIMEType.parse(mimeText(infer.infer_mime_extract, bytesOfText(value)));
+
 export const Context = Object.freeze({
     PAGE: "page",
     IMAGE: "image",

@@ -17,6 +17,7 @@ export {
     compute,
     encoding,
     evidence,
+    extractMIMEType,
     fileTypeFromBlob,
     fileTypeFromBuffer,
     fileTypeFromStream,

@@ -18,6 +18,7 @@ export {
     compute,
     encoding,
     evidence,
+    extractMIMEType,
     fileTypeFromBlob,
     fileTypeFromBuffer,
     isBlocked,

@@ -395,6 +395,7 @@ test("MIME types are those of browsers' tests", () => {
             const found = new MIMEType(text);
             assert.equal(found.minimize(supported.includes(found.essence)) ?? "", wanted, text);
         },
+        extract: (values, wanted) => assert.equal(infer.extractMIMEType(joined(values))?.toString() ?? null, wanted, values),
         nosniff: (values, wanted) => assert.equal(infer.isNosniff(joined(values)), wanted, values),
         blocked([options, types, name], wanted) {
             const destination = scripts.includes(name) ? "script" : name === "style" ? "style" : "other";

@@ -164,6 +164,7 @@ oddities: Callable[[bytes, int], int] = _declare("infer_oddities", ctypes.c_uint
 
 _MIME_SIZE = 4096
 _mime_parse: Callable[..., int] = _declare("infer_mime_parse", _SIZE, _BUFFER, _SIZE, ctypes.c_char_p, _SIZE)
+_mime_extract: Callable[..., int] = _declare("infer_mime_extract", _SIZE, _BUFFER, _SIZE, ctypes.c_char_p, _SIZE)
 _mime_minimize: Callable[..., int] = _declare("infer_mime_minimize", _SIZE, _BUFFER, _SIZE, ctypes.c_bool, ctypes.c_char_p, _SIZE)
 _mime_compute: Callable[..., int] = _declare(
     "infer_mime_compute", _SIZE, _BUFFER, _SIZE, ctypes.c_uint32, ctypes.c_int32, _BUFFER, _SIZE, ctypes.c_char_p, _SIZE
@@ -185,6 +186,11 @@ def _mime_text(ask: Callable[..., int], *words: object) -> bytes:
 def mime_parse(text: bytes) -> bytes:
     """The text of the MIME type that a text says, or nothing."""
     return _mime_text(_mime_parse, text, len(text))
+
+
+def mime_extract(value: bytes) -> bytes:
+    """The text of the MIME type that values say together, or nothing."""
+    return _mime_text(_mime_extract, value, len(value))
 
 
 def mime_minimize(text: bytes, is_supported: bool) -> bytes:

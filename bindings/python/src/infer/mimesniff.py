@@ -23,7 +23,7 @@ from typing import Union
 from . import _library
 from ._source import Source, get_bytes, get_front
 
-__all__ = ["Context", "Destination", "Group", "HEADER", "MimeType", "Sniffer", "compute", "is_blocked", "is_decided", "is_nosniff", "is_old_server", "may_be_scriptable"]
+__all__ = ["Context", "Destination", "Group", "HEADER", "MimeType", "Sniffer", "compute", "extract", "is_blocked", "is_decided", "is_nosniff", "is_old_server", "may_be_scriptable"]
 
 HEADER = 1445
 """How many bytes are looked at."""
@@ -199,6 +199,16 @@ class Sniffer:
     def compute(self, context: Context = Context.PAGE) -> str | None:
         """What it computes of what is kept."""
         return compute(self.kept, *self._supplied, context)
+
+
+def extract(content_type: Text) -> MimeType | None:
+    """The MIME type that the values of Content-Type say together, as Fetch extracts it, or None. If the last of them has no
+    charset, it has that of the first of the values in a row with its type and subtype. Several values are given as one, with
+    ", " between.
+
+    >>> str(mimesniff.extract("text/html;charset=gbk, text/html"))
+    'text/html;charset=gbk'"""
+    return MimeType.parse(_library.mime_extract(_bytes_of(content_type)))
 
 
 def is_nosniff(value: Text) -> bool:

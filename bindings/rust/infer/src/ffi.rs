@@ -43,6 +43,7 @@ mod c {
             size: usize,
         ) -> usize;
         pub fn infer_mime_minimize(text: *const c_char, text_len: usize, is_supported: bool, out: *mut c_char, size: usize) -> usize;
+        pub fn infer_mime_extract(value: *const c_char, value_len: usize, out: *mut c_char, size: usize) -> usize;
         pub fn infer_mime_groups(text: *const c_char, text_len: usize) -> u32;
         pub fn infer_mime_is_nosniff(value: *const c_char, value_len: usize) -> bool;
         pub fn infer_mime_is_blocked(value: *const c_char, value_len: usize, destination: i32) -> bool;
@@ -270,6 +271,11 @@ pub fn mime_parameter(text: &[u8], name: &[u8]) -> Option<Vec<u8>> {
 /// What it is taken for, or nothing.
 pub fn mime_minimize(text: &[u8], is_supported: bool) -> Vec<u8> {
     mime_text(|out, size| unsafe { c::infer_mime_minimize(text.as_ptr().cast(), text.len(), is_supported, out, size) })
+}
+
+/// The text of the MIME type that values say together, or nothing.
+pub fn mime_extract(value: &[u8]) -> Vec<u8> {
+    mime_text(|out, size| unsafe { c::infer_mime_extract(value.as_ptr().cast(), value.len(), out, size) })
 }
 
 /// The sum of its groups.

@@ -114,6 +114,17 @@ impl MimeType {
     }
 }
 
+/// The MIME type that the values of Content-Type say together, as Fetch extracts it. If the last of them has no charset, it has
+/// that of the first of the values in a row with its type and subtype. Several values are given as one, with ", " between them.
+///
+/// ```
+/// let found = infer::mimesniff::extract(b"text/html;charset=gbk, text/html");
+/// assert_eq!(found.unwrap().to_string(), "text/html;charset=gbk");
+/// ```
+pub fn extract(content_type: &[u8]) -> Option<MimeType> {
+    MimeType::parse(&ffi::mime_extract(content_type))
+}
+
 /// Each byte as the code point with its number.
 impl fmt::Display for MimeType {
     fn fmt(&self, f: &mut fmt::Formatter<'_>) -> fmt::Result {

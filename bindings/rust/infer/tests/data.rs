@@ -352,6 +352,16 @@ fn unescaped(text: &str) -> Vec<u8> {
     bytes
 }
 
+/// The values of a header as one.
+fn joined(values: &[Vec<u8>]) -> Vec<u8> {
+    let is_dark = |byte: &u8| !b"\t\n\r ".contains(byte);
+    let trimmed = |value: &Vec<u8>| {
+        let first = value.iter().position(is_dark).unwrap_or(value.len());
+        value[first..value.iter().rposition(is_dark).map_or(first, |last| last + 1)].to_vec()
+    };
+    values.iter().map(trimmed).collect::<Vec<_>>().join(b", ".as_slice())
+}
+
 /// An answer of JSON, of which a dash says that no rule tells one.
 fn answer(text: &str) -> Option<Vec<u8>> {
     values(text).pop().filter(|it| !it.is_empty() && it != b"-")
@@ -373,6 +383,10 @@ fn mime_types_are_those_of_browsers_tests() {
         let told: Vec<_> =
             groups.iter().zip(names).filter(|(group, _)| found.is_in(**group)).map(|(_, name)| name.as_bytes().to_vec()).collect();
         assert_eq!(told, values(&line[2]), "{}", line[1]);
+    }
+    for line in lines("mime_types.tsv").iter().filter(|line| line[0] == "extract") {
+        let found = infer::mimesniff::extract(&joined(&values(&line[1])));
+        assert_eq!(found.map(|it| it.as_bytes().to_vec()), answer(&line[2]), "{}", line[1]);
     }
     let found = MimeType::parse(b"Text/JSON; Charset=\"UTF\\-8\"; b=\xE9").unwrap();
     assert_eq!((found.essence(), found.to_string()), (b"text/json".as_slice(), "text/json;charset=UTF-8;b=\"\u{e9}\"".to_string()));
