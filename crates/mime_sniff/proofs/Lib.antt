@@ -1,6 +1,7 @@
 pub mod FirstLemmas
 pub mod RuleLemmas
 pub mod TagLemmas
+pub mod SharedLemmas
 pub mod RowLemmas
 pub mod GoLemmas
 pub mod StandardLemmas

@@ -114,12 +114,12 @@ tells_direct b rules told direct =
     (all_by_test is_direct_rule (λ r. FitsRule b r ↔ Accepts b r) (λ r. direct_signature b r.signature) rules direct)
 
 -- a rule of a pattern that begins "<", before which white space is ignored
-abbrev is_markup : Signature → Bool
-is_markup (fixed p) = p.ignores_white && (is_led p && (get_or p.bytes 0 0 == 0x3C))
-is_markup other = false
+abbrev pub is_markup_signature : Signature → Bool
+is_markup_signature (fixed p) = p.ignores_white && (is_led p && (get_or p.bytes 0 0 == 0x3C))
+is_markup_signature other = false
 
 abbrev pub is_markup_rule : Rule → Bool
-is_markup_rule r = is_markup r.signature
+is_markup_rule r = is_markup_signature r.signature
 
 one_space : IsPrefixFree IsSpace
 one_space v w x y (a, f, p) (b, g, q) e = cc
@@ -130,7 +130,7 @@ module _ (b text : List ℕ) (skips : SkipsTo IsSpace b text) (stops : NoneBegin
       let behind = Behind-left IsSpace (λ t. NoneBegins IsSpace t × Fits p t) one_space (λ t h. h.0) b text skips stops in
       subst (λ w. Fits p text ↔ FitsBehind w p b) (sym white) (λ fits. behind.0 (stops, fits), λ a. (behind.1 a).1)
 
-  markup_signature : (s : Signature) → is_markup s ≡ true → FitsSignature text s ↔ IsAccepted s b
+  markup_signature : (s : Signature) → is_markup_signature s ≡ true → FitsSignature text s ↔ IsAccepted s b
   markup_signature (fixed p) is = accepts_white p (and_parts p.ignores_white (is_led p && (get_or p.bytes 0 0 == 0x3C)) is).0
   markup_signature mp4 is = absurd (false≢true is)
   markup_signature mp4_of_any_box is = absurd (false≢true is)
@@ -138,7 +138,7 @@ module _ (b text : List ℕ) (skips : SkipsTo IsSpace b text) (stops : NoneBegin
   markup_signature mp3 is = absurd (false≢true is)
   markup_signature no_data is = absurd (false≢true is)
 
-  markup_lead : (s : Signature) → is_markup s ≡ true → FitsSignature text s → (0 < length text) × (get_or text 0 0 ≡ 0x3C)
+  markup_lead : (s : Signature) → is_markup_signature s ≡ true → FitsSignature text s → (0 < length text) × (get_or text 0 0 ≡ 0x3C)
   markup_lead (fixed p) is fits =
       let parts = and_parts (is_led p) (get_or p.bytes 0 0 == 0x3C) (and_parts p.ignores_white (is_led p && (get_or p.bytes 0 0 == 0x3C)) is).1 in
       let some : 0 < length p.bytes = ltb-true 0 (length p.bytes) (and_parts (nat_lt 0 (length p.bytes)) (mask_at p.mask 0 == 0xFF) parts.0).0 in

@@ -5,29 +5,31 @@ use Rattle.std.proofs.lemmas.Grind.{and_numeral, same_number_lists}
 use Rattle.std.proofs.lemmas.Nat.{and_assoc}
 use Rattle.std.proofs.Math.ListN as numbers
 use Rattle.std.proofs.lemmas.List.{append-nil, get_or-map, get_or-take, length-map, length-take-le, map-append}
+use Rattle.std.proofs.lemmas.List.Folds.{Any-from_list_any, list_any-from_Any}
+use Rattle.std.proofs.lemmas.List.Sums.{AllPass-from_list_all}
 use Rattle.std.proofs.lemmas.Slice.Eq.{bytes_eq-Decides}
 use Rattle.std.specs.Char.{to_ascii_lowercase}
 use Rattle.std.specs.List.{list_all, list_any}
 use Rattle.std.specs.Str.{bytes_eq}
-use Rattle.infer_deep.specs.Joined.{NoneBegins}
+use Rattle.infer_deep.specs.Joined.{NoneBegins, SkipsTo}
 use Rattle.infer_deep.specs.Signatures.{MayBecome}
 use Rattle.infer_deep.specs.Text.{BeginsInAnyCase, BeginsWithTag, IsHtml, IsSpace, tags}
 use Rattle.infer_deep.proofs.JoinedLemmas.{SkipsTo-none}
-use Rattle.infer_deep.proofs.TextLemmas.{HasTag, IsHtml-left, begins_in_any_case, front_in_any_case, is_html_open, tag_end, tag_from_text, text_of_tag}
+use Rattle.infer_deep.proofs.TextLemmas.{HasTag, HasTag-open, IsHtml-left, begins_in_any_case, front_in_any_case, is_html_open, tag_end, tag_from_text, text_of_tag}
 use Rattle.mime_sniff.specs.Growth.{FitForGood, told_or_else}
-use Rattle.mime_sniff.specs.Row.{EndsTag, Fits, HasBits, Pattern, mask_at}
-use Rattle.mime_sniff.specs.Rule.{FitsRule, FitsSignature, Rule, Signature, TellsFirst, fixed, mp3, mp4, mp4_of_any_box, no_data, webm}
+use Rattle.mime_sniff.specs.Row.{EndsTag, Fits, FitsBehind, HasBits, Pattern, mask_at}
+use Rattle.mime_sniff.specs.Rule.{Accepts, FitsRule, FitsSignature, IsAccepted, Rule, Signature, TellsFirst, fixed, mp3, mp4, mp4_of_any_box, no_data, webm}
 use Rattle.mime_sniff.specs.Table.{markup_rules, tag_rules, xml_rules}
 use Rattle.mime_sniff.proofs.FirstLemmas.{tells_here, tells_later, tells_left, tells_none, tells_right}
 use Rattle.mime_sniff.proofs.GrowthLemmas.{fits_grown}
-use Rattle.mime_sniff.proofs.RuleLemmas.{is_markup_rule}
+use Rattle.mime_sniff.proofs.RuleLemmas.{bytes_behind, is_markup_rule, is_markup_signature}
 
 -- a test that all numbers below n pass
 abbrev pub below : ℕ → (ℕ → Bool) → Bool
 below zero test = true
 below (suc n) test = test n && below n test
 
-below_at : (n : ℕ) (test : ℕ → Bool) → below n test ≡ true → (x : ℕ) → x < n → test x ≡ true
+pub below_at : (n : ℕ) (test : ℕ → Bool) → below n test ≡ true → (x : ℕ) → x < n → test x ≡ true
 below_at zero test all x within = absurd (omega (arith, within))
 below_at (suc n) test all x within =
     let parts = and_parts (test n) (below n test) all in
@@ -122,7 +124,7 @@ or_cases : (a b : Bool) → (a || b) ≡ true → (a ≡ true) ⊎ (b ≡ true)
 or_cases true b e = inl refl
 or_cases false b e = inr e
 
-or_left : (a b : Bool) → a ≡ true → (a || b) ≡ true
+pub or_left : (a b : Bool) → a ≡ true → (a || b) ≡ true
 or_left true b e = refl
 or_left false b e = absurd (false≢true e)
 
@@ -130,7 +132,7 @@ or_right : (a b : Bool) → b ≡ true → (a || b) ≡ true
 or_right true b e = refl
 or_right false b e = e
 
-and_both : (a b : Bool) → a ≡ true → b ≡ true → (a && b) ≡ true
+pub and_both : (a b : Bool) → a ≡ true → b ≡ true → (a && b) ≡ true
 and_both true b e f = f
 and_both false b e f = absurd (false≢true e)
 
@@ -435,3 +437,48 @@ fit_both t xs ys first behind both is h g =
     known None behind h g = tt
     known (Some None) behind h g = right behind h g
     known (Some (Some s)) behind h g = λ more. tells_left (FitsRule (t ++ more)) xs ys s.now (h more)
+
+tags_are_markup : (html : List ℕ) → list_all is_markup_rule (tag_rules html) ≡ true
+unfolding tag_rules
+tags_are_markup html = refl
+
+-- a text behind white space that fits the signature, and nothing but that is accepted
+module _ (b : List ℕ) where
+  abbrev FitsBehindWhite : Signature → Type 0
+  FitsBehindWhite s = (text : List ℕ) × SkipsTo IsSpace b text × NoneBegins IsSpace text × FitsSignature text s
+
+  white_pattern : (w : Bool) (p : Pattern) → w ≡ true → FitsBehind w p b ↔ FitsBehindWhite (fixed p)
+  white_pattern true p e = (λ (text, skips, (stops, f)). (text, skips, stops, f), λ (text, skips, stops, f). (text, skips, (stops, f)))
+  white_pattern false p e = absurd (false≢true e)
+
+  markup_fits : (s : Signature) → is_markup_signature s ≡ true → IsAccepted s b ↔ FitsBehindWhite s
+  markup_fits (fixed p) is = white_pattern p.ignores_white p (and_parts p.ignores_white _ is).0
+  markup_fits mp4 is = absurd (false≢true is)
+  markup_fits mp4_of_any_box is = absurd (false≢true is)
+  markup_fits webm is = absurd (false≢true is)
+  markup_fits mp3 is = absurd (false≢true is)
+  markup_fits no_data is = absurd (false≢true is)
+
+no_white : (t : List ℕ) → get_or t 0 0 ≡ 0x3C → NoneBegins IsSpace t
+no_white t first word rest (x, white, w) e =
+    let here : get_or t 0 0 ≡ x = ap (λ l. get_or l 0 0) (e ∙ ap (λ v. v ++ rest) w) in omega (arith, first, here, white)
+
+-- a buffer is HTML just if one of the rows accepts it
+module _ (b : List ℕ) (bytes : (i : ℕ) → get_or b i 0 < 256) (html : List ℕ) where
+  markup_at : (k : ℕ) (r : Rule) → k < length (tag_rules html) → get_or (tag_rules html) k r ≡ r → is_markup_rule r ≡ true
+  markup_at k r within at = sym (ap is_markup_rule at) ∙ AllPass-from_list_all is_markup_rule (tag_rules html) (tags_are_markup html) k r within
+
+  pub html_accepts : Any (Accepts b) (tag_rules html) ↔ IsHtml b
+  html_accepts = (
+    λ (k, r, within, at, accepted).
+        let (text, skips, stops, f) = (markup_fits b r.signature (markup_at k r within at)).0 accepted in (
+          text,
+          skips,
+          tag_of_rule text (bytes_behind b text skips bytes) tags (tag_rules html) (tags_have_rules html)
+              (list_any-from_Any (is_fitting text) (tag_rules html) (k, r, within, at, rule_tested text r.signature f)),
+        ),
+    λ (text, skips, has).
+        let (k, r, within, at, fits) = Any-from_list_any (is_fitting text) (tag_rules html)
+        (rule_of_any text (bytes_behind b text skips bytes) tags (tag_rules html) (tags_have_rules html) has) in
+        (k, r, within, at, (markup_fits b r.signature (markup_at k r within at)).1 (text, skips, no_white text (HasTag-open text has), test_rule text r.signature fits)),
+  )

@@ -1,16 +1,22 @@
 -- Laws of content types and of computed types.
-use Rattle.std.specs.Prelude.{◌≡◌, Bool, if◌then◌else◌, ◌≤◌, ◌↔◌, ◌⊎◌, ◌++◌, ◌∷◌, [], Any, IsTrue, List, Option, None, Some, ℕ, length}
-use Rattle.std.specs.List.{concat}
+use Rattle.std.specs.Prelude.{◌≡◌, Bool, if◌then◌else◌, ◌<◌, ◌≤◌, ◌↔◌, ◌⊎◌, ◌++◌, ◌∷◌, [], Any, IsTrue, List, Option, None, Some, ℕ, codes, length, slice_index}
+use Rattle.std.specs.List.{concat, filter}
+use Rattle.std.specs.Str.{bytes_eq}
 use Rattle.mime_types.specs.Groups.{IsJavaScript, essence}
 use Rattle.mime_types.specs.Mime.{Kind}
 use Rattle.mime_sniff.specs.Computed.{IsAskedOf, IsComputed, IsSuppliedScriptable, IsUnknown, Supply, TellsScriptable, otherwise, rules_of}
 use Rattle.mime_sniff.specs.Go.{IsContentType}
 use Rattle.mime_sniff.specs.Go as go
 use Rattle.mime_sniff.specs.Growth.{IsDecided}
+use Rattle.infer_deep.specs.Text.{IsHtml}
 use Rattle.infer_formats.specs.Text.{IsBinary}
+use Rattle.infer_sig.specs.Archive as Archive
+use Rattle.infer_sig.specs.Audio as Audio
+use Rattle.infer_sig.specs.Image as Image
+use Rattle.infer_sig.specs.Signature.{Alternative, accepts}
 use Rattle.mime_sniff.specs.Rule.{Accepts, Rule}
-use Rattle.mime_sniff.specs.Standard.{archives, header, media, scriptable, texts}
-use Rattle.mime_sniff.specs.Table.{images}
+use Rattle.mime_sniff.specs.Standard.{archives, header, markup, media, scriptable, texts}
+use Rattle.mime_sniff.specs.Table.{images, sounds}
 use Rattle.mime_sniff.specs.declared.question.Question.{Question}
 
 -- a buffer has one content type
@@ -93,3 +99,24 @@ StaysIfForbidden =
 -- a type that is told in place of the supplied one is no JavaScript
 abbrev pub TellsNoScript : Type 0
 TellsNoScript = (s : Supply) (b t : List ℕ) (k : Kind) → IsComputed s b (Some t) → essence k ≡ t → ¬ IsJavaScript k
+
+-- the rules of a type
+abbrev pub of_type : List ℕ → List Rule → List Rule
+of_type t rules = filter (λ rule. bytes_eq rule.mime_type t) rules
+
+-- each is a byte
+abbrev pub AreBytes : List ℕ → Type 0
+AreBytes b = (i : ℕ) → slice_index b i < 256
+
+-- one of the rules accepts a buffer just if the library's signature does
+abbrev pub Shares : List Rule → List Alternative → Type 0
+Shares rules signature = (b : List ℕ) → AreBytes b → Any (Accepts b) rules ↔ IsTrue (accepts signature b)
+
+-- what the standard and the library tell alike: HTML by its tags, and five types by fixed bytes
+pub record SharesRows : Type 0 where
+  pub html : (b : List ℕ) → AreBytes b → Any (Accepts b) (of_type (codes "text/html") markup) ↔ IsHtml b
+  pub bmp : Shares (of_type (codes "image/bmp") images) Image.bmp
+  pub jpeg : Shares (of_type (codes "image/jpeg") images) Image.jpeg
+  pub aiff : Shares (of_type (codes "audio/aiff") sounds) Audio.aiff
+  pub wav : Shares (of_type (codes "audio/wave") sounds) Audio.wav
+  pub gz : Shares (of_type (codes "application/x-gzip") archives) Archive.gz

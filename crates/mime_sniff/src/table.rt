@@ -1,5 +1,8 @@
 //! The rows that browsers and Go have alike. Those that begin with a byte of their own stand by it, in the order in which they
 //! are asked.
+//!
+//! BMP, JPEG, AIFF and WAVE are signatures of `infer_sig` too, as is gzip: `laws::shares_rows`. They are data here, and no calls,
+//! since one function asks all rows, and another tells what more bytes may bring to them.
 ghost use Rattle.std.specs.Prelude.{◌≡◌, map};
 ghost use Rattle.mime_sniff.specs.Listed.{rule_listed};
 ghost use Rattle.mime_sniff.specs.Table.{images, led_by, sounds};
