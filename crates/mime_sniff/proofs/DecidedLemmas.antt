@@ -1,9 +1,9 @@
 -- When more bytes leave the computed type as it is.
-use Rattle.std.proofs.Common.{◌≡◌, ◌∙◌, inl, inr, ℕ, ◌+◌, ◌-◌, ◌≤◌, List, [], ◌++◌, Any, None, Option, ap, arith, length, subst, sym, take}
+use Rattle.std.proofs.Common.{◌≡◌, ◌∙◌, inl, inr, ℕ, ◌+◌, ◌-◌, ◌≤◌, List, [], ◌++◌, Any, None, Option, ap, append_assoc, arith, length, subst, sym, take}
 use Rattle.std.proofs.Math.Seq.{take-append-add}
 use Rattle.std.proofs.lemmas.Bool.{cases_lt}
 use Rattle.std.proofs.lemmas.List.{append-nil, take-append-le, take_all}
-use Rattle.mime_sniff.specs.Computed.{Answers, IsAsked, Supply}
+use Rattle.mime_sniff.specs.Computed.{Answers, IsAsked, IsComputed, Supply}
 use Rattle.mime_sniff.specs.Growth.{AnswerForGood, IsDecided, NeverScripts, TellForGood}
 use Rattle.mime_sniff.specs.Rule.{Accepts, Rule, TellsFirst}
 use Rattle.mime_sniff.specs.Standard.{header, scriptable}
@@ -47,3 +47,13 @@ pub never_settled : (b : List ℕ) → TellForGood (header b) scriptable None �
 never_settled b good more =
     let (m, e) = grows b more in
     subst (λ h. ¬ Any (Accepts h) scriptable) (sym e) (no_rule (Accepts (header b ++ m)) scriptable (good m))
+
+-- what is decided has one type, whatever follows, and so has what begins with it
+pub same_computed : (s : Supply) (b : List ℕ) (t u : Option (List ℕ)) → IsComputed s b t → IsComputed s b u → t ≡ u
+same_computed s b t u (q, asked, h) (r, also, g) =
+    one_answer q (header b) t u h (subst (λ x. Answers x (header b) u) (sym (one_question s q r asked also)) g)
+
+pub decided_stays : (s : Supply) (b more : List ℕ) (told : Option (List ℕ)) → IsDecided s b → IsComputed s b told → IsDecided s (b ++ more)
+decided_stays s b more told decided is behind now h =
+    let same = same_computed s (b ++ more) told now (decided more told is) h in
+    subst (λ l. IsComputed s l now) (sym (append_assoc b more behind)) (subst (λ t. IsComputed s (b ++ (more ++ behind)) t) same (decided (more ++ behind) told is))

@@ -48,6 +48,10 @@ KeepsHeader = (pieces : List (List ℕ)) → kept_of [] pieces ≡ header (conca
 abbrev pub DecidesWhenFull : Type 0
 DecidesWhenFull = (s : Supply) (b : List ℕ) → 1445 ≤ length b → IsDecided s b
 
+-- and what is decided stays decided
+abbrev pub DecidedStays : Type 0
+DecidedStays = (s : Supply) (b more : List ℕ) (told : Option (List ℕ)) → IsDecided s b → IsComputed s b told → IsDecided s (b ++ more)
+
 -- nothing tells the type, sniffing is not forbidden, and what may run scripts accepts the bytes
 abbrev pub MayEscalate : Supply → List ℕ → Type 0
 MayEscalate s b = IsUnknown s.kind × (¬ IsTrue s.no_sniff) × Any (Accepts (header b)) scriptable

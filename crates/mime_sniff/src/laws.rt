@@ -1,5 +1,5 @@
 //! Facts about the definitions, each the contract of a function that does nothing beside. To use a law, call it.
-ghost use Rattle.mime_sniff.specs.Laws.{ComputesOne, DecidesWhenFull, Escalates, EscalatesForGood, EscalatesSo, HasOneType, HeaderComputes, HeaderDecides, KeepsHeader, OctetsStay, RowsStay, SharesRows, StaysIfForbidden, StaysOfItsKind, TellsNoScript};
+ghost use Rattle.mime_sniff.specs.Laws.{ComputesOne, DecidedStays, DecidesWhenFull, Escalates, EscalatesForGood, EscalatesSo, HasOneType, HeaderComputes, HeaderDecides, KeepsHeader, OctetsStay, RowsStay, SharesRows, StaysIfForbidden, StaysOfItsKind, TellsNoScript};
 
 /// No buffer has two content types.
 pub fn one_type()
@@ -29,6 +29,11 @@ pub fn keeps_header()
 /// Behind the first 1445 bytes none change a computed type.
 pub fn decides_when_full()
     ensures { DecidesWhenFull }
+{}
+
+/// And what no bytes change stays so as bytes come.
+pub fn decided_stays()
+    ensures { DecidedStays }
 {}
 
 /// Of a resource of which nothing is known, what a row tells is told whatever follows: only what is told where none accepts may
