@@ -225,3 +225,35 @@ fn context(place: u8) -> Context {
         _ => Context::CacheManifest,
     }
 }
+
+/// Boxes that end in their own head or far behind the buffer, and other lengths that no file has, with what is told of sounds and
+/// films. A box counts if its length is one of whole words that are there; no rule looks at the other lengths.
+const HOSTILE: &[(&[u8], &[u8])] = &[
+    (b"\0\0\0\0ftypmp42\0\0\0\0", b"video/mp4"),
+    (b"\0\0\0\x01ftypmp42\0\0\0\0", b""),
+    (b"\0\0\0\x02ftypmp42\0\0\0\0", b""),
+    (b"\0\0\0\x03ftypmp42\0\0\0\0", b""),
+    (b"\0\0\0\x04ftypmp42\0\0\0\0", b"video/mp4"),
+    (b"\0\0\0\x05ftypmp42\0\0\0\0", b""),
+    (b"\0\0\0\x06ftypmp42\0\0\0\0", b""),
+    (b"\0\0\0\x07ftypmp42\0\0\0\0", b""),
+    (b"\0\0\0\x08ftypmp42\0\0\0\0", b"video/mp4"),
+    (b"\0\0\0\x08ftypisom\0\0\0\0mp42", b""),
+    (b"\xFF\xFF\xFF\xFFftypmp42\0\0\0\0", b""),
+    (b"\xFF\xFF\xFF\xFCftypmp42\0\0\0\0", b""),
+    (b"RIFF\xFF\xFF\xFF\xFFWAVE", b"audio/wave"),
+    (b"FORM\xFF\xFF\xFF\xFFAIFF", b"audio/aiff"),
+    (b"\x1AE\xDF\xA3\xFF\xFF\xFF\xFF", b""),
+    (b"\x1AE\xDF\xA3\x42\x82\xFFwebm\0", b"video/webm"),
+    (b"\xFF\xFF\xFF\xFF\xFF\xFF\xFF\xFF", b""),
+];
+
+#[test]
+fn hostile_lengths(rt: HostRuntime) -> Result<(), Fail> {
+    let supplied = supplied(b"", false, false);
+    for (i, (buf, wanted)) in HOSTILE.iter().enumerate() {
+        let computed = compute_in(Context::AudioOrVideo, &supplied, *buf);
+        assert!(rt; is_told(&supplied, computed, *wanted), "case {i}");
+    }
+    Ok(())
+}
