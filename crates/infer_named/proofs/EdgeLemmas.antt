@@ -2,7 +2,7 @@
 use Rattle.std.proofs.Common.{◌≡◌, ◌+◌, ◌-◌, ◌<◌, ◌≤◌, ◌∙◌, ◌==◌, ℕ, zero, suc, Bool, true, false, List, Option, None, Some, ap, arith, drop, get_or, inl, inr, length, refl, subst, sym, take}
 use Rattle.std.proofs.lemmas.Bool.{cases_Bool, cases_lt}
 use Rattle.std.proofs.lemmas.List.{drop-drop, get_or-drop, get_or-take, length-drop, length-take-le}
-use Rattle.memchr.specs.Find.{IsFirstByte, IsLast, IsLastByte, Passes, is_byte, is_byte2, is_byte3}
+use Rattle.memchr.specs.Find.{IsFirst, IsFirstByte, IsLast, IsLastByte, Passes, is_byte, is_byte2, is_byte3}
 use Rattle.infer_named.specs.Key.{Key}
 use Rattle.infer_named.specs.Names.{IsBase, IsKey, IsStemKey, behind, stem_of}
 
@@ -97,6 +97,26 @@ module _ (test : ℕ → Bool) (b : List ℕ) (low : ℕ) where
     | inr off ↦ (let before = last_before n in (before.0, longer n off before.0 before.1))
   ]
 
+-- and a first place, or none
+module _ (test : ℕ → Bool) (b : List ℕ) where
+  later : (n : ℕ) (r : Option ℕ) → IsFirst (Passes test b) 0 n r → (next : Option ℕ) × IsFirst (Passes test b) 0 (suc n) next
+  later n (Some place) (there, passes) =
+      let high : place < n = there.high in (Some place, (record { low = there.low; high = omega arith; before = there.before }, passes))
+  later n None none = elim (cases_Bool (test (get_or b n 0))) [
+    | inl on ↦ (Some n, (record { low = omega arith; high = omega arith; before = none }, on))
+    | inr off ↦ (
+      None,
+      λ k low lt is. elim (cases_lt k n) [
+        | inl before ↦ none k low before is
+        | inr here ↦ (let same : k ≡ n = omega arith in let on = subst (λ i. test (get_or b i 0) ≡ true) same is in absurd (cc))
+      ],
+    )
+  ]
+
+  pub first_before : (n : ℕ) → (r : Option ℕ) × IsFirst (Passes test b) 0 n r
+  first_before zero = (None, λ k low lt is. absurd (omega arith))
+  first_before (suc n) = let earlier = first_before n in later n earlier.0 earlier.1
+
 -- each name has a base
 pub base_of : (name : List ℕ) → (base : List ℕ) × IsBase name base
 base_of name = let slash = last_before (is_byte2 0x2F 0x5C) name 0 (length name) in (behind name slash.0, (slash.0, slash.1, refl))
@@ -165,9 +185,10 @@ module _ (keys : List Key) (name : List ℕ) where
         = let at : near + (k - near) ≡ k = omega arith in get_or-drop near name (k - near) 0 ∙ ap (λ i. get_or name i 0) at in
         none (k - near) (omega arith) (omega (arith, long)) (subst (λ y. is_byte3 0 0x2F 0x5C y ≡ true) (sym same) is)
 
-    -- so the base begins at the place, or before it
+    -- so the base begins at the place, or before it, and what it has before the place the name has too
     pub end_of_base : (base : List ℕ) → IsBase name base → near ≤ length name → (k : ℕ) × (k ≤ length base) × (drop k base ≡ drop near name)
-    end_of_base base (None, no_slash, is) le = (near, rw is le, ap (drop near) is)
+        × ((i : ℕ) → i < k → (p : ℕ) × (p < near) × (get_or base i 0 ≡ get_or name p 0))
+    end_of_base base (None, no_slash, is) le = (near, rw is le, ap (drop near) is, λ i lt. (i, lt, ap (λ b. get_or b i 0) is))
     end_of_base base (Some slash, there, is) le =
         let before : slash < near = elim (cases_lt slash near) [
           | inl less ↦ less
@@ -175,5 +196,9 @@ module _ (keys : List Key) (name : List ℕ) where
         ] in
         let long : length (drop (slash + 1) name) ≡ length name - (slash + 1) = length-drop (slash + 1) name in
         let all : length base ≡ length name - (slash + 1) = ap length is ∙ long in
-        let sum : slash + 1 + (near - (slash + 1)) ≡ near = omega arith in
-        (near - (slash + 1), omega (arith, all), ap (drop (near - (slash + 1))) is ∙ (drop-drop _ _ name ∙ ap (λ i. drop i name) sum))
+        let sum : slash + 1 + (near - (slash + 1)) ≡ near = omega arith in (
+          near - (slash + 1),
+          omega (arith, all),
+          ap (drop (near - (slash + 1))) is ∙ (drop-drop _ _ name ∙ ap (λ i. drop i name) sum),
+          λ i lt. (slash + 1 + i, omega arith, ap (λ b. get_or b i 0) is ∙ get_or-drop (slash + 1) name i 0),
+        )

@@ -1,7 +1,7 @@
 -- Bytes at the end of a base that is longer than a key, and that settle its extension.
-use Rattle.std.proofs.Common.{◌≡◌, ◌+◌, ◌-◌, ◌<◌, ◌≤◌, ◌∙◌, ◌&&◌, ℕ, Bool, true, IfSome, List, Option, MatchOption, None, Some, ap, ap₂, arith, codes, drop, get_or, if◌then◌else◌, inl, inr, is_some, length, not, option_map, refl, subst, sym, take, unwrap_or}
+use Rattle.std.proofs.Common.{◌≡◌, ◌+◌, ◌-◌, ◌<◌, ◌≤◌, ◌∙◌, ◌&&◌, ℕ, Bool, true, IfSome, List, Option, MatchOption, None, Some, ap, ap₂, arith, codes, drop, get_or, if◌then◌else◌, inl, inr, length, not, option_map, refl, subst, sym, take, unwrap_or}
 use Rattle.std.proofs.lemmas.Bool.{cases_lt, lt-ltb}
-use Rattle.std.proofs.lemmas.List.{drop-drop, drop-take, get_or-drop, length-drop, length-map, length-take-le, take_all}
+use Rattle.std.proofs.lemmas.List.{drop-drop, drop-take, get_or-drop, get_or-take, length-drop, length-map, length-take-le, take_all}
 use Rattle.std.specs.Char.{to_ascii_lowercase}
 use Rattle.std.specs.Option.{option_or}
 use Rattle.std.specs.Prelude.{nat_lt}
@@ -9,11 +9,12 @@ use Rattle.std.specs.Str.{bytes_eq}
 use Rattle.memchr.proofs.lemmas.ValueLemmas.{IsLastByte-value}
 use Rattle.memchr.specs.Find.{IsFirstByte, IsLastByte, is_byte, is_byte3}
 use Rattle.infer_named.proofs.DotLemmas.{near_key, none_long}
-use Rattle.infer_named.proofs.EdgeLemmas.{base_of, end_of_base, key_of_none, last_near, no_zero, none_behind}
+use Rattle.infer_named.proofs.EdgeLemmas.{base_of, end_of_base, last_near}
+use Rattle.infer_named.proofs.MakerLemmas.{no_maker_key}
 use Rattle.infer_named.proofs.TableLemmas.{all_right}
 use Rattle.infer_named.specs.Dots.{HasEdge, IsNear, IsSettled}
 use Rattle.infer_named.specs.Key.{Key}
-use Rattle.infer_named.specs.Names.{IsDottedKey, IsExtensionKey, IsKey, IsLastDot, IsStemKey, IsVersioned, behind, copy_length, ends_in, entry, extension_at, is_version, is_version_byte, small, stem_of, up_to}
+use Rattle.infer_named.specs.Names.{IsDottedKey, IsExtensionKey, IsKey, IsLastDot, IsMakerKey, IsStemKey, IsVersioned, behind, copy_length, ends_in, entry, extension_at, is_version, is_version_byte, small, stem_of, up_to}
 use Rattle.infer_named.specs.Table.{keys}
 use Rattle.infer_named.specs.declared.table.Part.TheVariants.{Extension, Whole}
 
@@ -136,12 +137,29 @@ module _ (base : List ℕ) (k : ℕ) (le : k ≤ length base) (long : 28 < lengt
       subst (λ stem. IsStemKey keys stem (Some key)) (sym (stem_is no_copy))
       (subst (λ e. MatchOption e (IsDottedKey keys base (Some key)) (λ k. Some key ≡ Some k)) (sym no_whole_key) (Some key, extension_of_end edge (Some key) is, refl))
 
--- the key of a name without a byte 00 whose end settles an extension
+  -- and no maker stands before a first dot that is none of the first of them
+  no_maker_before : ((i : ℕ) → i < k → ¬ (is_byte 0x2E (get_or base i 0) ≡ true)) → IsFirstByte (is_byte 0x2E) (take 14 end) None → IsMakerKey keys base None
+  no_maker_before front none =
+      let size : length (take 14 end) ≡ 14 = length-take-le 14 end (omega (arith, many)) in
+      let all : length (take (k + 14) base) ≡ k + 14 = length-take-le (k + 14) base (omega arith) in
+      no_maker_key base keys (k + 14) (omega arith) (inr (omega arith)) (λ i low lt is. elim (cases_lt i k) [
+        | inl early ↦ front i early (subst (λ y. is_byte 0x2E y ≡ true) (get_or-take (k + 14) base i 0 (omega arith)) is)
+        | inr behind ↦ none (i - k) (omega arith) (omega (arith, size, all)) (subst (λ y. is_byte 0x2E y ≡ true)
+            (get_or-take (k + 14) base i 0 (omega (arith, all)) ∙ (sym (late i behind) ∙ sym (get_or-take 14 end (i - k) 0 (omega (arith, all))))) is)
+      ])
+
+  pub stem_without_end : copy_length end ≡ 0 → HasEdge end → IsExtensionKey keys end None
+      → ((i : ℕ) → i < k → ¬ (is_byte 0x2E (get_or base i 0) ≡ true)) → IsFirstByte (is_byte 0x2E) (take 14 end) None → IsStemKey keys (stem_of base) None
+  stem_without_end no_copy edge is front none =
+      subst (λ stem. IsStemKey keys stem None) (sym (stem_is no_copy))
+      (subst (λ e. MatchOption e (IsDottedKey keys base None) (λ k. None ≡ Some k)) (sym no_whole_key) (None, extension_of_end edge None is, no_maker_before front none))
+
+-- the key of a name without a byte 00 whose end settles its extension
 module _ (name : List ℕ) (near : ℕ) (le : near ≤ length name) (none : IsLastByte (is_byte3 0 0x2F 0x5C) (drop near name) None) where
-  known : (key : Key) → IsSettled (drop near name) → IsExtensionKey keys (drop near name) (Some key) → IsFirstByte (is_byte 0) name None → IsKey keys name (Some key)
-  known key (long, no_copy, edge) is zero =
+  pub key_of_end : (key : Key) → IsSettled (drop near name) → IsExtensionKey keys (drop near name) (Some key) → IsFirstByte (is_byte 0) name None → IsKey keys name (Some key)
+  key_of_end key (long, no_copy, edge) is zero =
       let (base, is_base) = base_of name in
-      let (k, within, same) = end_of_base keys name near none base is_base le in
+      let (k, within, same, front) = end_of_base keys name near none base is_base le in
       let left : length (drop k base) ≡ length base - k = length-drop k base in
       let equal : length (drop k base) ≡ length (drop near name) = ap length same in
       let enough : 28 < length base - k = omega (arith, long, left, equal) in
@@ -149,8 +167,20 @@ module _ (name : List ℕ) (near : ℕ) (le : near ≤ length name) (none : IsLa
       let copy = subst (λ end. copy_length end ≡ 0) (sym same) no_copy in
       (None, zero, (base, is_base, stem_of_end base k within enough copy (subst (λ end. HasEdge end) (sym same) edge) key its))
 
-  -- and of any with such an end, by the first 00 before that
-  pub key_of_end : (key : Key) → IsSettled (drop near name) → IsExtensionKey keys (drop near name) (Some key)
-      → (zero_byte : Option ℕ) → IsFirstByte (is_byte 0) (take near name) zero_byte → IsKey keys name (if is_some zero_byte then None else Some key)
-  key_of_end key settled is (Some zero_byte) first = key_of_none keys name near le zero_byte first
-  key_of_end key settled is None first = known key settled is (no_zero keys name near le first (none_behind keys name near none))
+  -- and that it has none
+  pub no_key_of_end : IsSettled (drop near name) → IsExtensionKey keys (drop near name) None → IsFirstByte (is_byte 0x2E) (take near name) None
+      → IsFirstByte (is_byte 0x2E) (take 14 (drop near name)) None → IsFirstByte (is_byte 0) name None → IsKey keys name None
+  no_key_of_end (long, no_copy, edge) is no_dot no_early_dot zero =
+      let (base, is_base) = base_of name in
+      let (k, within, same, front) = end_of_base keys name near none base is_base le in
+      let left : length (drop k base) ≡ length base - k = length-drop k base in
+      let equal : length (drop k base) ≡ length (drop near name) = ap length same in
+      let enough : 28 < length base - k = omega (arith, long, left, equal) in
+      let its = subst (λ end. IsExtensionKey keys end None) (sym same) is in
+      let copy = subst (λ end. copy_length end ≡ 0) (sym same) no_copy in
+      let size : length (take near name) ≡ near = length-take-le near name le in
+      let early : (i : ℕ) → i < k → ¬ (is_byte 0x2E (get_or base i 0) ≡ true) = λ i lt dot.
+      let (p, before, at) = front i lt in
+      no_dot p (omega arith) (omega (arith, size)) (subst (λ y. is_byte 0x2E y ≡ true) (at ∙ sym (get_or-take near name p 0 before)) dot) in
+      let late = subst (λ end. IsFirstByte (is_byte 0x2E) (take 14 end) None) (sym same) no_early_dot in
+      (None, zero, (base, is_base, stem_without_end base k within enough copy (subst (λ end. HasEdge end) (sym same) edge) its early late))

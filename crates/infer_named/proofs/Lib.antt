@@ -10,6 +10,7 @@ pub mod TableLemmas
 pub mod EdgeLemmas
 pub mod PartLemmas
 pub mod DotLemmas
+pub mod LeastLemmas
 pub mod EndLemmas
 pub mod KindLemmas
 pub mod CopyLemmas

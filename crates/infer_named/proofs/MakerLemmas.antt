@@ -1,11 +1,12 @@
 -- What stands before a first dot far from the front is longer than each maker.
-use Rattle.std.proofs.Common.{◌≡◌, ◌<◌, ◌≤◌, ◌⊎◌, ℕ, zero, suc, Bool, true, false, List, [], ◌∷◌, Option, None, Some, arith, get_or, inl, inr, length, refl, subst, sym, take}
-use Rattle.std.proofs.lemmas.Bool.{and_parts, cases_Bool, cases_lt, ltb-true}
+use Rattle.std.proofs.Common.{◌≡◌, ◌<◌, ◌≤◌, ◌⊎◌, ℕ, Bool, true, false, List, [], ◌∷◌, Option, None, Some, arith, get_or, inl, inr, length, refl, subst, sym, take}
+use Rattle.std.proofs.lemmas.Bool.{and_parts, cases_lt, ltb-true}
 use Rattle.std.proofs.lemmas.List.{get_or-take, length-take-le}
 use Rattle.std.specs.List.{list_all, list_any}
 use Rattle.std.specs.Prelude.{nat_lt}
 use Rattle.std.specs.Str.{bytes_eq}
-use Rattle.memchr.specs.Find.{IsFirst, IsFirstByte, Passes, is_byte}
+use Rattle.memchr.specs.Find.{IsFirstByte, is_byte}
+use Rattle.infer_named.proofs.EdgeLemmas.{first_before}
 use Rattle.infer_named.proofs.SmallLemmas.{not_as_long}
 use Rattle.infer_named.specs.Key.{Key}
 use Rattle.infer_named.specs.Names.{IsMakerKey, maker_before, makers, small}
@@ -28,28 +29,6 @@ no_maker : (text : List ℕ) → 14 ≤ length text → list_any (bytes_eq (smal
 no_maker text long = none_longer 14 text long makers refl
 
 module _ (stem : List ℕ) where
-  abbrev is_dot : ℕ → Type 0
-  is_dot k = Passes (is_byte 0x2E) stem k
-
-  -- each stem has a first dot before a place, or none
-  longer : (n : ℕ) (dot : Option ℕ) → IsFirst is_dot 0 n dot → (next : Option ℕ) × IsFirst is_dot 0 (suc n) next
-  longer n (Some dot) (there, passes) =
-      let high : dot < n = there.high in (Some dot, (record { low = there.low; high = omega arith; before = there.before }, passes))
-  longer n None none = elim (cases_Bool (is_byte 0x2E (get_or stem n 0))) [
-    | inl on ↦ (Some n, (record { low = omega arith; high = omega arith; before = none }, on))
-    | inr off ↦ (
-      None,
-      λ k low lt is. elim (cases_lt k n) [
-        | inl before ↦ none k low before is
-        | inr here ↦ (let same : k ≡ n = omega arith in let on = subst (λ i. is_byte 0x2E (get_or stem i 0) ≡ true) same is in absurd (cc))
-      ],
-    )
-  ]
-
-  first_before : (n : ℕ) → (dot : Option ℕ) × IsFirst is_dot 0 n dot
-  first_before zero = (None, λ k low lt is. absurd (omega arith))
-  first_before (suc n) = let earlier = first_before n in longer n earlier.0 earlier.1
-
   module _ (keys : List Key) (end : ℕ) (within : end ≤ length stem) where
     many : length (take end stem) ≡ end
     many = length-take-le end stem within
@@ -86,4 +65,4 @@ module _ (stem : List ℕ) where
 
     -- without one there no maker stands before the first dot
     pub no_maker_key : (bound : end ≡ length stem ⊎ 14 ≤ end) → IsFirstByte (is_byte 0x2E) (take end stem) None → IsMakerKey keys stem None
-    no_maker_key bound none = let first = first_before (length stem) in (first.0, first.1, far_dot bound none first.0 first.1)
+    no_maker_key bound none = let first = first_before (is_byte 0x2E) stem (length stem) in (first.0, first.1, far_dot bound none first.0 first.1)

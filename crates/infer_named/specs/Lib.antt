@@ -8,6 +8,7 @@ pub mod Names
 pub mod Keys
 pub mod Table
 pub mod Dots
+pub mod Least
 pub mod Slots
 pub mod Marks
 pub mod Bytes

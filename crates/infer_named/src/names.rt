@@ -1,11 +1,12 @@
 //! The key of a name.
-ghost use Rattle.std.specs.Prelude.{◌≡◌, ◌+◌, ◌-◌, ◌<◌, ◌≤◌, ◌==◌, ℕ, IfSome, Option, IsTrue, None, Some, drop, false, if◌then◌else◌, is_some, length, map, not, option_map, true};
+ghost use Rattle.std.specs.Prelude.{◌≡◌, ◌+◌, ◌-◌, ◌<◌, ◌≤◌, ◌==◌, ℕ, IfSome, Option, IsTrue, None, Some, drop, false, if◌then◌else◌, length, map, not, option_map, take, true};
 ghost use Rattle.std.specs.Bool.{OnTrue};
 ghost use Rattle.std.specs.Char.{to_ascii_lowercase};
 ghost use Rattle.std.specs.List.{find, list_any};
 ghost use Rattle.std.specs.Str.{bytes_eq};
 ghost use Rattle.memchr.specs.Find.{IsFirstByte, IsLastByte, Nowhere, Passes, is_byte, is_byte3};
 ghost use Rattle.infer_named.specs.Dots.{HasEdge, IsNear, IsSettled};
+ghost use Rattle.infer_named.specs.Least.{IsLeast};
 ghost use Rattle.infer_named.specs.Listed.{key_listed};
 ghost use Rattle.infer_named.specs.Marks.{mark_of};
 ghost use Rattle.infer_named.specs.Parts.{ArePartsAmong, are_parts_from};
@@ -13,12 +14,13 @@ ghost use Rattle.infer_named.specs.Names.{IsBase, IsDottedKey, IsExtensionKey, I
 ghost use Rattle.infer_named.specs.Table.{keys};
 ghost use Rattle.infer_named.specs.declared.table.Part.TheVariants.{Whole};
 
+use crate::least::least;
 use crate::marks::{is_marked, mark};
 use crate::table::{Key, Part, key_text, slot, whole_marks};
 use memchr::{memchr, memrchr, memrchr2, memrchr3};
 
-/// How many bytes at the end of a name are searched first: one less than a vector has, and more than a key.
-const NEAR: usize = 31;
+/// How many bytes at the end of a name are searched first: as many as a vector has, and more than a key and a dot have.
+const NEAR: usize = 32;
 
 /// A dot so far from the end has more behind it than a key has.
 const FAR: usize = 28;
@@ -52,30 +54,31 @@ fn key_without_edge(name: &[u8], near: usize) -> Option<&'static Key>
     long_key(name, near)
 }
 
-/// The same of a long name. If those bytes settle its extension, where its base begins does not matter. It is not inlined,
-/// so that short names, which most are, pay nothing for it.
+/// The same of a long name, all of whose bytes are read once. It is not inlined, so that short names, which most are, pay
+/// nothing for it.
 #[inline(never)]
 fn long_key(name: &[u8], near: usize) -> Option<&'static Key>
     requires place { near ≤ length name.now }
     requires none { IsLastByte (is_byte3 0 0x2F 0x5C) (drop near name.now) None }
     ensures { IsKey keys name.now (option_map (λ k. key_listed k.now) result) }
 {
-    match settled_key(&name[near..]) {
-        Some(found) => without_zero(&name[..near], found),
-        None => far_key(name, near),
+    let least = least(&name[..near]);
+    if least == 0 {
+        return None;
+    }
+    if is_settled(&name[near..]) {
+        settled_key(name, near, least)
+    } else {
+        far_key(name)
     }
 }
 
-/// The extension of each base that ends in these bytes, if they settle that: there are more of them than a key has, they are
+/// Whether these bytes settle the extension of each base that ends in them: there are more of them than a key has, they are
 /// no copy's, and before the version that they may end in stands as much as ".so".
-fn settled_key(end: &[u8]) -> Option<&'static Key>
-    ensures { IfSome (option_map (λ k. key_listed k.now) result) (λ key. IsSettled end.now × IsExtensionKey keys end.now (Some key)) }
+fn is_settled(end: &[u8]) -> bool
+    ensures { IsTrue result → IsSettled end.now }
 {
-    if FAR < end.len() && copy_length(end) == 0 && has_edge(end) {
-        extension_key(end)
-    } else {
-        None
-    }
+    FAR < end.len() && copy_length(end) == 0 && has_edge(end)
 }
 
 fn has_edge(end: &[u8]) -> bool
@@ -87,27 +90,43 @@ fn has_edge(end: &[u8]) -> bool
     }
 }
 
-/// The key, if the bytes before have no 00.
-fn without_zero(before: &[u8], found: &'static Key) -> Option<&'static Key>
-    ensures { (zero_byte : Option ℕ) × IsFirstByte (is_byte 0) before.now zero_byte
-        × (option_map (λ k. key_listed k.now) result ≡ (if is_some zero_byte then None else Some (key_listed found.now))) }
+/// The key of a long name whose end settles its extension, so that it does not matter where its base begins. If that is none
+/// of the table, the name has a key only by a maker, and none stands before a dot so late.
+fn settled_key(name: &[u8], near: usize, least: u8) -> Option<&'static Key>
+    requires place { near ≤ length name.now }
+    requires none { IsLastByte (is_byte3 0 0x2F 0x5C) (drop near name.now) None }
+    requires settled { IsSettled (drop near name.now) }
+    requires least { IsLeast (take near name.now) least }
+    requires no_zero { 0 < least }
+    ensures { IsKey keys name.now (option_map (λ k. key_listed k.now) result) }
 {
-    match memchr(0, before) {
-        Some(_) => None,
-        None => Some(found),
+    let end = &name[near..];
+    match extension_key(end) {
+        Some(found) => Some(found),
+        None => {
+            if b'.' < least && has_late_dots(end) {
+                None
+            } else {
+                far_key(name)
+            }
+        },
     }
 }
 
-/// The key of a name none of whose bytes from this place on is 00, "/" or "\".
-fn far_key(name: &[u8], near: usize) -> Option<&'static Key>
-    requires place { near ≤ length name.now }
-    requires none { IsLastByte (is_byte3 0 0x2F 0x5C) (drop near name.now) None }
+/// Whether its first bytes have no dot, so that what stands before one is longer than a maker.
+fn has_late_dots(end: &[u8]) -> bool
+    requires { 28 < length end.now }
+    ensures { OnTrue result (IsFirstByte (is_byte 0x2E) (take 14 end.now) None) }
+{
+    memchr(b'.', &end[..MAKER_FRONT]).is_none()
+}
+
+/// The key of a name without a byte 00.
+fn far_key(name: &[u8]) -> Option<&'static Key>
+    requires { IsFirstByte (is_byte 0) name.now None }
     ensures { IsKey keys name.now (option_map (λ k. key_listed k.now) result) }
 {
-    match memrchr3(0, b'/', b'\\', &name[..near]) {
-        Some(place) => key_behind(name, place),
-        None => key_of_stem(stem(name)),
-    }
+    key_of_stem(stem(base(name)))
 }
 
 /// The key of a name of which the last byte 00, "/" or "\" stands here.
@@ -115,7 +134,7 @@ fn key_behind(name: &[u8], place: usize) -> Option<&'static Key>
     requires { IsLastByte (is_byte3 0 0x2F 0x5C) name.now (Some place) }
     ensures { IsKey keys name.now (option_map (λ k. key_listed k.now) result) }
 {
-    if memchr(0, &name[..place + 1]).is_some() {
+    if least(&name[..place + 1]) == 0 {
         return None;
     }
     key_of_stem(stem(&name[place + 1..]))
@@ -277,7 +296,7 @@ fn near_dot(stem: &[u8], before: usize) -> Option<usize>
     ensures near { (dot : Option ℕ) → IsLastDot stem.now before dot → IsNear stem.now dot result }
     ensures inside { IfSome result (λ dot. dot < length stem.now) }
 {
-    let start = stem.len().saturating_sub(FAR).min(before);
+    let start = stem.len().saturating_sub(NEAR).min(before);
     match memrchr(b'.', &stem[start..before]) {
         Some(place) => not_first(start + place),
         None => None,

@@ -1,20 +1,17 @@
-use Rattle.std.proofs.Common.{Some, subst, sym}
-use Rattle.std.proofs.lemmas.List.{take_rest}
-use Rattle.infer_named.specs.Dots.{IsSettled}
-use Rattle.infer_named.specs.Listed.{key_listed}
-use Rattle.infer_named.specs.Names.{IsExtensionKey, IsKey}
+use Rattle.std.proofs.Common.{arith, rules, take}
+use Rattle.infer_named.proofs.EdgeLemmas.{key_of_none, no_zero, none_behind}
+use Rattle.infer_named.proofs.LeastLemmas.{none_of, zero_of}
 use Rattle.infer_named.specs.Table.{keys}
-use Rattle.infer_named.proofs.EndLemmas.{key_of_end}
 use Rattle.infer_named.proofs.names.long_key.Goals as goal
 
-pub returns-in-Some : goal.returns-in-Some
-returns-in-Some c =
+pub returns-then-least-eq0 : goal.returns-then-least-eq0
+returns-then-least-eq0 c =
+    let (place, first) = zero_of (take c.args.near c.args.name.now) c.least-least.result c.least-least.ensures (search rules) in
+    key_of_none keys c.args.name.now c.args.near c.requires.place place first
+
+pub far_key-requires : goal.far_key-requires
+far_key-requires c =
     let name = c.args.name.now in
     let near = c.args.near in
-    let key = key_listed c.in-Some.found.now in
-    let (zero_byte, first, is) = c.without_zero.ensures in
-    let (settled, extension) = c.in-Some.ensures in
-    let rest = take_rest name near in
-    subst (λ found. IsKey keys name found) (sym is)
-    (key_of_end name near c.requires.place c.requires.none key (subst (λ s. IsSettled s) rest settled)
-    (subst (λ s. IsExtensionKey keys s (Some key)) rest extension) zero_byte first)
+    no_zero keys name near c.requires.place
+    (none_of (take near name) c.least-least.result c.least-least.ensures 0 (omega arith) (omega (arith, c.if-least-eq0.false))) (none_behind keys name near c.requires.none)
