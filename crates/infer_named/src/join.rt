@@ -136,7 +136,9 @@ pub fn named_of(name: &[u8], buf: &[u8]) -> Named
     answer(name, buf, infer_more::get(buf))
 }
 
-/// What the name and the bytes tell, whose wider answer has this type.
+/// What the name and the bytes tell, whose wider answer has this type. It is not inlined, so that its instructions are counted
+/// by its name.
+#[inline(never)]
 pub fn answer(name: &[u8], buf: &[u8], found: Option<Type>) -> Named
     requires { IsWiderAnswer buf.now (option_map triple_of found) }
     ensures { IsNamed name.now buf.now result }

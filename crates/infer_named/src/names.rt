@@ -19,8 +19,11 @@ use crate::marks::{is_marked, mark};
 use crate::table::{Key, Part, key_text, slot, whole_marks};
 use memchr::{memchr, memrchr, memrchr2, memrchr3};
 
-/// How many bytes at the end of a name are searched first: as many as a vector has, and more than a key and a dot have.
-const NEAR: usize = 32;
+/// How many bytes at the end of a name are searched first: so many that those before each dot of a key fill a vector.
+const NEAR: usize = 64;
+
+/// How many bytes before a place are searched for a dot: as many as a vector has, and more than a key.
+const WINDOW: usize = 32;
 
 /// A dot so far from the end has more behind it than a key has.
 const FAR: usize = 28;
@@ -296,7 +299,7 @@ fn near_dot(stem: &[u8], before: usize) -> Option<usize>
     ensures near { (dot : Option ℕ) → IsLastDot stem.now before dot → IsNear stem.now dot result }
     ensures inside { IfSome result (λ dot. dot < length stem.now) }
 {
-    let start = stem.len().saturating_sub(NEAR).min(before);
+    let start = before.saturating_sub(WINDOW);
     match memrchr(b'.', &stem[start..before]) {
         Some(place) => not_first(start + place),
         None => None,

@@ -7,10 +7,10 @@ use Rattle.infer_named.proofs.names.near_dot.Goals as goal
 pub returns-in-Some-clause-near : goal.returns-in-Some-clause-near
 returns-in-Some-clause-near c dot is =
     let stem = c.args.stem.now in
-    let start = c.min-start.result in
+    let start = c.saturating_sub-start.result in
     let place = c.in-Some.place in
-    let first : start ≤ c.args.before = omega (arith, c.min-start.ensures) in
-    let near : start ≤ length stem - 28 = omega (arith, c.min-start.ensures, c.saturating_sub.ensures) in
+    let first : start ≤ c.args.before = omega (arith, c.saturating_sub-start.ensures) in
+    let near : start ≤ length stem - 28 = omega (arith, c.saturating_sub-start.ensures, c.requires) in
     elim (cases_Bool (start + place == 0)) [
       | inl on ↦ (
           let none : c.not_first.result ≡ None = c.not_first.ensures ∙ rw on refl in
@@ -23,7 +23,7 @@ returns-in-Some-clause-near c dot is =
 pub returns-in-None-clause-near : goal.returns-in-None-clause-near
 returns-in-None-clause-near c dot is =
     let stem = c.args.stem.now in
-    let start = c.min-start.result in
-    let first : start ≤ c.args.before = omega (arith, c.min-start.ensures) in
-    let near : start ≤ length stem - 28 = omega (arith, c.min-start.ensures, c.saturating_sub.ensures) in
+    let start = c.saturating_sub-start.result in
+    let first : start ≤ c.args.before = omega (arith, c.saturating_sub-start.ensures) in
+    let near : start ≤ length stem - 28 = omega (arith, c.saturating_sub-start.ensures, c.requires) in
     near_none stem start c.args.before first c.requires near c.in-None.ensures dot is
