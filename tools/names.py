@@ -19,23 +19,32 @@ KINDS = {"Signature": set(), "Text": {"empty", "marked"}, "Bytes": {"marked", "b
 ORIGINS = ("Row", "Known", "Own")
 LINE = re.compile(r"(?P<loose>loose )?(?P<part>extension|whole) (?P<text>\S+): (?P<readings>.*)")
 READING = re.compile(r"(?P<mime_type>\S+) \((?:row (?P<row>\S+)|(?P<known>known)|own)\), (?P<asks>signature|text|bytes|nothing)(?P<sets>(?:; .*)?)")
+# A row whose files have no name of their own, and why.
+NAMELESS = re.compile(r"nameless (?P<row>\S+): .+")
 LEAD = re.compile(r'"(?:[^"\\]|\\.)+"')
 ROW = re.compile(r'Row\("(.*)"\)')
 WIDTH = 99
 # The rows of texts, which are named together.
 TEXTS = (
-    "afm age application/x-pem-key asc asxref atom awk bookmarks ccmx clj cmap cms csh csr dart dep5 diashape dtsi "
-    "eps escript execline exs fb2 fish fl fodt gjs gnuplot gpx groovy gtkbuilder gx hs html ics imy info it87 jad "
-    "jarmf jl jnlp js json kml lingts lisp lua lyx m m3u8 meta4 mk ml mml ndjson nft nsc nzb openssh opml owx p7c "
-    "param pem pfa pgp php pkginfo pl plist ps ps1 pubkey puml py pysu qml qti r raku raml rb rkt rq rss rtf sami "
-    "scala scc scm sed sgf sh sig srt srx ssa sshsig stp subviewer svg t2t tcl texi texlua tres tscn ttx vcf vnt vtt "
-    "xhtml xml xmp xpm yaml"
+    "3dmodel abook abw afm age amf application/x-pem-key asc asx asxref atom aup awk bdf bookmarks busconfig "
+    "catmeta ccmx clj cloudcfg cmap cml cms csh csr dae dart dbk dbusintro dep5 dia diashape dif dtsi eps escript "
+    "execline exs fb2 fish fl flatpakref flatpakrepo fodg fodp fods fodt fontconfig gcurve gff3 ggr gitpatch gjs "
+    "glade gml gnucash gnumeric gnuplot gpl gpx gresource groovy gschema gtkbuilder gx hqx hs html http ics imy "
+    "info iptables it87 jad jarmf jl jnlp js json kml ldml lingts lisp ll lua lyx m m3u8 m4u meta4 metainfo "
+    "metalink microdvd mif mimeinfo minisig mk ml mml modulefile mol2 mpd mpl2 msbuild mscx mup musicxml ncx "
+    "ndjson nex nft nsc nzb openssh opf opml osm owx p7c param pdbmol pem pfa pgp php pkginfo pkgmeta pl plist "
+    "pom ppd ppk ps ps1 pubkey puml py pysu qml qti r raku raml rb rdf rkt rng rq rss rtf sam sami sbml scala scc "
+    "sch scm sdp sed sfd sgf sh sig sitemap sla smil srt srx ssa ssh2pub sshpub sshsig stp subviewer svg t2t tcl "
+    "tei texi texlua tgif tres tscn ttml ttx ui usda uu vault vcf vcfg vnt vtt wordml wreg wsdl x3d xbel xhtml "
+    "xib xkbrules xliff xmcd xmi xml xmp xpm xpm2 xsd xslt xspf yaml"
 ).split()
 # How many types, and how many sets of rows, are one list of the definition.
 TYPES, SETS = 256, 128
+# How many rows are looked for at once.
+ROWS = 128
 # How many slots the rows have, and groups that are shifted together; and the weights of a text's length and of four of its bytes.
-ROW_SLOTS, ROW_GROUPS = 1024, 64
-ROW_WEIGHTS = (1, 1999, 245, 85, 33)
+ROW_SLOTS, ROW_GROUPS = 2048, 64
+ROW_WEIGHTS = (1, 2223, 1911, 811, 1456)
 # How many marks there are for each length of a text, of which this one stands for all that are greater.
 MARKS, LONG = 64, 63
 KEYS_CODE = """//! Made by `tools/tables` from names.txt: the keys in the order of their slots, where the slots begin, and the readings.
@@ -247,6 +256,40 @@ PART_PROOF = """{word}_{number}-listed : map {of}_listed (take {count} (drop {st
 unfolding {word}_{number} {names}
 {word}_{number}-listed = refl
 """
+NAMELESS_TERM = """-- Made by `tools/tables` from names.txt: the rows whose files have no name of their own.
+use Rattle.std.specs.Prelude.{{ℕ, List, [], ◌∷◌, codes}}
+
+unfoldable pub nameless : List (List ℕ)
+nameless =
+{rows}
+    ∷ []
+"""
+NAMED_PROOF = """-- Made by `tools/tables` from names.txt and the rows: a key that takes each row, by its number. A row that the key does not take
+-- stands in the error.
+use Rattle.std.proofs.Common.{{◌≡◌, ℕ, [], List, ◌∷◌, drop, refl, take}}
+use Rattle.infer.specs.Table.{{table}}
+use Rattle.infer_more.specs.Table.{{{lists}, further}}
+use Rattle.infer_more.specs.Wider.{{shown}}
+use Rattle.infer_named.proofs.NamedLemmas.{{named_last, named_part, unnamed}}
+use Rattle.infer_named.specs.Laws.{{EachRowIsNamed}}
+use Rattle.infer_named.specs.Nameless.{{nameless}}
+use Rattle.infer_named.specs.Sets.{{lead_lists, sets, {sets}}}
+use Rattle.infer_named.specs.Table.{{keys}}
+use Rattle.infer_named.specs.Types.{{types, {types}}}
+{uses}
+
+{parts}
+pub each_named : EachRowIsNamed
+unfolding shown table further {names}
+each_named ={each_named}
+"""
+NAMED_PART_PROOF = """takers_{number} : List ℕ
+takers_{number} = {takers}
+
+named_{number} : unnamed (take {count} (drop {start} shown)) takers_{number} ≡ []
+unfolding shown table further {lists} nameless keys {keys} lead_lists sets {set_lists} types {type_lists} takers_{number}
+named_{number} = refl
+"""
 KEYS_HEAD = "-- Made by `tools/tables` from names.txt: the keys of all slots, {} a file.\n"
 KEYS_TERM = """-- Made by `tools/tables` from names.txt: the keys of slots {} to {}.
 use Rattle.std.specs.Prelude.{{List, [], ◌∷◌, codes, false, true}}
@@ -335,7 +378,7 @@ def listed():
     """The names in order. It ends with the first line that is wrong."""
     names = []
     for number, line in enumerate(text_of(NAMES).splitlines(), 1):
-        if line.startswith("#"):
+        if line.startswith("#") or NAMELESS.fullmatch(line):
             continue
         try:
             names.append(name(line))
@@ -344,6 +387,34 @@ def listed():
         except Wrong as it:
             raise SystemExit(f"tools/tables: {NAMES}, line {number}: {line.partition(':')[0]}: {it}") from it
     return names
+
+
+@kept
+def nameless():
+    """The rows whose files have no name of their own."""
+    return [found["row"] for line in text_of(NAMES).splitlines() if (found := NAMELESS.fullmatch(line))]
+
+
+@kept
+def all_rows():
+    """The texts of each row: its extension and its MIME type, the built-in ones first."""
+    lists = ("vectors/rows.tsv", "vectors/further/rows.tsv")
+    return [(line[2], line[1]) for path in lists for line in (it.split("\t") for it in text_of(path).splitlines())]
+
+
+@kept
+def takers():
+    """For each row the number of a key that has it in a set, and 0 of one without a name."""
+    found, known = {}, {row for rows in all_rows() for row in rows}
+    for number, it in enumerate(in_slots()):
+        for row in (row for reading in it.readings for row in (*reading.agrees, *reading.begins, *reading.finer)):
+            found.setdefault(row, number)
+    for rows in all_rows():
+        if found.keys().isdisjoint(rows) == set(nameless()).isdisjoint(rows):
+            raise SystemExit(f"tools/tables: {NAMES}: the row {rows[0]} wants a name, or to be nameless, and not both")
+    if stray := set(nameless()).difference(known):
+        raise SystemExit(f"tools/tables: {NAMES}: no row is {' or '.join(sorted(stray))}, which is said to be nameless")
+    return [next((found[row] for row in rows if row in found), 0) for rows in all_rows()]
 
 
 def other_extensions(known):
@@ -709,6 +780,37 @@ def all_proof():
     )
 
 
+def nameless_term():
+    return NAMELESS_TERM.format(rows=listed_terms(f'codes "{it}"' for it in nameless()))
+
+
+def further_lists():
+    """The lists of the further rows, by their names in the definition."""
+    found = re.search(r"^further =\n(.*?)\n$", text_of("crates/infer_more/specs/Table.antt") + "\n", re.M | re.S)
+    return re.findall(r"\w+", found[1])
+
+
+def named_proof():
+    """That each row has a name, so many rows at once."""
+    lists, type_lists, set_lists = further_lists(), names_of("types", len(of_types())), names_of("sets", len(of_sets()))
+    numbered = parts(list(enumerate(takers())), ROWS)
+    each = "\n".join(
+        NAMED_PART_PROOF.format(
+            number=number, takers=" ∷ ".join([*(str(it) for _, it in part), "[]"]), count=len(part), start=number * ROWS, lists=" ".join(lists),
+            keys=" ".join(f"k{it}.keys" for it in range(SLOTS // GROUP)), set_lists=" ".join(set_lists), type_lists=" ".join(type_lists),
+        )
+        for number, part in enumerate(numbered)
+    )
+    last = len(numbered) - 1
+    term = f"named_last shown {last * ROWS} {len(numbered[-1])} takers_{last} refl named_{last}"
+    for number in reversed(range(last)):
+        term = f"named_part shown {number * ROWS} {ROWS} takers_{number} named_{number}\n    ({term})"
+    return NAMED_PROOF.format(
+        lists=", ".join(lists), names=" ".join(lists), sets=", ".join(set_lists), types=", ".join(type_lists), parts=each, each_named=f"\n    {term}",
+        uses="\n".join(f"use Rattle.infer_named.specs.Keys.K{it} as k{it}" for it in range(SLOTS // GROUP)),
+    )
+
+
 VECTORS, SHORT = "vectors/named.tsv", 80
 TEST_HEAD = """//! Made by `tools/tables` from vectors/named.tsv: names and first bytes whose standings and types a program computed that
 //! shares no code with this one.
@@ -778,6 +880,8 @@ def made():
     yield f"{CRATE}/specs/Types.antt", types_term()
     yield f"{CRATE}/specs/Sets.antt", sets_term()
     yield f"{CRATE}/specs/Texts.antt", texts_term()
+    yield f"{CRATE}/specs/Nameless.antt", nameless_term()
+    yield f"{CRATE}/proofs/NamedRows.antt", named_proof()
     lists = range(SLOTS // GROUP)
     for number in lists:
         yield f"{CRATE}/specs/Keys/K{number}.antt", group_term(number)

@@ -20,4 +20,6 @@ pub mod SetLemmas
 pub mod OddLemmas
 pub mod LeftLemmas
 pub mod ReachLemmas
+pub mod NamedLemmas
+pub mod NamedRows
 pub mod LawLemmas

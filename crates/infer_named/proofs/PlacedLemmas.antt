@@ -4,10 +4,10 @@ use Rattle.infer_named.proofs.FindLemmas.{right_append, wrong_from}
 use Rattle.infer_named.proofs.ListLemmas.{listed_append, listed_last}
 use Rattle.infer_named.proofs.MarkLemmas.{AreMarked, marked_append}
 use Rattle.infer_named.specs.Listed.{key_listed, mime_types, ranges, row_spans, row_texts, set_listed, type_listed}
-use Rattle.infer_named.specs.Sets.{sets, sets_0, sets_1, sets_2, sets_3, sets_4}
+use Rattle.infer_named.specs.Sets.{sets, sets_0, sets_1, sets_2, sets_3, sets_4, sets_5, sets_6}
 use Rattle.infer_named.specs.Slots.{starts}
 use Rattle.infer_named.specs.Table.{keys}
-use Rattle.infer_named.specs.Types.{types, types_0, types_1, types_2, types_3, types_4}
+use Rattle.infer_named.specs.Types.{types, types_0, types_1, types_2, types_3, types_4, types_5}
 use Rattle.infer_named.specs.declared.table.generated.keys.TheConstants.{KEYS}
 use Rattle.infer_named.specs.declared.table.generated.sets.TheConstants.{SETS}
 use Rattle.infer_named.specs.declared.table.generated.types.TheConstants.{TYPES}
@@ -23,25 +23,25 @@ use Rattle.infer_named.proofs.Placed.K7 as k7
 pub keys_listed : map key_listed KEYS ≡ keys
 unfolding keys
 keys_listed =
-    listed_append key_listed KEYS 0 276 k0.listed
-    (listed_append key_listed KEYS 276 276 k1.listed
-    (listed_append key_listed KEYS 552 238 k2.listed
-    (listed_append key_listed KEYS 790 274 k3.listed
-    (listed_append key_listed KEYS 1064 261 k4.listed
-    (listed_append key_listed KEYS 1325 242 k5.listed
-    (listed_append key_listed KEYS 1567 252 k6.listed
-    (listed_last key_listed KEYS 1819 237 refl k7.listed)))))))
+    listed_append key_listed KEYS 0 294 k0.listed
+    (listed_append key_listed KEYS 294 306 k1.listed
+    (listed_append key_listed KEYS 600 264 k2.listed
+    (listed_append key_listed KEYS 864 304 k3.listed
+    (listed_append key_listed KEYS 1168 290 k4.listed
+    (listed_append key_listed KEYS 1458 271 k5.listed
+    (listed_append key_listed KEYS 1729 277 k6.listed
+    (listed_last key_listed KEYS 2006 264 refl k7.listed)))))))
 
-pub right : wrong_from starts 2056 0 keys ≡ []
+pub right : wrong_from starts 2270 0 keys ≡ []
 unfolding keys
 right =
-    right_append starts 2056 0 276 _ _ refl k0.many k0.right
-    (right_append starts 2056 276 276 _ _ refl k1.many k1.right
-    (right_append starts 2056 552 238 _ _ refl k2.many k2.right
-    (right_append starts 2056 790 274 _ _ refl k3.many k3.right
-    (right_append starts 2056 1064 261 _ _ refl k4.many k4.right
-    (right_append starts 2056 1325 242 _ _ refl k5.many k5.right
-    (right_append starts 2056 1567 252 _ _ refl k6.many k6.right
+    right_append starts 2270 0 294 _ _ refl k0.many k0.right
+    (right_append starts 2270 294 306 _ _ refl k1.many k1.right
+    (right_append starts 2270 600 264 _ _ refl k2.many k2.right
+    (right_append starts 2270 864 304 _ _ refl k3.many k3.right
+    (right_append starts 2270 1168 290 _ _ refl k4.many k4.right
+    (right_append starts 2270 1458 271 _ _ refl k5.many k5.right
+    (right_append starts 2270 1729 277 _ _ refl k6.many k6.right
     (k7.right)))))))
 
 pub marked : AreMarked keys
@@ -72,9 +72,13 @@ types_3-listed : map type_listed (take 256 (drop 768 TYPES)) ≡ types_3
 unfolding types_3 mime_types row_texts
 types_3-listed = refl
 
-types_4-listed : map type_listed (take 87 (drop 1024 TYPES)) ≡ types_4
+types_4-listed : map type_listed (take 256 (drop 1024 TYPES)) ≡ types_4
 unfolding types_4 mime_types row_texts
 types_4-listed = refl
+
+types_5-listed : map type_listed (take 75 (drop 1280 TYPES)) ≡ types_5
+unfolding types_5 mime_types row_texts
+types_5-listed = refl
 
 pub types_listed : map type_listed TYPES ≡ types
 unfolding types
@@ -83,7 +87,8 @@ types_listed =
     (listed_append type_listed TYPES 256 256 types_1-listed
     (listed_append type_listed TYPES 512 256 types_2-listed
     (listed_append type_listed TYPES 768 256 types_3-listed
-    (listed_last type_listed TYPES 1024 87 refl types_4-listed))))
+    (listed_append type_listed TYPES 1024 256 types_4-listed
+    (listed_last type_listed TYPES 1280 75 refl types_5-listed)))))
 
 sets_0-listed : map set_listed (take 128 (drop 0 SETS)) ≡ sets_0
 unfolding sets_0 ranges row_spans row_texts
@@ -101,9 +106,17 @@ sets_3-listed : map set_listed (take 128 (drop 384 SETS)) ≡ sets_3
 unfolding sets_3 ranges row_spans row_texts
 sets_3-listed = refl
 
-sets_4-listed : map set_listed (take 12 (drop 512 SETS)) ≡ sets_4
+sets_4-listed : map set_listed (take 128 (drop 512 SETS)) ≡ sets_4
 unfolding sets_4 ranges row_spans row_texts
 sets_4-listed = refl
+
+sets_5-listed : map set_listed (take 128 (drop 640 SETS)) ≡ sets_5
+unfolding sets_5 ranges row_spans row_texts
+sets_5-listed = refl
+
+sets_6-listed : map set_listed (take 105 (drop 768 SETS)) ≡ sets_6
+unfolding sets_6 ranges row_spans row_texts
+sets_6-listed = refl
 
 pub sets_listed : map set_listed SETS ≡ sets
 unfolding sets
@@ -112,4 +125,6 @@ sets_listed =
     (listed_append set_listed SETS 128 128 sets_1-listed
     (listed_append set_listed SETS 256 128 sets_2-listed
     (listed_append set_listed SETS 384 128 sets_3-listed
-    (listed_last set_listed SETS 512 12 refl sets_4-listed))))
+    (listed_append set_listed SETS 512 128 sets_4-listed
+    (listed_append set_listed SETS 640 128 sets_5-listed
+    (listed_last set_listed SETS 768 105 refl sets_6-listed))))))

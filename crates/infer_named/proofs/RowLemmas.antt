@@ -29,7 +29,7 @@ all_rows : list_all (λ n. nat_lt n (length row_list)) row_slots ≡ true
 unfolding row_slots row_spans row_texts
 all_rows = refl
 
-many_slots : length row_slots ≡ 1024
+many_slots : length row_slots ≡ 2048
 unfolding row_slots
 many_slots = refl
 
@@ -58,7 +58,7 @@ all_at p xs i d all lt = elim (cases_Bool (p (get_or xs i d))) [
   | inr off ↦ absurd (let not_all : list_all p xs ≡ false = list_all_at p xs i d lt off in cc)
 ]
 
-pub slot_has_row : (slot : ℕ) → slot < 1024 → get_or row_slots slot 0 < length row_list
+pub slot_has_row : (slot : ℕ) → slot < 2048 → get_or row_slots slot 0 < length row_list
 slot_has_row slot lt = ltb-true _ _ (all_at (λ n. nat_lt n (length row_list)) row_slots slot 0 all_rows (omega (arith, many_slots)))
 
 -- what stands in a range, at a place
@@ -145,7 +145,7 @@ among_is t extension mime_type first second ranges rows same =
     ∙ (sym (either (λ row. bytes_eq row t.extension) (λ row. bytes_eq row t.mime_type) (flat_map range_listed ranges)) ∙ ap (is_among t) same)
 
 -- the row of a text's slot is the row with this text, or no row has it
-pub number_found : (text : List ℕ) → row_slot text < 1024 → row_at (get_or row_slots (row_slot text) 0) ≡ text
+pub number_found : (text : List ℕ) → row_slot text < 2048 → row_at (get_or row_slots (row_slot text) 0) ≡ text
     → IsRowNumber text (Some (get_or row_slots (row_slot text) 0))
 number_found text lt same = (λ e. absurd (cc), λ n e. let is : get_or row_slots (row_slot text) 0 ≡ n = cc in subst (IsRow text) is (slot_has_row (row_slot text) lt, same))
 

@@ -9,11 +9,12 @@ use Rattle.infer.specs.Triple.{Triple, triple}
 use Rattle.infer.specs.declared.table.file_type.MatcherType.TheVariants.{Custom}
 use Rattle.infer_formats.specs.Text.{IsText}
 use Rattle.infer_more.specs.Decided.{IsDecided}
-use Rattle.infer_more.specs.Wider.{IsWiderAnswer}
+use Rattle.infer_more.specs.Wider.{IsWiderAnswer, shown}
 use Rattle.infer_named.specs.Asks.{admits}
 use Rattle.infer_named.specs.Bytes.{IsKind, lead_of}
 use Rattle.infer_named.specs.Join.{answer, fits, is_among, join, of_bytes, of_name, reading_of, reading_without, takes}
 use Rattle.infer_named.specs.Key.{Key, Reading}
+use Rattle.infer_named.specs.Nameless.{nameless}
 use Rattle.infer_named.specs.Names.{IsKey, behind, copies, ends_in, is_key, is_version, is_version_byte, small, up_to}
 use Rattle.infer_named.specs.Table.{keys}
 use Rattle.infer_named.specs.Named.{IsNamed, answer_of, key_of}
@@ -233,3 +234,11 @@ EachReadingIsFound = All (λ k. All (IsFound k.readings) k.readings) keys
 -- Each key is that of some name.
 abbrev pub EachKeyIsReached : Type 0
 EachKeyIsReached = All (λ k. (name : List ℕ) × IsKey keys name (Some k)) keys
+
+-- whether a key has a reading with the row in a set
+abbrev pub has_key : Triple → Bool
+has_key t = list_any (λ k. list_any (takes t) k.readings) keys
+
+-- Each row has a name, but for those whose files have none of their own.
+abbrev pub EachRowIsNamed : Type 0
+EachRowIsNamed = All (λ t. IsTrue (has_key t || is_among t nameless)) shown

@@ -19,4 +19,5 @@ pub mod Own
 pub mod Parts
 pub mod Odd
 pub mod Reading
+pub mod Nameless
 pub mod Laws

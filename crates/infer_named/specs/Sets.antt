@@ -44,1574 +44,2621 @@ leads-12 = 12
 abbrev pub no-rows : ℕ
 no-rows = 0
 
-abbrev pub rows-3ds : ℕ
-rows-3ds = 1
-
-abbrev pub rows-3g2 : ℕ
-rows-3g2 = 2
-
-abbrev pub rows-3g2-3gp-f4v-m4a-m4b-m4v-mov : ℕ
-rows-3g2-3gp-f4v-m4a-m4b-m4v-mov = 3
-
-abbrev pub rows-3gp : ℕ
-rows-3gp = 4
-
-abbrev pub rows-3gp-mp4 : ℕ
-rows-3gp-mp4 = 5
-
-abbrev pub rows-3mf : ℕ
-rows-3mf = 6
-
-abbrev pub rows-3mf-apk-application-vnd-apple-keynote-chrt-docx-epub-fbz-fcstd-flw-iwa-jar-karbon-kfo-kmz-kon-kpr-kra-ksp-kwd-mscz-odb-odc-odf-odg-odi-odp-ods-odt-ora-otg-otp-ots-ott-pkpass-pptx-qgz-sxc-sxd-sxi-sxm-sxw-vsdx-xap-xlsx : ℕ
-rows-3mf-apk-application-vnd-apple-keynote-chrt-docx-epub-fbz-fcstd-flw-iwa-jar-karbon-kfo-kmz-kon-kpr-kra-ksp-kwd-mscz-odb-odc-odf-odg-odi-odp-ods-odt-ora-otg-otp-ots-ott-pkpass-pptx-qgz-sxc-sxd-sxi-sxm-sxw-vsdx-xap-xlsx = 7
-
-abbrev pub rows-7z : ℕ
-rows-7z = 8
-
-abbrev pub rows-z : ℕ
-rows-z = 9
-
-abbrev pub rows-a78 : ℕ
-rows-a78 = 10
-
-abbrev pub rows-aac : ℕ
-rows-aac = 11
-
-abbrev pub rows-ac3 : ℕ
-rows-ac3 = 12
-
-abbrev pub rows-accdb : ℕ
-rows-accdb = 13
-
-abbrev pub rows-adf : ℕ
-rows-adf = 14
-
-abbrev pub rows-afm : ℕ
-rows-afm = 15
+abbrev pub rows-3dmodel : ℕ
+rows-3dmodel = 1
 
 abbrev pub text-rows : ℕ
-text-rows = 16
+text-rows = 2
+
+abbrev pub rows-3dmodel-abw-amf-atom-aup-busconfig-catmeta-cml-dae-dbk-dbusintro-dia-diashape-fb2-fodg-fodp-fods-fodt-fontconfig-glade-gml-gnucash-gnumeric-gpx-gresource-gschema-gtkbuilder-jnlp-kml-ldml-lingts-meta4-metainfo-metalink-mimeinfo-mml-mpd-msbuild-mscx-musicxml-ncx-nzb-opf-opml-osm-owx-pkgmeta-plist-pom-rdf-rng-rss-sbml-sch-sitemap-sla-smil-srx-svg-tei-ttml-ttx-ui-wordml-wsdl-x3d-xbel-xhtml-xib-xkbrules-xliff-xmi-xmp-xsd-xslt-xspf : ℕ
+rows-3dmodel-abw-amf-atom-aup-busconfig-catmeta-cml-dae-dbk-dbusintro-dia-diashape-fb2-fodg-fodp-fods-fodt-fontconfig-glade-gml-gnucash-gnumeric-gpx-gresource-gschema-gtkbuilder-jnlp-kml-ldml-lingts-meta4-metainfo-metalink-mimeinfo-mml-mpd-msbuild-mscx-musicxml-ncx-nzb-opf-opml-osm-owx-pkgmeta-plist-pom-rdf-rng-rss-sbml-sch-sitemap-sla-smil-srx-svg-tei-ttml-ttx-ui-wordml-wsdl-x3d-xbel-xhtml-xib-xkbrules-xliff-xmi-xmp-xsd-xslt-xspf = 3
+
+abbrev pub rows-3ds : ℕ
+rows-3ds = 4
+
+abbrev pub rows-3dsx : ℕ
+rows-3dsx = 5
+
+abbrev pub rows-3g2 : ℕ
+rows-3g2 = 6
+
+abbrev pub rows-3g2-3gp-f4v-m4a-m4b-m4v-mov : ℕ
+rows-3g2-3gp-f4v-m4a-m4b-m4v-mov = 7
+
+abbrev pub rows-3gp : ℕ
+rows-3gp = 8
+
+abbrev pub rows-3gp-mp4 : ℕ
+rows-3gp-mp4 = 9
+
+abbrev pub rows-3mf : ℕ
+rows-3mf = 10
+
+abbrev pub rows-3mf-apk-application-vnd-apple-keynote-chrt-docx-epub-fbz-fcstd-flw-iwa-jar-karbon-kfo-kmz-kon-kpr-kra-ksp-kwd-mscz-odb-odc-odf-odg-odi-odp-ods-odt-ora-otg-otp-ots-ott-pkpass-pptx-qgz-sxc-sxd-sxi-sxm-sxw-vsdx-xap-xlsx : ℕ
+rows-3mf-apk-application-vnd-apple-keynote-chrt-docx-epub-fbz-fcstd-flw-iwa-jar-karbon-kfo-kmz-kon-kpr-kra-ksp-kwd-mscz-odb-odc-odf-odg-odi-odp-ods-odt-ora-otg-otp-ots-ott-pkpass-pptx-qgz-sxc-sxd-sxi-sxm-sxw-vsdx-xap-xlsx = 11
+
+abbrev pub rows-4xm : ℕ
+rows-4xm = 12
+
+abbrev pub rows-7z : ℕ
+rows-7z = 13
+
+abbrev pub rows-8svx : ℕ
+rows-8svx = 14
+
+abbrev pub rows-z : ℕ
+rows-z = 15
+
+abbrev pub rows-a78 : ℕ
+rows-a78 = 16
+
+abbrev pub rows-aac : ℕ
+rows-aac = 17
+
+abbrev pub rows-aac-adif : ℕ
+rows-aac-adif = 18
+
+abbrev pub rows-abc : ℕ
+rows-abc = 19
+
+abbrev pub rows-abw : ℕ
+rows-abw = 20
+
+abbrev pub rows-ac3 : ℕ
+rows-ac3 = 21
+
+abbrev pub rows-accdb : ℕ
+rows-accdb = 22
+
+abbrev pub rows-adf : ℕ
+rows-adf = 23
+
+abbrev pub rows-aes : ℕ
+rows-aes = 24
+
+abbrev pub rows-afm : ℕ
+rows-afm = 25
+
+abbrev pub rows-ag : ℕ
+rows-ag = 26
 
 abbrev pub rows-age : ℕ
-rows-age = 17
+rows-age = 27
 
 abbrev pub rows-age-asc-cms-crl-application-x-pem-key-csr-openssh-p7c-param-pgp-pubkey-sig-sshsig : ℕ
-rows-age-asc-cms-crl-application-x-pem-key-csr-openssh-p7c-param-pgp-pubkey-sig-sshsig = 18
+rows-age-asc-cms-crl-application-x-pem-key-csr-openssh-p7c-param-pgp-pubkey-sig-sshsig = 28
 
 abbrev pub rows-aifc : ℕ
-rows-aifc = 19
+rows-aifc = 29
 
 abbrev pub rows-aiff : ℕ
-rows-aiff = 20
+rows-aiff = 30
 
 abbrev pub rows-alz : ℕ
-rows-alz = 21
+rows-alz = 31
+
+abbrev pub rows-amf : ℕ
+rows-amf = 32
+
+abbrev pub rows-aml : ℕ
+rows-aml = 33
 
 abbrev pub rows-amr : ℕ
-rows-amr = 22
+rows-amr = 34
+
+abbrev pub rows-amv : ℕ
+rows-amv = 35
 
 abbrev pub rows-ani : ℕ
-rows-ani = 23
+rows-ani = 36
 
 abbrev pub rows-anim : ℕ
-rows-anim = 24
+rows-anim = 37
 
 abbrev pub rows-ape : ℕ
-rows-ape = 25
+rows-ape = 38
 
 abbrev pub rows-apk : ℕ
-rows-apk = 26
+rows-apk = 39
 
 abbrev pub rows-apk-jar-zip : ℕ
-rows-apk-jar-zip = 27
+rows-apk-jar-zip = 40
+
+abbrev pub rows-apm : ℕ
+rows-apm = 41
 
 abbrev pub rows-apng : ℕ
-rows-apng = 28
+rows-apng = 42
 
 abbrev pub rows-appimage : ℕ
-rows-appimage = 29
+rows-appimage = 43
 
 abbrev pub rows-appimage-core-cubin-o-so : ℕ
-rows-appimage-core-cubin-o-so = 30
+rows-appimage-core-cubin-o-so = 44
 
 abbrev pub rows-application-vnd-apple-keynote : ℕ
-rows-application-vnd-apple-keynote = 31
+rows-application-vnd-apple-keynote = 45
 
 abbrev pub rows-application-x-installshield : ℕ
-rows-application-x-installshield = 32
+rows-application-x-installshield = 46
 
 abbrev pub rows-application-x-msi : ℕ
-rows-application-x-msi = 33
+rows-application-x-msi = 47
 
 abbrev pub rows-application-x-ole-storage : ℕ
-rows-application-x-ole-storage = 34
+rows-application-x-ole-storage = 48
 
 abbrev pub rows-application-x-ole-storage-pptm-pptx-zip : ℕ
-rows-application-x-ole-storage-pptm-pptx-zip = 35
+rows-application-x-ole-storage-pptm-pptx-zip = 49
 
 abbrev pub rows-application-x-ole-storage-pptx-zip : ℕ
-rows-application-x-ole-storage-pptx-zip = 36
+rows-application-x-ole-storage-pptx-zip = 50
 
 abbrev pub rows-application-x-ole-storage-xlsm-xlsx-zip : ℕ
-rows-application-x-ole-storage-xlsm-xlsx-zip = 37
+rows-application-x-ole-storage-xlsm-xlsx-zip = 51
 
 abbrev pub rows-application-x-ole-storage-xlsx-zip : ℕ
-rows-application-x-ole-storage-xlsx-zip = 38
+rows-application-x-ole-storage-xlsx-zip = 52
 
 abbrev pub rows-application-x-ole-storage-zip : ℕ
-rows-application-x-ole-storage-zip = 39
+rows-application-x-ole-storage-zip = 53
 
 abbrev pub rows-application-x-pem-key : ℕ
-rows-application-x-pem-key = 40
+rows-application-x-pem-key = 54
+
+abbrev pub rows-aptcache : ℕ
+rows-aptcache = 55
 
 abbrev pub rows-ar : ℕ
-rows-ar = 41
+rows-ar = 56
+
+abbrev pub rows-ar-thin : ℕ
+rows-ar-thin = 57
 
 abbrev pub rows-arj : ℕ
-rows-arj = 42
+rows-arj = 58
 
 abbrev pub rows-arrow : ℕ
-rows-arrow = 43
+rows-arrow = 59
+
+abbrev pub rows-arsc : ℕ
+rows-arsc = 60
+
+abbrev pub rows-as : ℕ
+rows-as = 61
 
 abbrev pub rows-asar : ℕ
-rows-asar = 44
+rows-asar = 62
 
 abbrev pub rows-asc : ℕ
-rows-asc = 45
+rows-asc = 63
 
 abbrev pub rows-astc : ℕ
-rows-astc = 46
+rows-astc = 64
+
+abbrev pub rows-asx : ℕ
+rows-asx = 65
 
 abbrev pub rows-atom : ℕ
-rows-atom = 47
-
-abbrev pub rows-atom-diashape-fb2-fodt-gpx-gtkbuilder-jnlp-kml-lingts-meta4-mml-nzb-opml-owx-plist-rss-srx-svg-ttx-xhtml-xmp : ℕ
-rows-atom-diashape-fb2-fodt-gpx-gtkbuilder-jnlp-kml-lingts-meta4-mml-nzb-opml-owx-plist-rss-srx-svg-ttx-xhtml-xmp = 48
+rows-atom = 66
 
 abbrev pub rows-au : ℕ
-rows-au = 49
+rows-au = 67
+
+abbrev pub rows-aup : ℕ
+rows-aup = 68
 
 abbrev pub rows-aup3 : ℕ
-rows-aup3 = 50
+rows-aup3 = 69
 
 abbrev pub rows-aup3-fossil-gpkg-mbtiles-mtn : ℕ
-rows-aup3-fossil-gpkg-mbtiles-mtn = 51
+rows-aup3-fossil-gpkg-mbtiles-mtn = 70
 
 abbrev pub rows-avi : ℕ
-rows-avi = 52
+rows-avi = 71
 
 abbrev pub rows-avif : ℕ
-rows-avif = 53
+rows-avif = 72
+
+abbrev pub rows-avr : ℕ
+rows-avr = 73
 
 abbrev pub rows-avro : ℕ
-rows-avro = 54
+rows-avro = 74
+
+abbrev pub rows-aw : ℕ
+rows-aw = 75
+
+abbrev pub rows-awbm : ℕ
+rows-awbm = 76
 
 abbrev pub rows-awk : ℕ
-rows-awk = 55
+rows-awk = 77
+
+abbrev pub rows-axml : ℕ
+rows-axml = 78
+
+abbrev pub rows-ay : ℕ
+rows-ay = 79
+
+abbrev pub rows-bai : ℕ
+rows-bai = 80
+
+abbrev pub rows-bam : ℕ
+rows-bam = 81
+
+abbrev pub rows-bat : ℕ
+rows-bat = 82
 
 abbrev pub rows-bc : ℕ
-rows-bc = 56
+rows-bc = 83
+
+abbrev pub rows-bc-bcw : ℕ
+rows-bc-bcw = 84
+
+abbrev pub rows-bcstm : ℕ
+rows-bcstm = 85
+
+abbrev pub rows-bcwav : ℕ
+rows-bcwav = 86
 
 abbrev pub rows-bdb : ℕ
-rows-bdb = 57
+rows-bdb = 87
+
+abbrev pub rows-bdf : ℕ
+rows-bdf = 88
+
+abbrev pub rows-bdfb : ℕ
+rows-bdfb = 89
 
 abbrev pub rows-beam : ℕ
-rows-beam = 58
+rows-beam = 90
+
+abbrev pub rows-bfstm : ℕ
+rows-bfstm = 91
 
 abbrev pub rows-bgzf-karbon-kil-kpr-ksp-kwd : ℕ
-rows-bgzf-karbon-kil-kpr-ksp-kwd = 59
+rows-bgzf-karbon-kil-kpr-ksp-kwd = 92
+
+abbrev pub rows-biff-xls : ℕ
+rows-biff-xls = 93
+
+abbrev pub rows-bik : ℕ
+rows-bik = 94
+
+abbrev pub rows-blb : ℕ
+rows-blb = 95
 
 abbrev pub rows-blend : ℕ
-rows-blend = 60
+rows-blend = 96
+
+abbrev pub rows-blp : ℕ
+rows-blp = 97
 
 abbrev pub rows-bmp : ℕ
-rows-bmp = 61
+rows-bmp = 98
+
+abbrev pub rows-bmp-dib : ℕ
+rows-bmp-dib = 99
 
 abbrev pub rows-bookmarks : ℕ
-rows-bookmarks = 62
+rows-bookmarks = 100
+
+abbrev pub rows-bootimg : ℕ
+rows-bootimg = 101
+
+abbrev pub rows-bootimg-cramfs-fat-jffs2-romfs-simg-ubi-ubifs-xfs : ℕ
+rows-bootimg-cramfs-fat-jffs2-romfs-simg-ubi-ubifs-xfs = 102
 
 abbrev pub rows-bpg : ℕ
-rows-bpg = 63
+rows-bpg = 103
 
 abbrev pub rows-bplist : ℕ
-rows-bplist = 64
+rows-bplist = 104
 
 abbrev pub rows-bps : ℕ
-rows-bps = 65
+rows-bps = 105
+
+abbrev pub rows-brstm : ℕ
+rows-brstm = 106
 
 abbrev pub rows-bsdiff : ℕ
-rows-bsdiff = 66
+rows-bsdiff = 107
+
+abbrev pub rows-bsp : ℕ
+rows-bsp = 108
+
+abbrev pub rows-btf-tif : ℕ
+rows-btf-tif = 109
+
+abbrev pub rows-bufr : ℕ
+rows-bufr = 110
+
+abbrev pub rows-bz1-bz2 : ℕ
+rows-bz1-bz2 = 111
 
 abbrev pub rows-bz2 : ℕ
-rows-bz2 = 67
+rows-bz2 = 112
 
 abbrev pub rows-bz2-gz-xz : ℕ
-rows-bz2-gz-xz = 68
+rows-bz2-gz-xz = 113
 
 abbrev pub rows-bz3 : ℕ
-rows-bz3 = 69
+rows-bz3 = 114
+
+abbrev pub rows-bzimage : ℕ
+rows-bzimage = 115
 
 abbrev pub rows-cab : ℕ
-rows-cab = 70
+rows-cab = 116
 
 abbrev pub rows-caf : ℕ
-rows-caf = 71
+rows-caf = 117
+
+abbrev pub rows-cbor : ℕ
+rows-cbor = 118
 
 abbrev pub rows-ccmx : ℕ
-rows-ccmx = 72
+rows-ccmx = 119
+
+abbrev pub rows-cdf : ℕ
+rows-cdf = 120
 
 abbrev pub rows-cdr : ℕ
-rows-cdr = 73
+rows-cdr = 121
+
+abbrev pub rows-cdxa : ℕ
+rows-cdxa = 122
 
 abbrev pub rows-cer : ℕ
-rows-cer = 74
+rows-cer = 123
 
 abbrev pub rows-cer-crl : ℕ
-rows-cer-crl = 75
+rows-cer-crl = 124
 
-abbrev pub rows-cer-p10-p8 : ℕ
-rows-cer-p10-p8 = 76
+abbrev pub rows-cer-p10-p8-pkipath : ℕ
+rows-cer-p10-p8-pkipath = 125
 
 abbrev pub rows-chd : ℕ
-rows-chd = 77
+rows-chd = 126
 
 abbrev pub rows-chm : ℕ
-rows-chm = 78
+rows-chm = 127
 
 abbrev pub rows-chrt : ℕ
-rows-chrt = 79
+rows-chrt = 128
+
+abbrev pub rows-cin : ℕ
+rows-cin = 129
 
 abbrev pub rows-class : ℕ
-rows-class = 80
+rows-class = 130
 
 abbrev pub rows-clj : ℕ
-rows-clj = 81
+rows-clj = 131
+
+abbrev pub rows-cloudcfg : ℕ
+rows-cloudcfg = 132
+
+abbrev pub rows-cma : ℕ
+rows-cma = 133
 
 abbrev pub rows-cmap-eps-pfa-t2t : ℕ
-rows-cmap-eps-pfa-t2t = 82
+rows-cmap-eps-pfa-t2t = 134
+
+abbrev pub rows-cmi : ℕ
+rows-cmi = 135
+
+abbrev pub rows-cml : ℕ
+rows-cml = 136
+
+abbrev pub rows-cmo : ℕ
+rows-cmo = 137
+
+abbrev pub rows-cmt : ℕ
+rows-cmt = 138
+
+abbrev pub rows-cmx : ℕ
+rows-cmx = 139
+
+abbrev pub rows-cmxa : ℕ
+rows-cmxa = 140
+
+abbrev pub rows-cmxr : ℕ
+rows-cmxr = 141
 
 abbrev pub rows-core : ℕ
-rows-core = 83
+rows-core = 142
+
+abbrev pub rows-cpi : ℕ
+rows-cpi = 143
 
 abbrev pub rows-cpio : ℕ
-rows-cpio = 84
+rows-cpio = 144
+
+abbrev pub rows-cpt : ℕ
+rows-cpt = 145
 
 abbrev pub rows-cr2 : ℕ
-rows-cr2 = 85
+rows-cr2 = 146
 
 abbrev pub rows-cr2-dng : ℕ
-rows-cr2-dng = 86
+rows-cr2-dng = 147
 
 abbrev pub rows-cr3 : ℕ
-rows-cr3 = 87
+rows-cr3 = 148
+
+abbrev pub rows-cram : ℕ
+rows-cram = 149
+
+abbrev pub rows-cramfs : ℕ
+rows-cramfs = 150
 
 abbrev pub rows-crl : ℕ
-rows-crl = 88
+rows-crl = 151
 
 abbrev pub rows-crw : ℕ
-rows-crw = 89
+rows-crw = 152
 
 abbrev pub rows-crx : ℕ
-rows-crx = 90
+rows-crx = 153
 
 abbrev pub rows-csh : ℕ
-rows-csh = 91
+rows-csh = 154
+
+abbrev pub rows-csi : ℕ
+rows-csi = 155
+
+abbrev pub rows-cso : ℕ
+rows-cso = 156
 
 abbrev pub rows-csr-p10 : ℕ
-rows-csr-p10 = 92
+rows-csr-p10 = 157
 
 abbrev pub rows-cubin : ℕ
-rows-cubin = 93
+rows-cubin = 158
+
+abbrev pub rows-cupsraster : ℕ
+rows-cupsraster = 159
 
 abbrev pub rows-cur : ℕ
-rows-cur = 94
+rows-cur = 160
+
+abbrev pub rows-cwk : ℕ
+rows-cwk = 161
 
 abbrev pub rows-czi : ℕ
-rows-czi = 95
+rows-czi = 162
+
+abbrev pub rows-dae : ℕ
+rows-dae = 163
 
 abbrev pub rows-dart : ℕ
-rows-dart = 96
+rows-dart = 164
 
 abbrev pub rows-dbf : ℕ
-rows-dbf = 97
+rows-dbf = 165
+
+abbrev pub rows-dbk : ℕ
+rows-dbk = 166
+
+abbrev pub rows-dbm : ℕ
+rows-dbm = 167
+
+abbrev pub rows-dbpf : ℕ
+rows-dbpf = 168
 
 abbrev pub rows-dcm : ℕ
-rows-dcm = 98
+rows-dcm = 169
 
 abbrev pub rows-dcr : ℕ
-rows-dcr = 99
+rows-dcr = 170
+
+abbrev pub rows-dcx : ℕ
+rows-dcx = 171
 
 abbrev pub rows-dds : ℕ
-rows-dds = 100
+rows-dds = 172
 
 abbrev pub rows-deb : ℕ
-rows-deb = 101
+rows-deb = 173
 
 abbrev pub rows-deb-goa : ℕ
-rows-deb-goa = 102
+rows-deb-goa = 174
 
 abbrev pub rows-der : ℕ
-rows-der = 103
+rows-der = 175
 
 abbrev pub rows-der-application-x-pem-key-pem : ℕ
-rows-der-application-x-pem-key-pem = 104
+rows-der-application-x-pem-key-pem = 176
 
 abbrev pub rows-der-p7b-pem : ℕ
-rows-der-p7b-pem = 105
+rows-der-p7b-pem = 177
 
 abbrev pub rows-der-pem : ℕ
-rows-der-pem = 106
+rows-der-pem = 178
 
 abbrev pub rows-der-pem-txt : ℕ
-rows-der-pem-txt = 107
+rows-der-pem-txt = 179
 
 abbrev pub rows-dex : ℕ
-rows-dex = 108
+rows-dex = 180
 
 abbrev pub rows-dey : ℕ
-rows-dey = 109
+rows-dey = 181
 
 abbrev pub rows-dff : ℕ
-rows-dff = 110
+rows-dff = 182
+
+abbrev pub rows-dfont : ℕ
+rows-dfont = 183
+
+abbrev pub rows-dgn : ℕ
+rows-dgn = 184
+
+abbrev pub rows-dia : ℕ
+rows-dia = 185
 
 abbrev pub rows-diashape : ℕ
-rows-diashape = 111
+rows-diashape = 186
+
+abbrev pub rows-dif : ℕ
+rows-dif = 187
 
 abbrev pub rows-djvm : ℕ
-rows-djvm = 112
+rows-djvm = 188
 
 abbrev pub rows-djvu : ℕ
-rows-djvu = 113
+rows-djvu = 189
+
+abbrev pub rows-dmp : ℕ
+rows-dmp = 190
 
 abbrev pub rows-dng : ℕ
-rows-dng = 114
+rows-dng = 191
 
-abbrev pub rows-doc : ℕ
-rows-doc = 115
+abbrev pub rows-doc-doc2 : ℕ
+rows-doc-doc2 = 192
 
 abbrev pub rows-docm : ℕ
-rows-docm = 116
+rows-docm = 193
 
 abbrev pub rows-docm-docx-application-x-ole-storage-zip : ℕ
-rows-docm-docx-application-x-ole-storage-zip = 117
+rows-docm-docx-application-x-ole-storage-zip = 194
 
 abbrev pub rows-docx : ℕ
-rows-docx = 118
+rows-docx = 195
 
 abbrev pub rows-docx-application-x-ole-storage-zip : ℕ
-rows-docx-application-x-ole-storage-zip = 119
+rows-docx-application-x-ole-storage-zip = 196
 
 abbrev pub rows-dpx : ℕ
-rows-dpx = 120
+rows-dpx = 197
+
+abbrev pub rows-drc : ℕ
+rows-drc = 198
+
+abbrev pub rows-drdoscpi : ℕ
+rows-drdoscpi = 199
 
 abbrev pub rows-dsf : ℕ
-rows-dsf = 121
+rows-dsf = 200
+
+abbrev pub rows-dss : ℕ
+rows-dss = 201
+
+abbrev pub rows-dtb : ℕ
+rows-dtb = 202
 
 abbrev pub rows-dts : ℕ
-rows-dts = 122
+rows-dts = 203
 
 abbrev pub rows-dtsi : ℕ
-rows-dtsi = 123
+rows-dtsi = 204
 
 abbrev pub rows-dv : ℕ
-rows-dv = 124
+rows-dv = 205
 
 abbrev pub rows-dvi : ℕ
-rows-dvi = 125
+rows-dvi = 206
 
 abbrev pub rows-dwg : ℕ
-rows-dwg = 126
+rows-dwg = 207
 
 abbrev pub rows-e57 : ℕ
-rows-e57 = 127
+rows-e57 = 208
+
+abbrev pub rows-eac3 : ℕ
+rows-eac3 = 209
+
+abbrev pub rows-edf : ℕ
+rows-edf = 210
+
+abbrev pub rows-eet : ℕ
+rows-eet = 211
+
+abbrev pub rows-egg : ℕ
+rows-egg = 212
+
+abbrev pub rows-elc : ℕ
+rows-elc = 213
 
 abbrev pub rows-elf : ℕ
-rows-elf = 128
+rows-elf = 214
 
 abbrev pub rows-elf-so : ℕ
-rows-elf-so = 129
+rows-elf-so = 215
 
 abbrev pub rows-emf : ℕ
-rows-emf = 130
+rows-emf = 216
 
 abbrev pub rows-eot : ℕ
-rows-eot = 131
+rows-eot = 217
 
 abbrev pub rows-eps : ℕ
-rows-eps = 132
+rows-eps = 218
 
 abbrev pub rows-eps-pdf-ps : ℕ
-rows-eps-pdf-ps = 133
+rows-eps-pdf-ps = 219
 
 abbrev pub rows-epub : ℕ
-rows-epub = 134
+rows-epub = 220
 
 abbrev pub rows-escript : ℕ
-rows-escript = 135
+rows-escript = 221
 
 abbrev pub rows-evtx : ℕ
-rows-evtx = 136
+rows-evtx = 222
 
 abbrev pub rows-exe : ℕ
-rows-exe = 137
+rows-exe = 223
 
 abbrev pub rows-exr : ℕ
-rows-exr = 138
+rows-exr = 224
 
 abbrev pub rows-exs : ℕ
-rows-exs = 139
+rows-exs = 225
 
 abbrev pub rows-ext2 : ℕ
-rows-ext2 = 140
+rows-ext2 = 226
 
 abbrev pub rows-f4v : ℕ
-rows-f4v = 141
+rows-f4v = 227
 
 abbrev pub rows-fb2 : ℕ
-rows-fb2 = 142
+rows-fb2 = 228
 
 abbrev pub rows-fbx-fbxtext : ℕ
-rows-fbx-fbxtext = 143
+rows-fbx-fbxtext = 229
 
 abbrev pub rows-fbz : ℕ
-rows-fbz = 144
+rows-fbz = 230
+
+abbrev pub rows-fccache : ℕ
+rows-fccache = 231
 
 abbrev pub rows-fcstd : ℕ
-rows-fcstd = 145
+rows-fcstd = 232
+
+abbrev pub rows-fdf : ℕ
+rows-fdf = 233
 
 abbrev pub rows-fds : ℕ
-rows-fds = 146
+rows-fds = 234
+
+abbrev pub rows-ff : ℕ
+rows-ff = 235
 
 abbrev pub rows-fig : ℕ
-rows-fig = 147
+rows-fig = 236
 
 abbrev pub rows-fish : ℕ
-rows-fish = 148
+rows-fish = 237
 
 abbrev pub rows-fits : ℕ
-rows-fits = 149
+rows-fits = 238
 
 abbrev pub rows-fl : ℕ
-rows-fl = 150
+rows-fl = 239
 
 abbrev pub rows-flac : ℕ
-rows-flac = 151
+rows-flac = 240
 
 abbrev pub rows-flac-ogg-opus : ℕ
-rows-flac-ogg-opus = 152
+rows-flac-ogg-opus = 241
 
 abbrev pub rows-flatpak : ℕ
-rows-flatpak = 153
+rows-flatpak = 242
+
+abbrev pub rows-flatpakref : ℕ
+rows-flatpakref = 243
+
+abbrev pub rows-flatpakrepo : ℕ
+rows-flatpakrepo = 244
 
 abbrev pub rows-flif : ℕ
-rows-flif = 154
+rows-flif = 245
 
 abbrev pub rows-flv : ℕ
-rows-flv = 155
+rows-flv = 246
 
 abbrev pub rows-flw : ℕ
-rows-flw = 156
+rows-flw = 247
+
+abbrev pub rows-fm : ℕ
+rows-fm = 248
+
+abbrev pub rows-fodg : ℕ
+rows-fodg = 249
+
+abbrev pub rows-fodp : ℕ
+rows-fodp = 250
+
+abbrev pub rows-fods : ℕ
+rows-fods = 251
 
 abbrev pub rows-fodt : ℕ
-rows-fodt = 157
+rows-fodt = 252
 
 abbrev pub rows-fpx : ℕ
-rows-fpx = 158
+rows-fpx = 253
+
+abbrev pub rows-g64 : ℕ
+rows-g64 = 254
 
 abbrev pub rows-gbr : ℕ
-rows-gbr = 159
+rows-gbr = 255
 
 abbrev pub rows-gbs : ℕ
-rows-gbs = 160
+rows-gbs = 256
+
+abbrev pub rows-gcda : ℕ
+rows-gcda = 257
+
+abbrev pub rows-gcda-gcno : ℕ
+rows-gcda-gcno = 258
+
+abbrev pub rows-gch : ℕ
+rows-gch = 259
+
+abbrev pub rows-gconv : ℕ
+rows-gconv = 260
+
+abbrev pub rows-gd2 : ℕ
+rows-gd2 = 261
 
 abbrev pub rows-gdbm : ℕ
-rows-gdbm = 161
+rows-gdbm = 262
+
+abbrev pub rows-gdf : ℕ
+rows-gdf = 263
+
+abbrev pub rows-ged : ℕ
+rows-ged = 264
 
 abbrev pub rows-gem : ℕ
-rows-gem = 162
+rows-gem = 265
+
+abbrev pub rows-gff3 : ℕ
+rows-gff3 = 266
+
+abbrev pub rows-ggr : ℕ
+rows-ggr = 267
 
 abbrev pub rows-gguf : ℕ
-rows-gguf = 163
+rows-gguf = 268
 
 abbrev pub rows-gif : ℕ
-rows-gif = 164
+rows-gif = 269
+
+abbrev pub rows-gitbundle : ℕ
+rows-gitbundle = 270
+
+abbrev pub rows-gitidx : ℕ
+rows-gitidx = 271
+
+abbrev pub rows-gitindex : ℕ
+rows-gitindex = 272
+
+abbrev pub rows-gitpatch : ℕ
+rows-gitpatch = 273
 
 abbrev pub rows-gjs-js : ℕ
-rows-gjs-js = 165
+rows-gjs-js = 274
+
+abbrev pub rows-glade : ℕ
+rows-glade = 275
 
 abbrev pub rows-glb : ℕ
-rows-glb = 166
+rows-glb = 276
+
+abbrev pub rows-gml : ℕ
+rows-gml = 277
 
 abbrev pub rows-gnd : ℕ
-rows-gnd = 167
+rows-gnd = 278
+
+abbrev pub rows-gnucash : ℕ
+rows-gnucash = 279
+
+abbrev pub rows-gnumeric : ℕ
+rows-gnumeric = 280
 
 abbrev pub rows-gnuplot : ℕ
-rows-gnuplot = 168
+rows-gnuplot = 281
 
-abbrev pub rows-gpg : ℕ
-rows-gpg = 169
+abbrev pub rows-goobj : ℕ
+rows-goobj = 282
+
+abbrev pub rows-gpg-gpgold : ℕ
+rows-gpg-gpgold = 283
 
 abbrev pub rows-gpkg : ℕ
-rows-gpkg = 170
+rows-gpkg = 284
+
+abbrev pub rows-gpl : ℕ
+rows-gpl = 285
 
 abbrev pub rows-gpx : ℕ
-rows-gpx = 171
+rows-gpx = 286
+
+abbrev pub rows-grib : ℕ
+rows-grib = 287
+
+abbrev pub rows-grib-grib2 : ℕ
+rows-grib-grib2 = 288
 
 abbrev pub rows-groovy : ℕ
-rows-groovy = 172
+rows-groovy = 289
+
+abbrev pub rows-grp : ℕ
+rows-grp = 290
+
+abbrev pub rows-grubkbd : ℕ
+rows-grubkbd = 291
+
+abbrev pub rows-gschema : ℕ
+rows-gschema = 292
 
 abbrev pub rows-gtkbuilder : ℕ
-rows-gtkbuilder = 173
+rows-gtkbuilder = 293
+
+abbrev pub rows-gtp : ℕ
+rows-gtp = 294
+
+abbrev pub rows-gvdb : ℕ
+rows-gvdb = 295
 
 abbrev pub rows-gx : ℕ
-rows-gx = 174
+rows-gx = 296
 
 abbrev pub rows-gz : ℕ
-rows-gz = 175
+rows-gz = 297
+
+abbrev pub rows-gz-html-txt-xhtml-xml : ℕ
+rows-gz-html-txt-xhtml-xml = 298
+
+abbrev pub rows-gz-kspcrypt-zip : ℕ
+rows-gz-kspcrypt-zip = 299
+
+abbrev pub rows-gz-kwdcrypt-zip : ℕ
+rows-gz-kwdcrypt-zip = 300
 
 abbrev pub rows-gz-sqlite-xml : ℕ
-rows-gz-sqlite-xml = 176
+rows-gz-sqlite-xml = 301
 
 abbrev pub rows-gz-txt-xml : ℕ
-rows-gz-txt-xml = 177
+rows-gz-txt-xml = 302
 
 abbrev pub rows-gz-xml : ℕ
-rows-gz-xml = 178
+rows-gz-xml = 303
 
 abbrev pub rows-gz-zip : ℕ
-rows-gz-zip = 179
+rows-gz-zip = 304
 
 abbrev pub rows-gz-zst : ℕ
-rows-gz-zst = 180
+rows-gz-zst = 305
+
+abbrev pub rows-hdd : ℕ
+rows-hdd = 306
 
 abbrev pub rows-hdf4 : ℕ
-rows-hdf4 = 181
+rows-hdf4 = 307
 
 abbrev pub rows-hdf5 : ℕ
-rows-hdf5 = 182
+rows-hdf5 = 308
 
 abbrev pub rows-hdr : ℕ
-rows-hdr = 183
+rows-hdr = 309
+
+abbrev pub rows-hdt : ℕ
+rows-hdt = 310
 
 abbrev pub rows-heic : ℕ
-rows-heic = 184
+rows-heic = 311
 
 abbrev pub rows-heics : ℕ
-rows-heics = 185
+rows-heics = 312
 
 abbrev pub rows-heics-heif : ℕ
-rows-heics-heif = 186
+rows-heics-heif = 313
 
 abbrev pub rows-heif : ℕ
-rows-heif = 187
+rows-heif = 314
 
 abbrev pub rows-hfe : ℕ
-rows-hfe = 188
+rows-hfe = 315
+
+abbrev pub rows-hgbundle : ℕ
+rows-hgbundle = 316
 
 abbrev pub rows-hlp : ℕ
-rows-hlp = 189
+rows-hlp = 317
+
+abbrev pub rows-hprof : ℕ
+rows-hprof = 318
+
+abbrev pub rows-hqx : ℕ
+rows-hqx = 319
 
 abbrev pub rows-hs : ℕ
-rows-hs = 190
+rows-hs = 320
+
+abbrev pub rows-hsi : ℕ
+rows-hsi = 321
 
 abbrev pub rows-html : ℕ
-rows-html = 191
+rows-html = 322
 
 abbrev pub rows-html-json-php-svg-txt-xhtml-xml : ℕ
-rows-html-json-php-svg-txt-xhtml-xml = 192
+rows-html-json-php-svg-txt-xhtml-xml = 323
 
 abbrev pub rows-html-rss-txt-xml : ℕ
-rows-html-rss-txt-xml = 193
+rows-html-rss-txt-xml = 324
 
 abbrev pub rows-html-sh-svg-txt-xhtml-xml : ℕ
-rows-html-sh-svg-txt-xhtml-xml = 194
+rows-html-sh-svg-txt-xhtml-xml = 325
 
 abbrev pub rows-html-txt : ℕ
-rows-html-txt = 195
+rows-html-txt = 326
 
 abbrev pub rows-html-txt-xhtml-xml : ℕ
-rows-html-txt-xhtml-xml = 196
+rows-html-txt-xhtml-xml = 327
 
 abbrev pub rows-html-txt-xml : ℕ
-rows-html-txt-xml = 197
+rows-html-txt-xml = 328
+
+abbrev pub rows-http : ℕ
+rows-http = 329
+
+abbrev pub rows-hwp : ℕ
+rows-hwp = 330
+
+abbrev pub rows-iaarc : ℕ
+rows-iaarc = 331
 
 abbrev pub rows-icc : ℕ
-rows-icc = 198
+rows-icc = 332
 
 abbrev pub rows-icns : ℕ
-rows-icns = 199
+rows-icns = 333
 
 abbrev pub rows-ico : ℕ
-rows-ico = 200
+rows-ico = 334
 
 abbrev pub rows-ics : ℕ
-rows-ics = 201
+rows-ics = 335
+
+abbrev pub rows-iff : ℕ
+rows-iff = 336
+
+abbrev pub rows-ifo : ℕ
+rows-ifo = 337
 
 abbrev pub rows-ilbm : ℕ
-rows-ilbm = 202
+rows-ilbm = 338
 
 abbrev pub rows-imy : ℕ
-rows-imy = 203
+rows-imy = 339
 
 abbrev pub rows-indd : ℕ
-rows-indd = 204
+rows-indd = 340
 
 abbrev pub rows-info : ℕ
-rows-info = 205
+rows-info = 341
+
+abbrev pub rows-innolog : ℕ
+rows-innolog = 342
 
 abbrev pub rows-ips : ℕ
-rows-ips = 206
+rows-ips = 343
 
 abbrev pub rows-it : ℕ
-rows-it = 207
+rows-it = 344
 
 abbrev pub rows-it87 : ℕ
-rows-it87 = 208
+rows-it87 = 345
 
 abbrev pub rows-itc : ℕ
-rows-itc = 209
+rows-itc = 346
 
 abbrev pub rows-ivf : ℕ
-rows-ivf = 210
+rows-ivf = 347
 
 abbrev pub rows-j2c : ℕ
-rows-j2c = 211
+rows-j2c = 348
 
 abbrev pub rows-jad : ℕ
-rows-jad = 212
+rows-jad = 349
 
 abbrev pub rows-jar : ℕ
-rows-jar = 213
+rows-jar = 350
 
 abbrev pub rows-jar-zip : ℕ
-rows-jar-zip = 214
+rows-jar-zip = 351
 
 abbrev pub rows-jarmf : ℕ
-rows-jarmf = 215
+rows-jarmf = 352
+
+abbrev pub rows-jbig2 : ℕ
+rows-jbig2 = 353
 
 abbrev pub rows-jceks : ℕ
-rows-jceks = 216
+rows-jceks = 354
+
+abbrev pub rows-jffs2 : ℕ
+rows-jffs2 = 355
+
+abbrev pub rows-jfr : ℕ
+rows-jfr = 356
+
+abbrev pub rows-jimage : ℕ
+rows-jimage = 357
 
 abbrev pub rows-jks : ℕ
-rows-jks = 217
+rows-jks = 358
 
 abbrev pub rows-jl : ℕ
-rows-jl = 218
+rows-jl = 359
 
 abbrev pub rows-jls : ℕ
-rows-jls = 219
+rows-jls = 360
 
 abbrev pub rows-jmod : ℕ
-rows-jmod = 220
+rows-jmod = 361
+
+abbrev pub rows-jng : ℕ
+rows-jng = 362
 
 abbrev pub rows-jnlp : ℕ
-rows-jnlp = 221
+rows-jnlp = 363
 
 abbrev pub rows-journal : ℕ
-rows-journal = 222
+rows-journal = 364
 
 abbrev pub rows-jp2 : ℕ
-rows-jp2 = 223
+rows-jp2 = 365
 
 abbrev pub rows-jpg : ℕ
-rows-jpg = 224
+rows-jpg = 366
 
 abbrev pub rows-jph : ℕ
-rows-jph = 225
+rows-jph = 367
 
 abbrev pub rows-jph-jpm-jpx-mj2 : ℕ
-rows-jph-jpm-jpx-mj2 = 226
+rows-jph-jpm-jpx-mj2 = 368
 
 abbrev pub rows-jpm : ℕ
-rows-jpm = 227
+rows-jpm = 369
 
 abbrev pub rows-jpx : ℕ
-rows-jpx = 228
+rows-jpx = 370
 
 abbrev pub rows-json : ℕ
-rows-json = 229
+rows-json = 371
 
 abbrev pub rows-json-ndjson-txt : ℕ
-rows-json-ndjson-txt = 230
+rows-json-ndjson-txt = 372
 
 abbrev pub rows-json-plist-txt-xml : ℕ
-rows-json-plist-txt-xml = 231
+rows-json-plist-txt-xml = 373
 
 abbrev pub rows-json-sh-txt : ℕ
-rows-json-sh-txt = 232
+rows-json-sh-txt = 374
 
 abbrev pub rows-json-txt : ℕ
-rows-json-txt = 233
+rows-json-txt = 375
+
+abbrev pub rows-jsonlz4 : ℕ
+rows-jsonlz4 = 376
 
 abbrev pub rows-jxl : ℕ
-rows-jxl = 234
+rows-jxl = 377
 
 abbrev pub rows-jxr : ℕ
-rows-jxr = 235
+rows-jxr = 378
 
 abbrev pub rows-karbon : ℕ
-rows-karbon = 236
+rows-karbon = 379
 
 abbrev pub rows-kate-oga-ogm-ogv-ogx-opus-spx-vorbis : ℕ
-rows-kate-oga-ogm-ogv-ogx-opus-spx-vorbis = 237
+rows-kate-oga-ogm-ogv-ogx-opus-spx-vorbis = 380
+
+abbrev pub rows-kdb : ℕ
+rows-kdb = 381
+
+abbrev pub rows-kdbx : ℕ
+rows-kdbx = 382
+
+abbrev pub rows-kdump : ℕ
+rows-kdump = 383
 
 abbrev pub rows-kfo : ℕ
-rows-kfo = 238
+rows-kfo = 384
 
 abbrev pub rows-kil : ℕ
-rows-kil = 239
+rows-kil = 385
 
 abbrev pub rows-kml : ℕ
-rows-kml = 240
+rows-kml = 386
 
 abbrev pub rows-kmz : ℕ
-rows-kmz = 241
+rows-kmz = 387
 
 abbrev pub rows-kon : ℕ
-rows-kon = 242
+rows-kon = 388
 
 abbrev pub rows-kpr : ℕ
-rows-kpr = 243
+rows-kpr = 389
 
 abbrev pub rows-kra : ℕ
-rows-kra = 244
+rows-kra = 390
 
 abbrev pub rows-ksp : ℕ
-rows-ksp = 245
+rows-ksp = 391
 
 abbrev pub rows-ktx : ℕ
-rows-ktx = 246
+rows-ktx = 392
 
 abbrev pub rows-ktx2 : ℕ
-rows-ktx2 = 247
+rows-ktx2 = 393
+
+abbrev pub rows-kwaj : ℕ
+rows-kwaj = 394
 
 abbrev pub rows-kwd : ℕ
-rows-kwd = 248
+rows-kwd = 395
+
+abbrev pub rows-las : ℕ
+rows-las = 396
 
 abbrev pub rows-laz : ℕ
-rows-laz = 249
+rows-laz = 397
+
+abbrev pub rows-ldcache : ℕ
+rows-ldcache = 398
+
+abbrev pub rows-ldml : ℕ
+rows-ldml = 399
 
 abbrev pub rows-lfp : ℕ
-rows-lfp = 250
+rows-lfp = 400
 
 abbrev pub rows-lingts : ℕ
-rows-lingts = 251
+rows-lingts = 401
 
 abbrev pub rows-lisp : ℕ
-rows-lisp = 252
+rows-lisp = 402
+
+abbrev pub rows-lit : ℕ
+rows-lit = 403
+
+abbrev pub rows-ll : ℕ
+rows-ll = 404
 
 abbrev pub rows-lnk : ℕ
-rows-lnk = 253
+rows-lnk = 405
 
 abbrev pub rows-lnx : ℕ
-rows-lnx = 254
+rows-lnx = 406
+
+abbrev pub rows-locarch : ℕ
+rows-locarch = 407
+
+abbrev pub rows-lrf : ℕ
+rows-lrf = 408
 
 abbrev pub rows-lrz : ℕ
-rows-lrz = 255
+rows-lrz = 409
+
+abbrev pub rows-lss : ℕ
+rows-lss = 410
 
 abbrev pub rows-lua : ℕ
-rows-lua = 256
+rows-lua = 411
 
 abbrev pub rows-lua-sh-txt : ℕ
-rows-lua-sh-txt = 257
+rows-lua-sh-txt = 412
 
 abbrev pub rows-luac : ℕ
-rows-luac = 258
+rows-luac = 413
 
 abbrev pub rows-luks : ℕ
-rows-luks = 259
+rows-luks = 414
+
+abbrev pub rows-lwo : ℕ
+rows-lwo = 415
 
 abbrev pub rows-lwp : ℕ
-rows-lwp = 260
+rows-lwp = 416
 
 abbrev pub rows-lyx : ℕ
-rows-lyx = 261
+rows-lyx = 417
 
 abbrev pub rows-lz : ℕ
-rows-lz = 262
+rows-lz = 418
 
 abbrev pub rows-lz4 : ℕ
-rows-lz4 = 263
+rows-lz4 = 419
+
+abbrev pub rows-lzfse : ℕ
+rows-lzfse = 420
 
 abbrev pub rows-lzh : ℕ
-rows-lzh = 264
+rows-lzh = 421
 
 abbrev pub rows-lzma : ℕ
-rows-lzma = 265
+rows-lzma = 422
 
 abbrev pub rows-lzo : ℕ
-rows-lzo = 266
+rows-lzo = 423
 
 abbrev pub rows-m : ℕ
-rows-m = 267
+rows-m = 424
 
 abbrev pub rows-m3u8 : ℕ
-rows-m3u8 = 268
+rows-m3u8 = 425
+
+abbrev pub rows-m4 : ℕ
+rows-m4 = 426
 
 abbrev pub rows-m4a : ℕ
-rows-m4a = 269
+rows-m4a = 427
 
 abbrev pub rows-m4a-mp4 : ℕ
-rows-m4a-mp4 = 270
+rows-m4a-mp4 = 428
 
 abbrev pub rows-m4b : ℕ
-rows-m4b = 271
+rows-m4b = 429
 
 abbrev pub rows-m4b-m4v-mp4 : ℕ
-rows-m4b-m4v-mp4 = 272
+rows-m4b-m4v-mp4 = 430
+
+abbrev pub rows-m4u : ℕ
+rows-m4u = 431
 
 abbrev pub rows-m4v : ℕ
-rows-m4v = 273
+rows-m4v = 432
 
 abbrev pub rows-mach : ℕ
-rows-mach = 274
+rows-mach = 433
+
+abbrev pub rows-mat : ℕ
+rows-mat = 434
+
+abbrev pub rows-maud : ℕ
+rows-maud = 435
+
+abbrev pub rows-mbm : ℕ
+rows-mbm = 436
 
 abbrev pub rows-mbtiles : ℕ
-rows-mbtiles = 275
+rows-mbtiles = 437
 
 abbrev pub rows-mdb : ℕ
-rows-mdb = 276
+rows-mdb = 438
 
 abbrev pub rows-mdi : ℕ
-rows-mdi = 277
+rows-mdi = 439
+
+abbrev pub rows-mdl : ℕ
+rows-mdl = 440
 
 abbrev pub rows-med : ℕ
-rows-med = 278
+rows-med = 441
+
+abbrev pub rows-memdmp : ℕ
+rows-memdmp = 442
 
 abbrev pub rows-meta4 : ℕ
-rows-meta4 = 279
+rows-meta4 = 443
+
+abbrev pub rows-metalink : ℕ
+rows-metalink = 444
+
+abbrev pub rows-mf : ℕ
+rows-mf = 445
 
 abbrev pub rows-midi : ℕ
-rows-midi = 280
+rows-midi = 446
+
+abbrev pub rows-mids : ℕ
+rows-mids = 447
+
+abbrev pub rows-mif : ℕ
+rows-mif = 448
 
 abbrev pub rows-miff : ℕ
-rows-miff = 281
+rows-miff = 449
+
+abbrev pub rows-minisig : ℕ
+rows-minisig = 450
 
 abbrev pub rows-mj2 : ℕ
-rows-mj2 = 282
+rows-mj2 = 451
 
 abbrev pub rows-mk : ℕ
-rows-mk = 283
+rows-mk = 452
 
 abbrev pub rows-mkv : ℕ
-rows-mkv = 284
+rows-mkv = 453
 
 abbrev pub rows-ml : ℕ
-rows-ml = 285
+rows-ml = 454
+
+abbrev pub rows-mm : ℕ
+rows-mm = 455
 
 abbrev pub rows-mmf : ℕ
-rows-mmf = 286
+rows-mmf = 456
 
 abbrev pub rows-mml : ℕ
-rows-mml = 287
+rows-mml = 457
+
+abbrev pub rows-mmm : ℕ
+rows-mmm = 458
 
 abbrev pub rows-mng : ℕ
-rows-mng = 288
+rows-mng = 459
 
 abbrev pub rows-mo : ℕ
-rows-mo = 289
+rows-mo = 460
 
 abbrev pub rows-mo3 : ℕ
-rows-mo3 = 290
+rows-mo3 = 461
 
 abbrev pub rows-mobi : ℕ
-rows-mobi = 291
+rows-mobi = 462
 
 abbrev pub rows-model-step : ℕ
-rows-model-step = 292
+rows-model-step = 463
+
+abbrev pub rows-mol2 : ℕ
+rows-mol2 = 464
 
 abbrev pub rows-mov : ℕ
-rows-mov = 293
+rows-mov = 465
+
+abbrev pub rows-movie : ℕ
+rows-movie = 466
 
 abbrev pub rows-mp3 : ℕ
-rows-mp3 = 294
+rows-mp3 = 467
+
+abbrev pub rows-mp3-mp3old : ℕ
+rows-mp3-mp3old = 468
 
 abbrev pub rows-mp4 : ℕ
-rows-mp4 = 295
+rows-mp4 = 469
 
 abbrev pub rows-mpc : ℕ
-rows-mpc = 296
+rows-mpc = 470
+
+abbrev pub rows-mpd : ℕ
+rows-mpd = 471
 
 abbrev pub rows-mpg : ℕ
-rows-mpg = 297
+rows-mpg = 472
 
 abbrev pub rows-mpp : ℕ
-rows-mpp = 298
+rows-mpp = 473
+
+abbrev pub rows-mpq : ℕ
+rows-mpq = 474
+
+abbrev pub rows-ms3d : ℕ
+rows-ms3d = 475
+
+abbrev pub rows-msa : ℕ
+rows-msa = 476
+
+abbrev pub rows-msbuild : ℕ
+rows-msbuild = 477
+
+abbrev pub rows-mscx : ℕ
+rows-mscx = 478
 
 abbrev pub rows-mscz : ℕ
-rows-mscz = 299
+rows-mscz = 479
 
 abbrev pub rows-msg : ℕ
-rows-msg = 300
+rows-msg = 480
 
 abbrev pub rows-mtm : ℕ
-rows-mtm = 301
+rows-mtm = 481
 
 abbrev pub rows-mtn : ℕ
-rows-mtn = 302
+rows-mtn = 482
+
+abbrev pub rows-mup : ℕ
+rows-mup = 483
+
+abbrev pub rows-musicxml : ℕ
+rows-musicxml = 484
+
+abbrev pub rows-mve : ℕ
+rows-mve = 485
 
 abbrev pub rows-mvg : ℕ
-rows-mvg = 303
+rows-mvg = 486
 
 abbrev pub rows-mxf : ℕ
-rows-mxf = 304
+rows-mxf = 487
+
+abbrev pub rows-myi : ℕ
+rows-myi = 488
 
 abbrev pub rows-n64 : ℕ
-rows-n64 = 305
+rows-n64 = 489
+
+abbrev pub rows-nbold : ℕ
+rows-nbold = 490
+
+abbrev pub rows-nc : ℕ
+rows-nc = 491
+
+abbrev pub rows-ncx : ℕ
+rows-ncx = 492
 
 abbrev pub rows-ndjson : ℕ
-rows-ndjson = 306
+rows-ndjson = 493
+
+abbrev pub rows-neko : ℕ
+rows-neko = 494
 
 abbrev pub rows-nes : ℕ
-rows-nes = 307
+rows-nes = 495
+
+abbrev pub rows-netmon : ℕ
+rows-netmon = 496
+
+abbrev pub rows-nex : ℕ
+rows-nex = 497
 
 abbrev pub rows-nft : ℕ
-rows-nft = 308
+rows-nft = 498
+
+abbrev pub rows-niff : ℕ
+rows-niff = 499
 
 abbrev pub rows-npy : ℕ
-rows-npy = 309
+rows-npy = 500
 
 abbrev pub rows-nsc : ℕ
-rows-nsc = 310
+rows-nsc = 501
 
 abbrev pub rows-nsf : ℕ
-rows-nsf = 311
+rows-nsf = 502
+
+abbrev pub rows-nso : ℕ
+rows-nso = 503
+
+abbrev pub rows-nsv : ℕ
+rows-nsv = 504
 
 abbrev pub rows-nut : ℕ
-rows-nut = 312
+rows-nut = 505
 
 abbrev pub rows-nzb : ℕ
-rows-nzb = 313
+rows-nzb = 506
 
 abbrev pub rows-o : ℕ
-rows-o = 314
+rows-o = 507
 
 abbrev pub rows-obj : ℕ
-rows-obj = 315
+rows-obj = 508
 
 abbrev pub rows-odb : ℕ
-rows-odb = 316
+rows-odb = 509
 
 abbrev pub rows-odc : ℕ
-rows-odc = 317
+rows-odc = 510
 
 abbrev pub rows-odf : ℕ
-rows-odf = 318
+rows-odf = 511
 
 abbrev pub rows-odg : ℕ
-rows-odg = 319
+rows-odg = 512
 
 abbrev pub rows-odg-zip : ℕ
-rows-odg-zip = 320
+rows-odg-zip = 513
 
 abbrev pub rows-odi : ℕ
-rows-odi = 321
+rows-odi = 514
 
 abbrev pub rows-odm : ℕ
-rows-odm = 322
+rows-odm = 515
 
 abbrev pub rows-odm-ott : ℕ
-rows-odm-ott = 323
+rows-odm-ott = 516
 
 abbrev pub rows-odp : ℕ
-rows-odp = 324
+rows-odp = 517
 
 abbrev pub rows-odp-zip : ℕ
-rows-odp-zip = 325
+rows-odp-zip = 518
 
 abbrev pub rows-ods : ℕ
-rows-ods = 326
+rows-ods = 519
 
 abbrev pub rows-ods-zip : ℕ
-rows-ods-zip = 327
+rows-ods-zip = 520
 
 abbrev pub rows-odt : ℕ
-rows-odt = 328
+rows-odt = 521
 
 abbrev pub rows-odt-zip : ℕ
-rows-odt-zip = 329
+rows-odt-zip = 522
 
 abbrev pub rows-oga : ℕ
-rows-oga = 330
+rows-oga = 523
 
 abbrev pub rows-ogg : ℕ
-rows-ogg = 331
+rows-ogg = 524
 
 abbrev pub rows-ogg-ogv : ℕ
-rows-ogg-ogv = 332
+rows-ogg-ogv = 525
 
 abbrev pub rows-ogm : ℕ
-rows-ogm = 333
+rows-ogm = 526
 
 abbrev pub rows-ogv : ℕ
-rows-ogv = 334
+rows-ogv = 527
+
+abbrev pub rows-okt : ℕ
+rows-okt = 528
 
 abbrev pub rows-openssh : ℕ
-rows-openssh = 335
+rows-openssh = 529
+
+abbrev pub rows-openssl : ℕ
+rows-openssl = 530
+
+abbrev pub rows-opf : ℕ
+rows-opf = 531
 
 abbrev pub rows-opml : ℕ
-rows-opml = 336
+rows-opml = 532
 
 abbrev pub rows-opus : ℕ
-rows-opus = 337
+rows-opus = 533
 
 abbrev pub rows-ora : ℕ
-rows-ora = 338
+rows-ora = 534
 
 abbrev pub rows-orc : ℕ
-rows-orc = 339
+rows-orc = 535
 
 abbrev pub rows-orf : ℕ
-rows-orf = 340
+rows-orf = 536
+
+abbrev pub rows-os2hlp : ℕ
+rows-os2hlp = 537
+
+abbrev pub rows-os2inf : ℕ
+rows-os2inf = 538
+
+abbrev pub rows-os2msg : ℕ
+rows-os2msg = 539
+
+abbrev pub rows-osm : ℕ
+rows-osm = 540
 
 abbrev pub rows-otf : ℕ
-rows-otf = 341
+rows-otf = 541
 
 abbrev pub rows-otg : ℕ
-rows-otg = 342
+rows-otg = 542
 
 abbrev pub rows-otp : ℕ
-rows-otp = 343
+rows-otp = 543
 
 abbrev pub rows-ots : ℕ
-rows-ots = 344
+rows-ots = 544
 
 abbrev pub rows-ott : ℕ
-rows-ott = 345
+rows-ott = 545
 
 abbrev pub rows-owx : ℕ
-rows-owx = 346
+rows-owx = 546
 
 abbrev pub rows-p12 : ℕ
-rows-p12 = 347
+rows-p12 = 547
 
 abbrev pub rows-p7b-p7c : ℕ
-rows-p7b-p7c = 348
+rows-p7b-p7c = 548
 
 abbrev pub rows-p8 : ℕ
-rows-p8 = 349
+rows-p8 = 549
+
+abbrev pub rows-pack : ℕ
+rows-pack = 550
 
 abbrev pub rows-pack200 : ℕ
-rows-pack200 = 350
+rows-pack200 = 551
+
+abbrev pub rows-paf : ℕ
+rows-paf = 552
+
+abbrev pub rows-pak : ℕ
+rows-pak = 553
+
+abbrev pub rows-pam : ℕ
+rows-pam = 554
+
+abbrev pub rows-par : ℕ
+rows-par = 555
 
 abbrev pub rows-par2 : ℕ
-rows-par2 = 351
+rows-par2 = 556
 
 abbrev pub rows-parquet : ℕ
-rows-parquet = 352
+rows-parquet = 557
 
 abbrev pub rows-pat : ℕ
-rows-pat = 353
+rows-pat = 558
 
 abbrev pub rows-pcap : ℕ
-rows-pcap = 354
+rows-pcap = 559
 
 abbrev pub rows-pcapng : ℕ
-rows-pcapng = 355
+rows-pcapng = 560
+
+abbrev pub rows-pcf : ℕ
+rows-pcf = 561
+
+abbrev pub rows-pch : ℕ
+rows-pch = 562
+
+abbrev pub rows-pcl : ℕ
+rows-pcl = 563
 
 abbrev pub rows-pcx : ℕ
-rows-pcx = 356
+rows-pcx = 564
+
+abbrev pub rows-pdb : ℕ
+rows-pdb = 565
+
+abbrev pub rows-pdbmol : ℕ
+rows-pdbmol = 566
 
 abbrev pub rows-pdf : ℕ
-rows-pdf = 357
+rows-pdf = 567
+
+abbrev pub rows-pdn : ℕ
+rows-pdn = 568
+
+abbrev pub rows-pef : ℕ
+rows-pef = 569
 
 abbrev pub rows-pem : ℕ
-rows-pem = 358
+rows-pem = 570
+
+abbrev pub rows-pf2 : ℕ
+rows-pf2 = 571
 
 abbrev pub rows-pfa-pfb : ℕ
-rows-pfa-pfb = 359
+rows-pfa-pfb = 572
 
 abbrev pub rows-pfb : ℕ
-rows-pfb = 360
+rows-pfb = 573
+
+abbrev pub rows-pfmap : ℕ
+rows-pfmap = 574
+
+abbrev pub rows-pgdump : ℕ
+rows-pgdump = 575
 
 abbrev pub rows-pgf : ℕ
-rows-pgf = 361
+rows-pgf = 576
+
+abbrev pub rows-pgn : ℕ
+rows-pgn = 577
 
 abbrev pub rows-pgp : ℕ
-rows-pgp = 362
+rows-pgp = 578
+
+abbrev pub rows-pgp-pgpmsg : ℕ
+rows-pgp-pgpmsg = 579
+
+abbrev pub rows-pgpsig-sig : ℕ
+rows-pgpsig-sig = 580
 
 abbrev pub rows-php : ℕ
-rows-php = 363
+rows-php = 581
 
 abbrev pub rows-php-svg-txt-xhtml-xml : ℕ
-rows-php-svg-txt-xhtml-xml = 364
+rows-php-svg-txt-xhtml-xml = 582
+
+abbrev pub rows-pic : ℕ
+rows-pic = 583
+
+abbrev pub rows-pjl : ℕ
+rows-pjl = 584
+
+abbrev pub rows-pkgstream : ℕ
+rows-pkgstream = 585
+
+abbrev pub rows-pkl : ℕ
+rows-pkl = 586
 
 abbrev pub rows-pkpass : ℕ
-rows-pkpass = 365
+rows-pkpass = 587
 
 abbrev pub rows-pl : ℕ
-rows-pl = 366
+rows-pl = 588
 
 abbrev pub rows-plist : ℕ
-rows-plist = 367
+rows-plist = 589
 
 abbrev pub rows-plist-txt-xml : ℕ
-rows-plist-txt-xml = 368
+rows-plist-txt-xml = 590
 
 abbrev pub rows-pls : ℕ
-rows-pls = 369
+rows-pls = 591
+
+abbrev pub rows-ply : ℕ
+rows-ply = 592
 
 abbrev pub rows-png : ℕ
-rows-png = 370
+rows-png = 593
 
 abbrev pub rows-pnm : ℕ
-rows-pnm = 371
+rows-pnm = 594
+
+abbrev pub rows-pom : ℕ
+rows-pom = 595
+
+abbrev pub rows-ppd : ℕ
+rows-ppd = 596
+
+abbrev pub rows-ppf : ℕ
+rows-ppf = 597
+
+abbrev pub rows-ppk : ℕ
+rows-ppk = 598
 
 abbrev pub rows-ppt : ℕ
-rows-ppt = 372
+rows-ppt = 599
 
 abbrev pub rows-pptm : ℕ
-rows-pptm = 373
+rows-pptm = 600
 
 abbrev pub rows-pptx : ℕ
-rows-pptx = 374
+rows-pptx = 601
 
 abbrev pub rows-ppu : ℕ
-rows-ppu = 375
+rows-ppu = 602
+
+abbrev pub rows-profdata : ℕ
+rows-profdata = 603
+
+abbrev pub rows-profraw : ℕ
+rows-profraw = 604
 
 abbrev pub rows-ps : ℕ
-rows-ps = 376
+rows-ps = 605
 
 abbrev pub rows-ps-sh-txt : ℕ
-rows-ps-sh-txt = 377
+rows-ps-sh-txt = 606
 
 abbrev pub rows-ps-txt : ℕ
-rows-ps-txt = 378
+rows-ps-txt = 607
 
 abbrev pub rows-ps1 : ℕ
-rows-ps1 = 379
+rows-ps1 = 608
 
 abbrev pub rows-psd : ℕ
-rows-psd = 380
+rows-psd = 609
+
+abbrev pub rows-psf : ℕ
+rows-psf = 610
+
+abbrev pub rows-psf1-psf2 : ℕ
+rows-psf1-psf2 = 611
 
 abbrev pub rows-psp : ℕ
-rows-psp = 381
+rows-psp = 612
 
 abbrev pub rows-pst : ℕ
-rows-pst = 382
+rows-pst = 613
 
 abbrev pub rows-psw : ℕ
-rows-psw = 383
+rows-psw = 614
+
+abbrev pub rows-psx : ℕ
+rows-psx = 615
 
 abbrev pub rows-pub : ℕ
-rows-pub = 384
+rows-pub = 616
 
 abbrev pub rows-puml : ℕ
-rows-puml = 385
+rows-puml = 617
+
+abbrev pub rows-pvf : ℕ
+rows-pvf = 618
+
+abbrev pub rows-pvr : ℕ
+rows-pvr = 619
+
+abbrev pub rows-pwg : ℕ
+rows-pwg = 620
 
 abbrev pub rows-py : ℕ
-rows-py = 386
+rows-py = 621
 
 abbrev pub rows-py-sh-zip : ℕ
-rows-py-sh-zip = 387
+rows-py-sh-zip = 622
 
 abbrev pub rows-pyc : ℕ
-rows-pyc = 388
+rows-pyc = 623
 
 abbrev pub rows-pysu : ℕ
-rows-pysu = 389
+rows-pysu = 624
 
 abbrev pub rows-qcow2 : ℕ
-rows-qcow2 = 390
+rows-qcow2 = 625
 
 abbrev pub rows-qed : ℕ
-rows-qed = 391
+rows-qed = 626
 
 abbrev pub rows-qgz : ℕ
-rows-qgz = 392
+rows-qgz = 627
 
 abbrev pub rows-qml : ℕ
-rows-qml = 393
+rows-qml = 628
 
 abbrev pub rows-qoi : ℕ
-rows-qoi = 394
+rows-qoi = 629
 
 abbrev pub rows-qp : ℕ
-rows-qp = 395
+rows-qp = 630
+
+abbrev pub rows-qrc : ℕ
+rows-qrc = 631
 
 abbrev pub rows-qti : ℕ
-rows-qti = 396
+rows-qti = 632
 
 abbrev pub rows-qtl : ℕ
-rows-qtl = 397
+rows-qtl = 633
 
 abbrev pub rows-r : ℕ
-rows-r = 398
+rows-r = 634
 
 abbrev pub rows-r3d : ℕ
-rows-r3d = 399
+rows-r3d = 635
 
 abbrev pub rows-ra : ℕ
-rows-ra = 400
+rows-ra = 636
 
 abbrev pub rows-raf : ℕ
-rows-raf = 401
+rows-raf = 637
 
 abbrev pub rows-raku : ℕ
-rows-raku = 402
+rows-raku = 638
 
 abbrev pub rows-raml : ℕ
-rows-raml = 403
+rows-raml = 639
 
 abbrev pub rows-rar : ℕ
-rows-rar = 404
+rows-rar = 640
 
 abbrev pub rows-ras : ℕ
-rows-ras = 405
+rows-ras = 641
 
 abbrev pub rows-rb : ℕ
-rows-rb = 406
+rows-rb = 642
+
+abbrev pub rows-rdata : ℕ
+rows-rdata = 643
+
+abbrev pub rows-rdb : ℕ
+rows-rdb = 644
+
+abbrev pub rows-rdf : ℕ
+rows-rdf = 645
+
+abbrev pub rows-reg : ℕ
+rows-reg = 646
+
+abbrev pub rows-regf : ℕ
+rows-regf = 647
+
+abbrev pub rows-rf64 : ℕ
+rows-rf64 = 648
+
+abbrev pub rows-rifx-wav : ℕ
+rows-rifx-wav = 649
 
 abbrev pub rows-rkt : ℕ
-rows-rkt = 407
+rows-rkt = 650
 
 abbrev pub rows-rm : ℕ
-rows-rm = 408
+rows-rm = 651
+
+abbrev pub rows-rmeta : ℕ
+rows-rmeta = 652
+
+abbrev pub rows-rmi : ℕ
+rows-rmi = 653
+
+abbrev pub rows-rng : ℕ
+rows-rng = 654
+
+abbrev pub rows-roff : ℕ
+rows-roff = 655
+
+abbrev pub rows-romfs : ℕ
+rows-romfs = 656
+
+abbrev pub rows-root : ℕ
+rows-root = 657
+
+abbrev pub rows-roq : ℕ
+rows-roq = 658
 
 abbrev pub rows-rpm : ℕ
-rows-rpm = 409
+rows-rpm = 659
 
 abbrev pub rows-rq : ℕ
-rows-rq = 410
+rows-rq = 660
+
+abbrev pub rows-rrd : ℕ
+rows-rrd = 661
 
 abbrev pub rows-rss : ℕ
-rows-rss = 411
+rows-rss = 662
 
 abbrev pub rows-rtf : ℕ
-rows-rtf = 412
+rows-rtf = 663
+
+abbrev pub rows-rvz : ℕ
+rows-rvz = 664
 
 abbrev pub rows-rw2 : ℕ
-rows-rw2 = 413
+rows-rw2 = 665
+
+abbrev pub rows-rz : ℕ
+rows-rz = 666
 
 abbrev pub rows-safetensors : ℕ
-rows-safetensors = 414
+rows-safetensors = 667
+
+abbrev pub rows-sam : ℕ
+rows-sam = 668
 
 abbrev pub rows-sami : ℕ
-rows-sami = 415
+rows-sami = 669
+
+abbrev pub rows-sap : ℕ
+rows-sap = 670
+
+abbrev pub rows-sar : ℕ
+rows-sar = 671
 
 abbrev pub rows-sav : ℕ
-rows-sav = 416
+rows-sav = 672
+
+abbrev pub rows-sbml : ℕ
+rows-sbml = 673
 
 abbrev pub rows-scala : ℕ
-rows-scala = 417
+rows-scala = 674
 
 abbrev pub rows-scc : ℕ
-rows-scc = 418
+rows-scc = 675
+
+abbrev pub rows-scf : ℕ
+rows-scf = 676
+
+abbrev pub rows-sch : ℕ
+rows-sch = 677
 
 abbrev pub rows-scm : ℕ
-rows-scm = 419
+rows-scm = 678
+
+abbrev pub rows-scsyn : ℕ
+rows-scsyn = 679
+
+abbrev pub rows-sdi : ℕ
+rows-sdi = 680
+
+abbrev pub rows-sdp : ℕ
+rows-sdp = 681
+
+abbrev pub rows-sds : ℕ
+rows-sds = 682
 
 abbrev pub rows-sdw : ℕ
-rows-sdw = 420
+rows-sdw = 683
 
 abbrev pub rows-sed : ℕ
-rows-sed = 421
+rows-sed = 684
+
+abbrev pub rows-sereal : ℕ
+rows-sereal = 685
 
 abbrev pub rows-sf2 : ℕ
-rows-sf2 = 422
+rows-sf2 = 686
+
+abbrev pub rows-sfd : ℕ
+rows-sfd = 687
 
 abbrev pub rows-sgf : ℕ
-rows-sgf = 423
+rows-sgf = 688
 
 abbrev pub rows-sgi : ℕ
-rows-sgi = 424
+rows-sgi = 689
 
 abbrev pub rows-sh : ℕ
-rows-sh = 425
+rows-sh = 690
 
 abbrev pub rows-sh-txt : ℕ
-rows-sh-txt = 426
+rows-sh-txt = 691
+
+abbrev pub rows-shn : ℕ
+rows-shn = 692
 
 abbrev pub rows-shp : ℕ
-rows-shp = 427
+rows-shp = 693
 
 abbrev pub rows-shw : ℕ
-rows-shw = 428
+rows-shw = 694
 
 abbrev pub rows-shx : ℕ
-rows-shx = 429
+rows-shx = 695
 
 abbrev pub rows-sid : ℕ
-rows-sid = 430
+rows-sid = 696
 
 abbrev pub rows-sig : ℕ
-rows-sig = 431
+rows-sig = 697
+
+abbrev pub rows-simg : ℕ
+rows-simg = 698
+
+abbrev pub rows-sisx : ℕ
+rows-sisx = 699
+
+abbrev pub rows-sit : ℕ
+rows-sit = 700
 
 abbrev pub rows-sk : ℕ
-rows-sk = 432
+rows-sk = 701
+
+abbrev pub rows-sla : ℕ
+rows-sla = 702
 
 abbrev pub rows-slk : ℕ
-rows-slk = 433
+rows-slk = 703
+
+abbrev pub rows-smil : ℕ
+rows-smil = 704
 
 abbrev pub rows-smk : ℕ
-rows-smk = 434
+rows-smk = 705
+
+abbrev pub rows-smp : ℕ
+rows-smp = 706
+
+abbrev pub rows-snoop : ℕ
+rows-snoop = 707
 
 abbrev pub rows-so : ℕ
-rows-so = 435
+rows-so = 708
 
 abbrev pub rows-spc : ℕ
-rows-spc = 436
+rows-spc = 709
+
+abbrev pub rows-spd : ℕ
+rows-spd = 710
+
+abbrev pub rows-sph : ℕ
+rows-sph = 711
+
+abbrev pub rows-spv : ℕ
+rows-spv = 712
 
 abbrev pub rows-spx : ℕ
-rows-spx = 437
+rows-spx = 713
 
 abbrev pub rows-sqlite : ℕ
-rows-sqlite = 438
+rows-sqlite = 714
 
 abbrev pub rows-sqlite2 : ℕ
-rows-sqlite2 = 439
+rows-sqlite2 = 715
 
 abbrev pub rows-squashfs : ℕ
-rows-squashfs = 440
+rows-squashfs = 716
 
 abbrev pub rows-srpm : ℕ
-rows-srpm = 441
+rows-srpm = 717
 
 abbrev pub rows-srt : ℕ
-rows-srt = 442
+rows-srt = 718
 
 abbrev pub rows-srx : ℕ
-rows-srx = 443
+rows-srx = 719
 
 abbrev pub rows-ssa : ℕ
-rows-ssa = 444
+rows-ssa = 720
+
+abbrev pub rows-ssh1 : ℕ
+rows-ssh1 = 721
+
+abbrev pub rows-ssh2pub-sshpub : ℕ
+rows-ssh2pub-sshpub = 722
+
+abbrev pub rows-stex : ℕ
+rows-stex = 723
 
 abbrev pub rows-stl : ℕ
-rows-stl = 445
+rows-stl = 724
 
 abbrev pub rows-subviewer : ℕ
-rows-subviewer = 446
+rows-subviewer = 725
 
 abbrev pub rows-svg : ℕ
-rows-svg = 447
+rows-svg = 726
+
+abbrev pub rows-svm : ℕ
+rows-svm = 727
+
+abbrev pub rows-svndump : ℕ
+rows-svndump = 728
 
 abbrev pub rows-swf : ℕ
-rows-swf = 448
+rows-swf = 729
+
+abbrev pub rows-swf-swfz : ℕ
+rows-swf-swfz = 730
 
 abbrev pub rows-sxc : ℕ
-rows-sxc = 449
+rows-sxc = 731
 
 abbrev pub rows-sxd : ℕ
-rows-sxd = 450
+rows-sxd = 732
 
 abbrev pub rows-sxi : ℕ
-rows-sxi = 451
+rows-sxi = 733
 
 abbrev pub rows-sxm : ℕ
-rows-sxm = 452
+rows-sxm = 734
 
 abbrev pub rows-sxw : ℕ
-rows-sxw = 453
+rows-sxw = 735
+
+abbrev pub rows-syzygy : ℕ
+rows-syzygy = 736
 
 abbrev pub rows-sz : ℕ
-rows-sz = 454
+rows-sz = 737
+
+abbrev pub rows-szdd : ℕ
+rows-szdd = 738
+
+abbrev pub rows-szx : ℕ
+rows-szx = 739
 
 abbrev pub rows-t2t : ℕ
-rows-t2t = 455
+rows-t2t = 740
+
+abbrev pub rows-t602 : ℕ
+rows-t602 = 741
 
 abbrev pub rows-tar : ℕ
-rows-tar = 456
+rows-tar = 742
+
+abbrev pub rows-tbi : ℕ
+rows-tbi = 743
+
+abbrev pub rows-tcb : ℕ
+rows-tcb = 744
+
+abbrev pub rows-tcf : ℕ
+rows-tcf = 745
+
+abbrev pub rows-tch : ℕ
+rows-tch = 746
 
 abbrev pub rows-tcl : ℕ
-rows-tcl = 457
+rows-tcl = 747
+
+abbrev pub rows-tct : ℕ
+rows-tct = 748
+
+abbrev pub rows-tdb : ℕ
+rows-tdb = 749
+
+abbrev pub rows-tei : ℕ
+rows-tei = 750
 
 abbrev pub rows-terminfo : ℕ
-rows-terminfo = 458
+rows-terminfo = 751
 
 abbrev pub rows-texi : ℕ
-rows-texi = 459
+rows-texi = 752
 
 abbrev pub rows-texlua : ℕ
-rows-texlua = 460
+rows-texlua = 753
+
+abbrev pub rows-tgif : ℕ
+rows-tgif = 754
+
+abbrev pub rows-tib : ℕ
+rows-tib = 755
 
 abbrev pub rows-tif : ℕ
-rows-tif = 461
+rows-tif = 756
 
 abbrev pub rows-tnef : ℕ
-rows-tnef = 462
+rows-tnef = 757
 
 abbrev pub rows-torrent : ℕ
-rows-torrent = 463
+rows-torrent = 758
+
+abbrev pub rows-trd : ℕ
+rows-trd = 759
 
 abbrev pub rows-tres : ℕ
-rows-tres = 464
+rows-tres = 760
+
+abbrev pub rows-trustdb : ℕ
+rows-trustdb = 761
 
 abbrev pub rows-ts : ℕ
-rows-ts = 465
+rows-ts = 762
 
 abbrev pub rows-tscn : ℕ
-rows-tscn = 466
+rows-tscn = 763
 
 abbrev pub rows-tta : ℕ
-rows-tta = 467
+rows-tta = 764
 
 abbrev pub rows-ttc : ℕ
-rows-ttc = 468
+rows-ttc = 765
 
 abbrev pub rows-ttf : ℕ
-rows-ttf = 469
+rows-ttf = 766
+
+abbrev pub rows-ttml : ℕ
+rows-ttml = 767
 
 abbrev pub rows-ttx : ℕ
-rows-ttx = 470
+rows-ttx = 768
 
 abbrev pub rows-txt : ℕ
-rows-txt = 471
+rows-txt = 769
 
 abbrev pub rows-txt-xml : ℕ
-rows-txt-xml = 472
+rows-txt-xml = 770
 
 abbrev pub rows-txt-yaml : ℕ
-rows-txt-yaml = 473
+rows-txt-yaml = 771
+
+abbrev pub rows-txw : ℕ
+rows-txw = 772
+
+abbrev pub rows-typelib : ℕ
+rows-typelib = 773
 
 abbrev pub rows-tzif : ℕ
-rows-tzif = 474
+rows-tzif = 774
+
+abbrev pub rows-tzx : ℕ
+rows-tzx = 775
+
+abbrev pub rows-ubi : ℕ
+rows-ubi = 776
+
+abbrev pub rows-ubifs : ℕ
+rows-ubifs = 777
+
+abbrev pub rows-uf2 : ℕ
+rows-uf2 = 778
+
+abbrev pub rows-ui : ℕ
+rows-ui = 779
+
+abbrev pub rows-uimage : ℕ
+rows-uimage = 780
 
 abbrev pub rows-ult : ℕ
-rows-ult = 475
+rows-ult = 781
+
+abbrev pub rows-ulx : ℕ
+rows-ulx = 782
+
+abbrev pub rows-umx : ℕ
+rows-umx = 783
+
+abbrev pub rows-ups : ℕ
+rows-ups = 784
+
+abbrev pub rows-url : ℕ
+rows-url = 785
+
+abbrev pub rows-usda : ℕ
+rows-usda = 786
 
 abbrev pub rows-usdc : ℕ
-rows-usdc = 476
+rows-usdc = 787
+
+abbrev pub rows-uu : ℕ
+rows-uu = 788
+
+abbrev pub rows-vcdiff : ℕ
+rows-vcdiff = 789
 
 abbrev pub rows-vcf : ℕ
-rows-vcf = 477
+rows-vcf = 790
+
+abbrev pub rows-vcfg : ℕ
+rows-vcfg = 791
+
+abbrev pub rows-vdex : ℕ
+rows-vdex = 792
 
 abbrev pub rows-vdi : ℕ
-rows-vdi = 478
+rows-vdi = 793
+
+abbrev pub rows-vdr : ℕ
+rows-vdr = 794
+
+abbrev pub rows-vgm : ℕ
+rows-vgm = 795
 
 abbrev pub rows-vhd : ℕ
-rows-vhd = 479
+rows-vhd = 796
 
 abbrev pub rows-vhdx : ℕ
-rows-vhdx = 480
+rows-vhdx = 797
 
-abbrev pub rows-vmdk : ℕ
-rows-vmdk = 481
+abbrev pub rows-vips : ℕ
+rows-vips = 798
+
+abbrev pub rows-vmdk-vmdkcow : ℕ
+rows-vmdk-vmdkcow = 799
 
 abbrev pub rows-vnt : ℕ
-rows-vnt = 482
+rows-vnt = 800
 
 abbrev pub rows-voc : ℕ
-rows-voc = 483
+rows-voc = 801
+
+abbrev pub rows-vpk : ℕ
+rows-vpk = 802
 
 abbrev pub rows-vsd : ℕ
-rows-vsd = 484
+rows-vsd = 803
 
 abbrev pub rows-vsdx : ℕ
-rows-vsdx = 485
+rows-vsdx = 804
 
 abbrev pub rows-vsdx-zip : ℕ
-rows-vsdx-zip = 486
+rows-vsdx-zip = 805
+
+abbrev pub rows-vtf : ℕ
+rows-vtf = 806
 
 abbrev pub rows-vtt : ℕ
-rows-vtt = 487
+rows-vtt = 807
+
+abbrev pub rows-w64 : ℕ
+rows-w64 = 808
 
 abbrev pub rows-wad : ℕ
-rows-wad = 488
+rows-wad = 809
 
 abbrev pub rows-warc : ℕ
-rows-warc = 489
+rows-warc = 810
 
 abbrev pub rows-wasm : ℕ
-rows-wasm = 490
+rows-wasm = 811
 
 abbrev pub rows-wav : ℕ
-rows-wav = 491
+rows-wav = 812
 
 abbrev pub rows-webm : ℕ
-rows-webm = 492
+rows-webm = 813
 
 abbrev pub rows-webp : ℕ
-rows-webp = 493
+rows-webp = 814
 
 abbrev pub rows-wiiwad : ℕ
-rows-wiiwad = 494
+rows-wiiwad = 815
 
 abbrev pub rows-wim : ℕ
-rows-wim = 495
+rows-wim = 816
 
 abbrev pub rows-wmf : ℕ
-rows-wmf = 496
+rows-wmf = 817
 
 abbrev pub rows-wmv : ℕ
-rows-wmv = 497
+rows-wmv = 818
 
 abbrev pub rows-woff : ℕ
-rows-woff = 498
+rows-woff = 819
 
 abbrev pub rows-woff2 : ℕ
-rows-woff2 = 499
+rows-woff2 = 820
+
+abbrev pub rows-wpd : ℕ
+rows-wpd = 821
+
+abbrev pub rows-wpg : ℕ
+rows-wpg = 822
 
 abbrev pub rows-wpl : ℕ
-rows-wpl = 500
+rows-wpl = 823
+
+abbrev pub rows-wpm : ℕ
+rows-wpm = 824
+
+abbrev pub rows-wps : ℕ
+rows-wps = 825
+
+abbrev pub rows-wreg : ℕ
+rows-wreg = 826
+
+abbrev pub rows-wri : ℕ
+rows-wri = 827
 
 abbrev pub rows-wrl : ℕ
-rows-wrl = 501
+rows-wrl = 828
+
+abbrev pub rows-wsdl : ℕ
+rows-wsdl = 829
 
 abbrev pub rows-wtv : ℕ
-rows-wtv = 502
+rows-wtv = 830
 
 abbrev pub rows-wv : ℕ
-rows-wv = 503
+rows-wv = 831
+
+abbrev pub rows-wve : ℕ
+rows-wve = 832
+
+abbrev pub rows-x3d : ℕ
+rows-x3d = 833
+
+abbrev pub rows-x3dv : ℕ
+rows-x3dv = 834
 
 abbrev pub rows-x3f : ℕ
-rows-x3f = 504
+rows-x3f = 835
 
 abbrev pub rows-xap : ℕ
-rows-xap = 505
+rows-xap = 836
 
 abbrev pub rows-xar : ℕ
-rows-xar = 506
+rows-xar = 837
+
+abbrev pub rows-xbe : ℕ
+rows-xbe = 838
+
+abbrev pub rows-xbel : ℕ
+rows-xbel = 839
+
+abbrev pub rows-xbt : ℕ
+rows-xbt = 840
 
 abbrev pub rows-xcf : ℕ
-rows-xcf = 507
+rows-xcf = 841
+
+abbrev pub rows-xex : ℕ
+rows-xex = 842
 
 abbrev pub rows-xhtml : ℕ
-rows-xhtml = 508
+rows-xhtml = 843
+
+abbrev pub rows-xi : ℕ
+rows-xi = 844
+
+abbrev pub rows-xib : ℕ
+rows-xib = 845
+
+abbrev pub rows-xisf : ℕ
+rows-xisf = 846
+
+abbrev pub rows-xliff : ℕ
+rows-xliff = 847
 
 abbrev pub rows-xls : ℕ
-rows-xls = 509
+rows-xls = 848
 
 abbrev pub rows-xlsb : ℕ
-rows-xlsb = 510
+rows-xlsb = 849
 
 abbrev pub rows-xlsm : ℕ
-rows-xlsm = 511
+rows-xlsm = 850
 
 abbrev pub rows-xlsx : ℕ
-rows-xlsx = 512
+rows-xlsx = 851
 
 abbrev pub rows-xm : ℕ
-rows-xm = 513
+rows-xm = 852
+
+abbrev pub rows-xmcd : ℕ
+rows-xmcd = 853
+
+abbrev pub rows-xmf : ℕ
+rows-xmf = 854
+
+abbrev pub rows-xmi : ℕ
+rows-xmi = 855
 
 abbrev pub rows-xml : ℕ
-rows-xml = 514
+rows-xml = 856
 
 abbrev pub rows-xmp : ℕ
-rows-xmp = 515
+rows-xmp = 857
 
 abbrev pub rows-xpm : ℕ
-rows-xpm = 516
+rows-xpm = 858
+
+abbrev pub rows-xpm-xpm2 : ℕ
+rows-xpm-xpm2 = 859
+
+abbrev pub rows-xsd : ℕ
+rows-xsd = 860
+
+abbrev pub rows-xslt : ℕ
+rows-xslt = 861
+
+abbrev pub rows-xspf : ℕ
+rows-xspf = 862
 
 abbrev pub rows-xwd : ℕ
-rows-xwd = 517
+rows-xwd = 863
 
 abbrev pub rows-xz : ℕ
-rows-xz = 518
+rows-xz = 864
 
 abbrev pub rows-y4m : ℕ
-rows-y4m = 519
+rows-y4m = 865
 
 abbrev pub rows-yaml : ℕ
-rows-yaml = 520
+rows-yaml = 866
 
 abbrev pub rows-zim : ℕ
-rows-zim = 521
+rows-zim = 867
 
 abbrev pub rows-zip : ℕ
-rows-zip = 522
+rows-zip = 868
+
+abbrev pub rows-zoo : ℕ
+rows-zoo = 869
+
+abbrev pub rows-zpaq : ℕ
+rows-zpaq = 870
 
 abbrev pub rows-zst : ℕ
-rows-zst = 523
+rows-zst = 871
+
+abbrev pub rows-zst-zstold : ℕ
+rows-zst-zstold = 872
 
 unfoldable pub lead_lists : List (List (List ℕ))
 lead_lists =
@@ -1633,33 +2680,47 @@ lead_lists =
 unfoldable pub sets_0 : List (List (List ℕ))
 sets_0 =
     none
+    ∷ (codes "3dmodel" ∷ [])
+    ∷ texts
+    ∷ (codes "3dmodel" ∷ codes "abw" ∷ codes "amf" ∷ codes "atom" ∷ codes "aup" ∷ codes "busconfig" ∷ codes "catmeta" ∷ codes "cml" ∷ codes "dae" ∷ codes "dbk" ∷ codes "dbusintro" ∷ codes "dia" ∷ codes "diashape" ∷ codes "fb2" ∷ codes "fodg" ∷ codes "fodp" ∷ codes "fods" ∷ codes "fodt" ∷ codes "fontconfig" ∷ codes "glade" ∷ codes "gml" ∷ codes "gnucash" ∷ codes "gnumeric" ∷ codes "gpx" ∷ codes "gresource" ∷ codes "gschema" ∷ codes "gtkbuilder" ∷ codes "jnlp" ∷ codes "kml" ∷ codes "ldml" ∷ codes "lingts" ∷ codes "meta4" ∷ codes "metainfo" ∷ codes "metalink" ∷ codes "mimeinfo" ∷ codes "mml" ∷ codes "mpd" ∷ codes "msbuild" ∷ codes "mscx" ∷ codes "musicxml" ∷ codes "ncx" ∷ codes "nzb" ∷ codes "opf" ∷ codes "opml" ∷ codes "osm" ∷ codes "owx" ∷ codes "pkgmeta" ∷ codes "plist" ∷ codes "pom" ∷ codes "rdf" ∷ codes "rng" ∷ codes "rss" ∷ codes "sbml" ∷ codes "sch" ∷ codes "sitemap" ∷ codes "sla" ∷ codes "smil" ∷ codes "srx" ∷ codes "svg" ∷ codes "tei" ∷ codes "ttml" ∷ codes "ttx" ∷ codes "ui" ∷ codes "wordml" ∷ codes "wsdl" ∷ codes "x3d" ∷ codes "xbel" ∷ codes "xhtml" ∷ codes "xib" ∷ codes "xkbrules" ∷ codes "xliff" ∷ codes "xmi" ∷ codes "xmp" ∷ codes "xsd" ∷ codes "xslt" ∷ codes "xspf" ∷ [])
     ∷ (codes "3ds" ∷ [])
+    ∷ (codes "3dsx" ∷ [])
     ∷ (codes "3g2" ∷ [])
     ∷ (codes "3g2" ∷ codes "3gp" ∷ codes "f4v" ∷ codes "m4a" ∷ codes "m4b" ∷ codes "m4v" ∷ codes "mov" ∷ [])
     ∷ (codes "3gp" ∷ [])
     ∷ (codes "3gp" ∷ codes "mp4" ∷ [])
     ∷ (codes "3mf" ∷ [])
     ∷ (codes "3mf" ∷ codes "apk" ∷ codes "application/vnd.apple.keynote" ∷ codes "chrt" ∷ codes "docx" ∷ codes "epub" ∷ codes "fbz" ∷ codes "fcstd" ∷ codes "flw" ∷ codes "iwa" ∷ codes "jar" ∷ codes "karbon" ∷ codes "kfo" ∷ codes "kmz" ∷ codes "kon" ∷ codes "kpr" ∷ codes "kra" ∷ codes "ksp" ∷ codes "kwd" ∷ codes "mscz" ∷ codes "odb" ∷ codes "odc" ∷ codes "odf" ∷ codes "odg" ∷ codes "odi" ∷ codes "odp" ∷ codes "ods" ∷ codes "odt" ∷ codes "ora" ∷ codes "otg" ∷ codes "otp" ∷ codes "ots" ∷ codes "ott" ∷ codes "pkpass" ∷ codes "pptx" ∷ codes "qgz" ∷ codes "sxc" ∷ codes "sxd" ∷ codes "sxi" ∷ codes "sxm" ∷ codes "sxw" ∷ codes "vsdx" ∷ codes "xap" ∷ codes "xlsx" ∷ [])
+    ∷ (codes "4xm" ∷ [])
     ∷ (codes "7z" ∷ [])
+    ∷ (codes "8svx" ∷ [])
     ∷ (codes "Z" ∷ [])
     ∷ (codes "a78" ∷ [])
     ∷ (codes "aac" ∷ [])
+    ∷ (codes "aac" ∷ codes "adif" ∷ [])
+    ∷ (codes "abc" ∷ [])
+    ∷ (codes "abw" ∷ [])
     ∷ (codes "ac3" ∷ [])
     ∷ (codes "accdb" ∷ [])
     ∷ (codes "adf" ∷ [])
+    ∷ (codes "aes" ∷ [])
     ∷ (codes "afm" ∷ [])
-    ∷ texts
+    ∷ (codes "ag" ∷ [])
     ∷ (codes "age" ∷ [])
     ∷ (codes "age" ∷ codes "asc" ∷ codes "cms" ∷ codes "crl" ∷ codes "application/x-pem-key" ∷ codes "csr" ∷ codes "openssh" ∷ codes "p7c" ∷ codes "param" ∷ codes "pgp" ∷ codes "pubkey" ∷ codes "sig" ∷ codes "sshsig" ∷ [])
     ∷ (codes "aifc" ∷ [])
     ∷ (codes "aiff" ∷ [])
     ∷ (codes "alz" ∷ [])
+    ∷ (codes "amf" ∷ [])
+    ∷ (codes "aml" ∷ [])
     ∷ (codes "amr" ∷ [])
+    ∷ (codes "amv" ∷ [])
     ∷ (codes "ani" ∷ [])
     ∷ (codes "anim" ∷ [])
     ∷ (codes "ape" ∷ [])
     ∷ (codes "apk" ∷ [])
     ∷ (codes "apk" ∷ codes "jar" ∷ codes "zip" ∷ [])
+    ∷ (codes "apm" ∷ [])
     ∷ (codes "apng" ∷ [])
     ∷ (codes "appimage" ∷ [])
     ∷ (codes "appimage" ∷ codes "core" ∷ codes "cubin" ∷ codes "o" ∷ codes "so" ∷ [])
@@ -1673,65 +2734,127 @@ sets_0 =
     ∷ (codes "application/x-ole-storage" ∷ codes "xlsx" ∷ codes "zip" ∷ [])
     ∷ (codes "application/x-ole-storage" ∷ codes "zip" ∷ [])
     ∷ (codes "application/x-pem-key" ∷ [])
+    ∷ (codes "aptcache" ∷ [])
     ∷ (codes "ar" ∷ [])
+    ∷ (codes "ar" ∷ codes "thin" ∷ [])
     ∷ (codes "arj" ∷ [])
     ∷ (codes "arrow" ∷ [])
+    ∷ (codes "arsc" ∷ [])
+    ∷ (codes "as" ∷ [])
     ∷ (codes "asar" ∷ [])
     ∷ (codes "asc" ∷ [])
     ∷ (codes "astc" ∷ [])
+    ∷ (codes "asx" ∷ [])
     ∷ (codes "atom" ∷ [])
-    ∷ (codes "atom" ∷ codes "diashape" ∷ codes "fb2" ∷ codes "fodt" ∷ codes "gpx" ∷ codes "gtkbuilder" ∷ codes "jnlp" ∷ codes "kml" ∷ codes "lingts" ∷ codes "meta4" ∷ codes "mml" ∷ codes "nzb" ∷ codes "opml" ∷ codes "owx" ∷ codes "plist" ∷ codes "rss" ∷ codes "srx" ∷ codes "svg" ∷ codes "ttx" ∷ codes "xhtml" ∷ codes "xmp" ∷ [])
     ∷ (codes "au" ∷ [])
+    ∷ (codes "aup" ∷ [])
     ∷ (codes "aup3" ∷ [])
     ∷ (codes "aup3" ∷ codes "fossil" ∷ codes "gpkg" ∷ codes "mbtiles" ∷ codes "mtn" ∷ [])
     ∷ (codes "avi" ∷ [])
     ∷ (codes "avif" ∷ [])
+    ∷ (codes "avr" ∷ [])
     ∷ (codes "avro" ∷ [])
+    ∷ (codes "aw" ∷ [])
+    ∷ (codes "awbm" ∷ [])
     ∷ (codes "awk" ∷ [])
+    ∷ (codes "axml" ∷ [])
+    ∷ (codes "ay" ∷ [])
+    ∷ (codes "bai" ∷ [])
+    ∷ (codes "bam" ∷ [])
+    ∷ (codes "bat" ∷ [])
     ∷ (codes "bc" ∷ [])
+    ∷ (codes "bc" ∷ codes "bcw" ∷ [])
+    ∷ (codes "bcstm" ∷ [])
+    ∷ (codes "bcwav" ∷ [])
     ∷ (codes "bdb" ∷ [])
+    ∷ (codes "bdf" ∷ [])
+    ∷ (codes "bdfb" ∷ [])
     ∷ (codes "beam" ∷ [])
+    ∷ (codes "bfstm" ∷ [])
     ∷ (codes "bgzf" ∷ codes "karbon" ∷ codes "kil" ∷ codes "kpr" ∷ codes "ksp" ∷ codes "kwd" ∷ [])
+    ∷ (codes "biff" ∷ codes "xls" ∷ [])
+    ∷ (codes "bik" ∷ [])
+    ∷ (codes "blb" ∷ [])
     ∷ (codes "blend" ∷ [])
+    ∷ (codes "blp" ∷ [])
     ∷ (codes "bmp" ∷ [])
+    ∷ (codes "bmp" ∷ codes "dib" ∷ [])
     ∷ (codes "bookmarks" ∷ [])
+    ∷ (codes "bootimg" ∷ [])
+    ∷ (codes "bootimg" ∷ codes "cramfs" ∷ codes "fat" ∷ codes "jffs2" ∷ codes "romfs" ∷ codes "simg" ∷ codes "ubi" ∷ codes "ubifs" ∷ codes "xfs" ∷ [])
     ∷ (codes "bpg" ∷ [])
     ∷ (codes "bplist" ∷ [])
     ∷ (codes "bps" ∷ [])
+    ∷ (codes "brstm" ∷ [])
     ∷ (codes "bsdiff" ∷ [])
+    ∷ (codes "bsp" ∷ [])
+    ∷ (codes "btf" ∷ codes "tif" ∷ [])
+    ∷ (codes "bufr" ∷ [])
+    ∷ (codes "bz1" ∷ codes "bz2" ∷ [])
     ∷ (codes "bz2" ∷ [])
     ∷ (codes "bz2" ∷ codes "gz" ∷ codes "xz" ∷ [])
     ∷ (codes "bz3" ∷ [])
+    ∷ (codes "bzimage" ∷ [])
     ∷ (codes "cab" ∷ [])
     ∷ (codes "caf" ∷ [])
+    ∷ (codes "cbor" ∷ [])
     ∷ (codes "ccmx" ∷ [])
+    ∷ (codes "cdf" ∷ [])
     ∷ (codes "cdr" ∷ [])
+    ∷ (codes "cdxa" ∷ [])
     ∷ (codes "cer" ∷ [])
     ∷ (codes "cer" ∷ codes "crl" ∷ [])
-    ∷ (codes "cer" ∷ codes "p10" ∷ codes "p8" ∷ [])
+    ∷ (codes "cer" ∷ codes "p10" ∷ codes "p8" ∷ codes "pkipath" ∷ [])
     ∷ (codes "chd" ∷ [])
     ∷ (codes "chm" ∷ [])
-    ∷ (codes "chrt" ∷ [])
+    ∷ []
+
+unfoldable pub sets_1 : List (List (List ℕ))
+sets_1 =
+    (codes "chrt" ∷ [])
+    ∷ (codes "cin" ∷ [])
     ∷ (codes "class" ∷ [])
     ∷ (codes "clj" ∷ [])
+    ∷ (codes "cloudcfg" ∷ [])
+    ∷ (codes "cma" ∷ [])
     ∷ (codes "cmap" ∷ codes "eps" ∷ codes "pfa" ∷ codes "t2t" ∷ [])
+    ∷ (codes "cmi" ∷ [])
+    ∷ (codes "cml" ∷ [])
+    ∷ (codes "cmo" ∷ [])
+    ∷ (codes "cmt" ∷ [])
+    ∷ (codes "cmx" ∷ [])
+    ∷ (codes "cmxa" ∷ [])
+    ∷ (codes "cmxr" ∷ [])
     ∷ (codes "core" ∷ [])
+    ∷ (codes "cpi" ∷ [])
     ∷ (codes "cpio" ∷ [])
+    ∷ (codes "cpt" ∷ [])
     ∷ (codes "cr2" ∷ [])
     ∷ (codes "cr2" ∷ codes "dng" ∷ [])
     ∷ (codes "cr3" ∷ [])
+    ∷ (codes "cram" ∷ [])
+    ∷ (codes "cramfs" ∷ [])
     ∷ (codes "crl" ∷ [])
     ∷ (codes "crw" ∷ [])
     ∷ (codes "crx" ∷ [])
     ∷ (codes "csh" ∷ [])
+    ∷ (codes "csi" ∷ [])
+    ∷ (codes "cso" ∷ [])
     ∷ (codes "csr" ∷ codes "p10" ∷ [])
     ∷ (codes "cubin" ∷ [])
+    ∷ (codes "cupsraster" ∷ [])
     ∷ (codes "cur" ∷ [])
+    ∷ (codes "cwk" ∷ [])
     ∷ (codes "czi" ∷ [])
+    ∷ (codes "dae" ∷ [])
     ∷ (codes "dart" ∷ [])
     ∷ (codes "dbf" ∷ [])
+    ∷ (codes "dbk" ∷ [])
+    ∷ (codes "dbm" ∷ [])
+    ∷ (codes "dbpf" ∷ [])
     ∷ (codes "dcm" ∷ [])
     ∷ (codes "dcr" ∷ [])
+    ∷ (codes "dcx" ∷ [])
     ∷ (codes "dds" ∷ [])
     ∷ (codes "deb" ∷ [])
     ∷ (codes "deb" ∷ codes "goa" ∷ [])
@@ -1743,28 +2866,38 @@ sets_0 =
     ∷ (codes "dex" ∷ [])
     ∷ (codes "dey" ∷ [])
     ∷ (codes "dff" ∷ [])
+    ∷ (codes "dfont" ∷ [])
+    ∷ (codes "dgn" ∷ [])
+    ∷ (codes "dia" ∷ [])
     ∷ (codes "diashape" ∷ [])
+    ∷ (codes "dif" ∷ [])
     ∷ (codes "djvm" ∷ [])
     ∷ (codes "djvu" ∷ [])
+    ∷ (codes "dmp" ∷ [])
     ∷ (codes "dng" ∷ [])
-    ∷ (codes "doc" ∷ [])
+    ∷ (codes "doc" ∷ codes "doc2" ∷ [])
     ∷ (codes "docm" ∷ [])
     ∷ (codes "docm" ∷ codes "docx" ∷ codes "application/x-ole-storage" ∷ codes "zip" ∷ [])
     ∷ (codes "docx" ∷ [])
     ∷ (codes "docx" ∷ codes "application/x-ole-storage" ∷ codes "zip" ∷ [])
     ∷ (codes "dpx" ∷ [])
+    ∷ (codes "drc" ∷ [])
+    ∷ (codes "drdoscpi" ∷ [])
     ∷ (codes "dsf" ∷ [])
+    ∷ (codes "dss" ∷ [])
+    ∷ (codes "dtb" ∷ [])
     ∷ (codes "dts" ∷ [])
     ∷ (codes "dtsi" ∷ [])
     ∷ (codes "dv" ∷ [])
     ∷ (codes "dvi" ∷ [])
     ∷ (codes "dwg" ∷ [])
     ∷ (codes "e57" ∷ [])
-    ∷ []
-
-unfoldable pub sets_1 : List (List (List ℕ))
-sets_1 =
-    (codes "elf" ∷ [])
+    ∷ (codes "eac3" ∷ [])
+    ∷ (codes "edf" ∷ [])
+    ∷ (codes "eet" ∷ [])
+    ∷ (codes "egg" ∷ [])
+    ∷ (codes "elc" ∷ [])
+    ∷ (codes "elf" ∷ [])
     ∷ (codes "elf" ∷ codes "so" ∷ [])
     ∷ (codes "emf" ∷ [])
     ∷ (codes "eot" ∷ [])
@@ -1781,8 +2914,11 @@ sets_1 =
     ∷ (codes "fb2" ∷ [])
     ∷ (codes "fbx" ∷ codes "fbxtext" ∷ [])
     ∷ (codes "fbz" ∷ [])
+    ∷ (codes "fccache" ∷ [])
     ∷ (codes "fcstd" ∷ [])
+    ∷ (codes "fdf" ∷ [])
     ∷ (codes "fds" ∷ [])
+    ∷ (codes "ff" ∷ [])
     ∷ (codes "fig" ∷ [])
     ∷ (codes "fish" ∷ [])
     ∷ (codes "fits" ∷ [])
@@ -1790,43 +2926,89 @@ sets_1 =
     ∷ (codes "flac" ∷ [])
     ∷ (codes "flac" ∷ codes "ogg" ∷ codes "opus" ∷ [])
     ∷ (codes "flatpak" ∷ [])
+    ∷ (codes "flatpakref" ∷ [])
+    ∷ (codes "flatpakrepo" ∷ [])
     ∷ (codes "flif" ∷ [])
     ∷ (codes "flv" ∷ [])
     ∷ (codes "flw" ∷ [])
+    ∷ (codes "fm" ∷ [])
+    ∷ (codes "fodg" ∷ [])
+    ∷ (codes "fodp" ∷ [])
+    ∷ (codes "fods" ∷ [])
     ∷ (codes "fodt" ∷ [])
     ∷ (codes "fpx" ∷ [])
+    ∷ (codes "g64" ∷ [])
     ∷ (codes "gbr" ∷ [])
-    ∷ (codes "gbs" ∷ [])
+    ∷ []
+
+unfoldable pub sets_2 : List (List (List ℕ))
+sets_2 =
+    (codes "gbs" ∷ [])
+    ∷ (codes "gcda" ∷ [])
+    ∷ (codes "gcda" ∷ codes "gcno" ∷ [])
+    ∷ (codes "gch" ∷ [])
+    ∷ (codes "gconv" ∷ [])
+    ∷ (codes "gd2" ∷ [])
     ∷ (codes "gdbm" ∷ [])
+    ∷ (codes "gdf" ∷ [])
+    ∷ (codes "ged" ∷ [])
     ∷ (codes "gem" ∷ [])
+    ∷ (codes "gff3" ∷ [])
+    ∷ (codes "ggr" ∷ [])
     ∷ (codes "gguf" ∷ [])
     ∷ (codes "gif" ∷ [])
+    ∷ (codes "gitbundle" ∷ [])
+    ∷ (codes "gitidx" ∷ [])
+    ∷ (codes "gitindex" ∷ [])
+    ∷ (codes "gitpatch" ∷ [])
     ∷ (codes "gjs" ∷ codes "js" ∷ [])
+    ∷ (codes "glade" ∷ [])
     ∷ (codes "glb" ∷ [])
+    ∷ (codes "gml" ∷ [])
     ∷ (codes "gnd" ∷ [])
+    ∷ (codes "gnucash" ∷ [])
+    ∷ (codes "gnumeric" ∷ [])
     ∷ (codes "gnuplot" ∷ [])
-    ∷ (codes "gpg" ∷ [])
+    ∷ (codes "goobj" ∷ [])
+    ∷ (codes "gpg" ∷ codes "gpgold" ∷ [])
     ∷ (codes "gpkg" ∷ [])
+    ∷ (codes "gpl" ∷ [])
     ∷ (codes "gpx" ∷ [])
+    ∷ (codes "grib" ∷ [])
+    ∷ (codes "grib" ∷ codes "grib2" ∷ [])
     ∷ (codes "groovy" ∷ [])
+    ∷ (codes "grp" ∷ [])
+    ∷ (codes "grubkbd" ∷ [])
+    ∷ (codes "gschema" ∷ [])
     ∷ (codes "gtkbuilder" ∷ [])
+    ∷ (codes "gtp" ∷ [])
+    ∷ (codes "gvdb" ∷ [])
     ∷ (codes "gx" ∷ [])
     ∷ (codes "gz" ∷ [])
+    ∷ (codes "gz" ∷ codes "html" ∷ codes "txt" ∷ codes "xhtml" ∷ codes "xml" ∷ [])
+    ∷ (codes "gz" ∷ codes "kspcrypt" ∷ codes "zip" ∷ [])
+    ∷ (codes "gz" ∷ codes "kwdcrypt" ∷ codes "zip" ∷ [])
     ∷ (codes "gz" ∷ codes "sqlite" ∷ codes "xml" ∷ [])
     ∷ (codes "gz" ∷ codes "txt" ∷ codes "xml" ∷ [])
     ∷ (codes "gz" ∷ codes "xml" ∷ [])
     ∷ (codes "gz" ∷ codes "zip" ∷ [])
     ∷ (codes "gz" ∷ codes "zst" ∷ [])
+    ∷ (codes "hdd" ∷ [])
     ∷ (codes "hdf4" ∷ [])
     ∷ (codes "hdf5" ∷ [])
     ∷ (codes "hdr" ∷ [])
+    ∷ (codes "hdt" ∷ [])
     ∷ (codes "heic" ∷ [])
     ∷ (codes "heics" ∷ [])
     ∷ (codes "heics" ∷ codes "heif" ∷ [])
     ∷ (codes "heif" ∷ [])
     ∷ (codes "hfe" ∷ [])
+    ∷ (codes "hgbundle" ∷ [])
     ∷ (codes "hlp" ∷ [])
+    ∷ (codes "hprof" ∷ [])
+    ∷ (codes "hqx" ∷ [])
     ∷ (codes "hs" ∷ [])
+    ∷ (codes "hsi" ∷ [])
     ∷ (codes "html" ∷ [])
     ∷ (codes "html" ∷ codes "json" ∷ codes "php" ∷ codes "svg" ∷ codes "txt" ∷ codes "xhtml" ∷ codes "xml" ∷ [])
     ∷ (codes "html" ∷ codes "rss" ∷ codes "txt" ∷ codes "xml" ∷ [])
@@ -1834,14 +3016,20 @@ sets_1 =
     ∷ (codes "html" ∷ codes "txt" ∷ [])
     ∷ (codes "html" ∷ codes "txt" ∷ codes "xhtml" ∷ codes "xml" ∷ [])
     ∷ (codes "html" ∷ codes "txt" ∷ codes "xml" ∷ [])
+    ∷ (codes "http" ∷ [])
+    ∷ (codes "hwp" ∷ [])
+    ∷ (codes "iaarc" ∷ [])
     ∷ (codes "icc" ∷ [])
     ∷ (codes "icns" ∷ [])
     ∷ (codes "ico" ∷ [])
     ∷ (codes "ics" ∷ [])
+    ∷ (codes "iff" ∷ [])
+    ∷ (codes "ifo" ∷ [])
     ∷ (codes "ilbm" ∷ [])
     ∷ (codes "imy" ∷ [])
     ∷ (codes "indd" ∷ [])
     ∷ (codes "info" ∷ [])
+    ∷ (codes "innolog" ∷ [])
     ∷ (codes "ips" ∷ [])
     ∷ (codes "it" ∷ [])
     ∷ (codes "it87" ∷ [])
@@ -1852,11 +3040,16 @@ sets_1 =
     ∷ (codes "jar" ∷ [])
     ∷ (codes "jar" ∷ codes "zip" ∷ [])
     ∷ (codes "jarmf" ∷ [])
+    ∷ (codes "jbig2" ∷ [])
     ∷ (codes "jceks" ∷ [])
+    ∷ (codes "jffs2" ∷ [])
+    ∷ (codes "jfr" ∷ [])
+    ∷ (codes "jimage" ∷ [])
     ∷ (codes "jks" ∷ [])
     ∷ (codes "jl" ∷ [])
     ∷ (codes "jls" ∷ [])
     ∷ (codes "jmod" ∷ [])
+    ∷ (codes "jng" ∷ [])
     ∷ (codes "jnlp" ∷ [])
     ∷ (codes "journal" ∷ [])
     ∷ (codes "jp2" ∷ [])
@@ -1870,11 +3063,19 @@ sets_1 =
     ∷ (codes "json" ∷ codes "plist" ∷ codes "txt" ∷ codes "xml" ∷ [])
     ∷ (codes "json" ∷ codes "sh" ∷ codes "txt" ∷ [])
     ∷ (codes "json" ∷ codes "txt" ∷ [])
+    ∷ (codes "jsonlz4" ∷ [])
     ∷ (codes "jxl" ∷ [])
     ∷ (codes "jxr" ∷ [])
     ∷ (codes "karbon" ∷ [])
     ∷ (codes "kate" ∷ codes "oga" ∷ codes "ogm" ∷ codes "ogv" ∷ codes "ogx" ∷ codes "opus" ∷ codes "spx" ∷ codes "vorbis" ∷ [])
-    ∷ (codes "kfo" ∷ [])
+    ∷ (codes "kdb" ∷ [])
+    ∷ (codes "kdbx" ∷ [])
+    ∷ (codes "kdump" ∷ [])
+    ∷ []
+
+unfoldable pub sets_3 : List (List (List ℕ))
+sets_3 =
+    (codes "kfo" ∷ [])
     ∷ (codes "kil" ∷ [])
     ∷ (codes "kml" ∷ [])
     ∷ (codes "kmz" ∷ [])
@@ -1884,74 +3085,117 @@ sets_1 =
     ∷ (codes "ksp" ∷ [])
     ∷ (codes "ktx" ∷ [])
     ∷ (codes "ktx2" ∷ [])
+    ∷ (codes "kwaj" ∷ [])
     ∷ (codes "kwd" ∷ [])
+    ∷ (codes "las" ∷ [])
     ∷ (codes "laz" ∷ [])
+    ∷ (codes "ldcache" ∷ [])
+    ∷ (codes "ldml" ∷ [])
     ∷ (codes "lfp" ∷ [])
     ∷ (codes "lingts" ∷ [])
     ∷ (codes "lisp" ∷ [])
+    ∷ (codes "lit" ∷ [])
+    ∷ (codes "ll" ∷ [])
     ∷ (codes "lnk" ∷ [])
     ∷ (codes "lnx" ∷ [])
+    ∷ (codes "locarch" ∷ [])
+    ∷ (codes "lrf" ∷ [])
     ∷ (codes "lrz" ∷ [])
-    ∷ []
-
-unfoldable pub sets_2 : List (List (List ℕ))
-sets_2 =
-    (codes "lua" ∷ [])
+    ∷ (codes "lss" ∷ [])
+    ∷ (codes "lua" ∷ [])
     ∷ (codes "lua" ∷ codes "sh" ∷ codes "txt" ∷ [])
     ∷ (codes "luac" ∷ [])
     ∷ (codes "luks" ∷ [])
+    ∷ (codes "lwo" ∷ [])
     ∷ (codes "lwp" ∷ [])
     ∷ (codes "lyx" ∷ [])
     ∷ (codes "lz" ∷ [])
     ∷ (codes "lz4" ∷ [])
+    ∷ (codes "lzfse" ∷ [])
     ∷ (codes "lzh" ∷ [])
     ∷ (codes "lzma" ∷ [])
     ∷ (codes "lzo" ∷ [])
     ∷ (codes "m" ∷ [])
     ∷ (codes "m3u8" ∷ [])
+    ∷ (codes "m4" ∷ [])
     ∷ (codes "m4a" ∷ [])
     ∷ (codes "m4a" ∷ codes "mp4" ∷ [])
     ∷ (codes "m4b" ∷ [])
     ∷ (codes "m4b" ∷ codes "m4v" ∷ codes "mp4" ∷ [])
+    ∷ (codes "m4u" ∷ [])
     ∷ (codes "m4v" ∷ [])
     ∷ (codes "mach" ∷ [])
+    ∷ (codes "mat" ∷ [])
+    ∷ (codes "maud" ∷ [])
+    ∷ (codes "mbm" ∷ [])
     ∷ (codes "mbtiles" ∷ [])
     ∷ (codes "mdb" ∷ [])
     ∷ (codes "mdi" ∷ [])
+    ∷ (codes "mdl" ∷ [])
     ∷ (codes "med" ∷ [])
+    ∷ (codes "memdmp" ∷ [])
     ∷ (codes "meta4" ∷ [])
+    ∷ (codes "metalink" ∷ [])
+    ∷ (codes "mf" ∷ [])
     ∷ (codes "midi" ∷ [])
+    ∷ (codes "mids" ∷ [])
+    ∷ (codes "mif" ∷ [])
     ∷ (codes "miff" ∷ [])
+    ∷ (codes "minisig" ∷ [])
     ∷ (codes "mj2" ∷ [])
     ∷ (codes "mk" ∷ [])
     ∷ (codes "mkv" ∷ [])
     ∷ (codes "ml" ∷ [])
+    ∷ (codes "mm" ∷ [])
     ∷ (codes "mmf" ∷ [])
     ∷ (codes "mml" ∷ [])
+    ∷ (codes "mmm" ∷ [])
     ∷ (codes "mng" ∷ [])
     ∷ (codes "mo" ∷ [])
     ∷ (codes "mo3" ∷ [])
     ∷ (codes "mobi" ∷ [])
     ∷ (codes "model/step" ∷ [])
+    ∷ (codes "mol2" ∷ [])
     ∷ (codes "mov" ∷ [])
+    ∷ (codes "movie" ∷ [])
     ∷ (codes "mp3" ∷ [])
+    ∷ (codes "mp3" ∷ codes "mp3old" ∷ [])
     ∷ (codes "mp4" ∷ [])
     ∷ (codes "mpc" ∷ [])
+    ∷ (codes "mpd" ∷ [])
     ∷ (codes "mpg" ∷ [])
     ∷ (codes "mpp" ∷ [])
+    ∷ (codes "mpq" ∷ [])
+    ∷ (codes "ms3d" ∷ [])
+    ∷ (codes "msa" ∷ [])
+    ∷ (codes "msbuild" ∷ [])
+    ∷ (codes "mscx" ∷ [])
     ∷ (codes "mscz" ∷ [])
     ∷ (codes "msg" ∷ [])
     ∷ (codes "mtm" ∷ [])
     ∷ (codes "mtn" ∷ [])
+    ∷ (codes "mup" ∷ [])
+    ∷ (codes "musicxml" ∷ [])
+    ∷ (codes "mve" ∷ [])
     ∷ (codes "mvg" ∷ [])
     ∷ (codes "mxf" ∷ [])
+    ∷ (codes "myi" ∷ [])
     ∷ (codes "n64" ∷ [])
+    ∷ (codes "nbold" ∷ [])
+    ∷ (codes "nc" ∷ [])
+    ∷ (codes "ncx" ∷ [])
     ∷ (codes "ndjson" ∷ [])
+    ∷ (codes "neko" ∷ [])
     ∷ (codes "nes" ∷ [])
+    ∷ (codes "netmon" ∷ [])
+    ∷ (codes "nex" ∷ [])
     ∷ (codes "nft" ∷ [])
+    ∷ (codes "niff" ∷ [])
     ∷ (codes "npy" ∷ [])
     ∷ (codes "nsc" ∷ [])
     ∷ (codes "nsf" ∷ [])
+    ∷ (codes "nso" ∷ [])
+    ∷ (codes "nsv" ∷ [])
     ∷ (codes "nut" ∷ [])
     ∷ (codes "nzb" ∷ [])
     ∷ (codes "o" ∷ [])
@@ -1959,7 +3203,11 @@ sets_2 =
     ∷ (codes "odb" ∷ [])
     ∷ (codes "odc" ∷ [])
     ∷ (codes "odf" ∷ [])
-    ∷ (codes "odg" ∷ [])
+    ∷ []
+
+unfoldable pub sets_4 : List (List (List ℕ))
+sets_4 =
+    (codes "odg" ∷ [])
     ∷ (codes "odg" ∷ codes "zip" ∷ [])
     ∷ (codes "odi" ∷ [])
     ∷ (codes "odm" ∷ [])
@@ -1975,12 +3223,19 @@ sets_2 =
     ∷ (codes "ogg" ∷ codes "ogv" ∷ [])
     ∷ (codes "ogm" ∷ [])
     ∷ (codes "ogv" ∷ [])
+    ∷ (codes "okt" ∷ [])
     ∷ (codes "openssh" ∷ [])
+    ∷ (codes "openssl" ∷ [])
+    ∷ (codes "opf" ∷ [])
     ∷ (codes "opml" ∷ [])
     ∷ (codes "opus" ∷ [])
     ∷ (codes "ora" ∷ [])
     ∷ (codes "orc" ∷ [])
     ∷ (codes "orf" ∷ [])
+    ∷ (codes "os2hlp" ∷ [])
+    ∷ (codes "os2inf" ∷ [])
+    ∷ (codes "os2msg" ∷ [])
+    ∷ (codes "osm" ∷ [])
     ∷ (codes "otf" ∷ [])
     ∷ (codes "otg" ∷ [])
     ∷ (codes "otp" ∷ [])
@@ -1990,46 +3245,77 @@ sets_2 =
     ∷ (codes "p12" ∷ [])
     ∷ (codes "p7b" ∷ codes "p7c" ∷ [])
     ∷ (codes "p8" ∷ [])
+    ∷ (codes "pack" ∷ [])
     ∷ (codes "pack200" ∷ [])
+    ∷ (codes "paf" ∷ [])
+    ∷ (codes "pak" ∷ [])
+    ∷ (codes "pam" ∷ [])
+    ∷ (codes "par" ∷ [])
     ∷ (codes "par2" ∷ [])
     ∷ (codes "parquet" ∷ [])
     ∷ (codes "pat" ∷ [])
     ∷ (codes "pcap" ∷ [])
     ∷ (codes "pcapng" ∷ [])
+    ∷ (codes "pcf" ∷ [])
+    ∷ (codes "pch" ∷ [])
+    ∷ (codes "pcl" ∷ [])
     ∷ (codes "pcx" ∷ [])
+    ∷ (codes "pdb" ∷ [])
+    ∷ (codes "pdbmol" ∷ [])
     ∷ (codes "pdf" ∷ [])
+    ∷ (codes "pdn" ∷ [])
+    ∷ (codes "pef" ∷ [])
     ∷ (codes "pem" ∷ [])
+    ∷ (codes "pf2" ∷ [])
     ∷ (codes "pfa" ∷ codes "pfb" ∷ [])
     ∷ (codes "pfb" ∷ [])
+    ∷ (codes "pfmap" ∷ [])
+    ∷ (codes "pgdump" ∷ [])
     ∷ (codes "pgf" ∷ [])
+    ∷ (codes "pgn" ∷ [])
     ∷ (codes "pgp" ∷ [])
+    ∷ (codes "pgp" ∷ codes "pgpmsg" ∷ [])
+    ∷ (codes "pgpsig" ∷ codes "sig" ∷ [])
     ∷ (codes "php" ∷ [])
     ∷ (codes "php" ∷ codes "svg" ∷ codes "txt" ∷ codes "xhtml" ∷ codes "xml" ∷ [])
+    ∷ (codes "pic" ∷ [])
+    ∷ (codes "pjl" ∷ [])
+    ∷ (codes "pkgstream" ∷ [])
+    ∷ (codes "pkl" ∷ [])
     ∷ (codes "pkpass" ∷ [])
     ∷ (codes "pl" ∷ [])
     ∷ (codes "plist" ∷ [])
     ∷ (codes "plist" ∷ codes "txt" ∷ codes "xml" ∷ [])
     ∷ (codes "pls" ∷ [])
+    ∷ (codes "ply" ∷ [])
     ∷ (codes "png" ∷ [])
     ∷ (codes "pnm" ∷ [])
+    ∷ (codes "pom" ∷ [])
+    ∷ (codes "ppd" ∷ [])
+    ∷ (codes "ppf" ∷ [])
+    ∷ (codes "ppk" ∷ [])
     ∷ (codes "ppt" ∷ [])
     ∷ (codes "pptm" ∷ [])
     ∷ (codes "pptx" ∷ [])
     ∷ (codes "ppu" ∷ [])
+    ∷ (codes "profdata" ∷ [])
+    ∷ (codes "profraw" ∷ [])
     ∷ (codes "ps" ∷ [])
     ∷ (codes "ps" ∷ codes "sh" ∷ codes "txt" ∷ [])
     ∷ (codes "ps" ∷ codes "txt" ∷ [])
     ∷ (codes "ps1" ∷ [])
     ∷ (codes "psd" ∷ [])
+    ∷ (codes "psf" ∷ [])
+    ∷ (codes "psf1" ∷ codes "psf2" ∷ [])
     ∷ (codes "psp" ∷ [])
     ∷ (codes "pst" ∷ [])
     ∷ (codes "psw" ∷ [])
-    ∷ []
-
-unfoldable pub sets_3 : List (List (List ℕ))
-sets_3 =
-    (codes "pub" ∷ [])
+    ∷ (codes "psx" ∷ [])
+    ∷ (codes "pub" ∷ [])
     ∷ (codes "puml" ∷ [])
+    ∷ (codes "pvf" ∷ [])
+    ∷ (codes "pvr" ∷ [])
+    ∷ (codes "pwg" ∷ [])
     ∷ (codes "py" ∷ [])
     ∷ (codes "py" ∷ codes "sh" ∷ codes "zip" ∷ [])
     ∷ (codes "pyc" ∷ [])
@@ -2040,6 +3326,7 @@ sets_3 =
     ∷ (codes "qml" ∷ [])
     ∷ (codes "qoi" ∷ [])
     ∷ (codes "qp" ∷ [])
+    ∷ (codes "qrc" ∷ [])
     ∷ (codes "qti" ∷ [])
     ∷ (codes "qtl" ∷ [])
     ∷ (codes "r" ∷ [])
@@ -2048,39 +3335,83 @@ sets_3 =
     ∷ (codes "raf" ∷ [])
     ∷ (codes "raku" ∷ [])
     ∷ (codes "raml" ∷ [])
-    ∷ (codes "rar" ∷ [])
+    ∷ []
+
+unfoldable pub sets_5 : List (List (List ℕ))
+sets_5 =
+    (codes "rar" ∷ [])
     ∷ (codes "ras" ∷ [])
     ∷ (codes "rb" ∷ [])
+    ∷ (codes "rdata" ∷ [])
+    ∷ (codes "rdb" ∷ [])
+    ∷ (codes "rdf" ∷ [])
+    ∷ (codes "reg" ∷ [])
+    ∷ (codes "regf" ∷ [])
+    ∷ (codes "rf64" ∷ [])
+    ∷ (codes "rifx" ∷ codes "wav" ∷ [])
     ∷ (codes "rkt" ∷ [])
     ∷ (codes "rm" ∷ [])
+    ∷ (codes "rmeta" ∷ [])
+    ∷ (codes "rmi" ∷ [])
+    ∷ (codes "rng" ∷ [])
+    ∷ (codes "roff" ∷ [])
+    ∷ (codes "romfs" ∷ [])
+    ∷ (codes "root" ∷ [])
+    ∷ (codes "roq" ∷ [])
     ∷ (codes "rpm" ∷ [])
     ∷ (codes "rq" ∷ [])
+    ∷ (codes "rrd" ∷ [])
     ∷ (codes "rss" ∷ [])
     ∷ (codes "rtf" ∷ [])
+    ∷ (codes "rvz" ∷ [])
     ∷ (codes "rw2" ∷ [])
+    ∷ (codes "rz" ∷ [])
     ∷ (codes "safetensors" ∷ [])
+    ∷ (codes "sam" ∷ [])
     ∷ (codes "sami" ∷ [])
+    ∷ (codes "sap" ∷ [])
+    ∷ (codes "sar" ∷ [])
     ∷ (codes "sav" ∷ [])
+    ∷ (codes "sbml" ∷ [])
     ∷ (codes "scala" ∷ [])
     ∷ (codes "scc" ∷ [])
+    ∷ (codes "scf" ∷ [])
+    ∷ (codes "sch" ∷ [])
     ∷ (codes "scm" ∷ [])
+    ∷ (codes "scsyn" ∷ [])
+    ∷ (codes "sdi" ∷ [])
+    ∷ (codes "sdp" ∷ [])
+    ∷ (codes "sds" ∷ [])
     ∷ (codes "sdw" ∷ [])
     ∷ (codes "sed" ∷ [])
+    ∷ (codes "sereal" ∷ [])
     ∷ (codes "sf2" ∷ [])
+    ∷ (codes "sfd" ∷ [])
     ∷ (codes "sgf" ∷ [])
     ∷ (codes "sgi" ∷ [])
     ∷ (codes "sh" ∷ [])
     ∷ (codes "sh" ∷ codes "txt" ∷ [])
+    ∷ (codes "shn" ∷ [])
     ∷ (codes "shp" ∷ [])
     ∷ (codes "shw" ∷ [])
     ∷ (codes "shx" ∷ [])
     ∷ (codes "sid" ∷ [])
     ∷ (codes "sig" ∷ [])
+    ∷ (codes "simg" ∷ [])
+    ∷ (codes "sisx" ∷ [])
+    ∷ (codes "sit" ∷ [])
     ∷ (codes "sk" ∷ [])
+    ∷ (codes "sla" ∷ [])
     ∷ (codes "slk" ∷ [])
+    ∷ (codes "smil" ∷ [])
     ∷ (codes "smk" ∷ [])
+    ∷ (codes "smp" ∷ [])
+    ∷ (codes "snoop" ∷ [])
     ∷ (codes "so" ∷ [])
     ∷ (codes "spc" ∷ [])
+    ∷ (codes "spd" ∷ [])
+    ∷ (codes "sph" ∷ [])
+    ∷ (codes "spv" ∷ [])
     ∷ (codes "spx" ∷ [])
     ∷ (codes "sqlite" ∷ [])
     ∷ (codes "sqlite2" ∷ [])
@@ -2089,49 +3420,98 @@ sets_3 =
     ∷ (codes "srt" ∷ [])
     ∷ (codes "srx" ∷ [])
     ∷ (codes "ssa" ∷ [])
+    ∷ (codes "ssh1" ∷ [])
+    ∷ (codes "ssh2pub" ∷ codes "sshpub" ∷ [])
+    ∷ (codes "stex" ∷ [])
     ∷ (codes "stl" ∷ [])
     ∷ (codes "subviewer" ∷ [])
     ∷ (codes "svg" ∷ [])
+    ∷ (codes "svm" ∷ [])
+    ∷ (codes "svndump" ∷ [])
     ∷ (codes "swf" ∷ [])
+    ∷ (codes "swf" ∷ codes "swfz" ∷ [])
     ∷ (codes "sxc" ∷ [])
     ∷ (codes "sxd" ∷ [])
     ∷ (codes "sxi" ∷ [])
     ∷ (codes "sxm" ∷ [])
     ∷ (codes "sxw" ∷ [])
+    ∷ (codes "syzygy" ∷ [])
     ∷ (codes "sz" ∷ [])
+    ∷ (codes "szdd" ∷ [])
+    ∷ (codes "szx" ∷ [])
     ∷ (codes "t2t" ∷ [])
+    ∷ (codes "t602" ∷ [])
     ∷ (codes "tar" ∷ [])
+    ∷ (codes "tbi" ∷ [])
+    ∷ (codes "tcb" ∷ [])
+    ∷ (codes "tcf" ∷ [])
+    ∷ (codes "tch" ∷ [])
     ∷ (codes "tcl" ∷ [])
+    ∷ (codes "tct" ∷ [])
+    ∷ (codes "tdb" ∷ [])
+    ∷ (codes "tei" ∷ [])
     ∷ (codes "terminfo" ∷ [])
     ∷ (codes "texi" ∷ [])
     ∷ (codes "texlua" ∷ [])
+    ∷ (codes "tgif" ∷ [])
+    ∷ (codes "tib" ∷ [])
     ∷ (codes "tif" ∷ [])
     ∷ (codes "tnef" ∷ [])
     ∷ (codes "torrent" ∷ [])
+    ∷ (codes "trd" ∷ [])
     ∷ (codes "tres" ∷ [])
+    ∷ (codes "trustdb" ∷ [])
     ∷ (codes "ts" ∷ [])
     ∷ (codes "tscn" ∷ [])
     ∷ (codes "tta" ∷ [])
     ∷ (codes "ttc" ∷ [])
     ∷ (codes "ttf" ∷ [])
-    ∷ (codes "ttx" ∷ [])
+    ∷ (codes "ttml" ∷ [])
+    ∷ []
+
+unfoldable pub sets_6 : List (List (List ℕ))
+sets_6 =
+    (codes "ttx" ∷ [])
     ∷ (codes "txt" ∷ [])
     ∷ (codes "txt" ∷ codes "xml" ∷ [])
     ∷ (codes "txt" ∷ codes "yaml" ∷ [])
+    ∷ (codes "txw" ∷ [])
+    ∷ (codes "typelib" ∷ [])
     ∷ (codes "tzif" ∷ [])
+    ∷ (codes "tzx" ∷ [])
+    ∷ (codes "ubi" ∷ [])
+    ∷ (codes "ubifs" ∷ [])
+    ∷ (codes "uf2" ∷ [])
+    ∷ (codes "ui" ∷ [])
+    ∷ (codes "uimage" ∷ [])
     ∷ (codes "ult" ∷ [])
+    ∷ (codes "ulx" ∷ [])
+    ∷ (codes "umx" ∷ [])
+    ∷ (codes "ups" ∷ [])
+    ∷ (codes "url" ∷ [])
+    ∷ (codes "usda" ∷ [])
     ∷ (codes "usdc" ∷ [])
+    ∷ (codes "uu" ∷ [])
+    ∷ (codes "vcdiff" ∷ [])
     ∷ (codes "vcf" ∷ [])
+    ∷ (codes "vcfg" ∷ [])
+    ∷ (codes "vdex" ∷ [])
     ∷ (codes "vdi" ∷ [])
+    ∷ (codes "vdr" ∷ [])
+    ∷ (codes "vgm" ∷ [])
     ∷ (codes "vhd" ∷ [])
     ∷ (codes "vhdx" ∷ [])
-    ∷ (codes "vmdk" ∷ [])
+    ∷ (codes "vips" ∷ [])
+    ∷ (codes "vmdk" ∷ codes "vmdkcow" ∷ [])
     ∷ (codes "vnt" ∷ [])
     ∷ (codes "voc" ∷ [])
+    ∷ (codes "vpk" ∷ [])
     ∷ (codes "vsd" ∷ [])
     ∷ (codes "vsdx" ∷ [])
     ∷ (codes "vsdx" ∷ codes "zip" ∷ [])
+    ∷ (codes "vtf" ∷ [])
     ∷ (codes "vtt" ∷ [])
+    ∷ (codes "w64" ∷ [])
     ∷ (codes "wad" ∷ [])
     ∷ (codes "warc" ∷ [])
     ∷ (codes "wasm" ∷ [])
@@ -2144,35 +3524,59 @@ sets_3 =
     ∷ (codes "wmv" ∷ [])
     ∷ (codes "woff" ∷ [])
     ∷ (codes "woff2" ∷ [])
+    ∷ (codes "wpd" ∷ [])
+    ∷ (codes "wpg" ∷ [])
     ∷ (codes "wpl" ∷ [])
+    ∷ (codes "wpm" ∷ [])
+    ∷ (codes "wps" ∷ [])
+    ∷ (codes "wreg" ∷ [])
+    ∷ (codes "wri" ∷ [])
     ∷ (codes "wrl" ∷ [])
+    ∷ (codes "wsdl" ∷ [])
     ∷ (codes "wtv" ∷ [])
     ∷ (codes "wv" ∷ [])
+    ∷ (codes "wve" ∷ [])
+    ∷ (codes "x3d" ∷ [])
+    ∷ (codes "x3dv" ∷ [])
     ∷ (codes "x3f" ∷ [])
     ∷ (codes "xap" ∷ [])
     ∷ (codes "xar" ∷ [])
+    ∷ (codes "xbe" ∷ [])
+    ∷ (codes "xbel" ∷ [])
+    ∷ (codes "xbt" ∷ [])
     ∷ (codes "xcf" ∷ [])
+    ∷ (codes "xex" ∷ [])
     ∷ (codes "xhtml" ∷ [])
+    ∷ (codes "xi" ∷ [])
+    ∷ (codes "xib" ∷ [])
+    ∷ (codes "xisf" ∷ [])
+    ∷ (codes "xliff" ∷ [])
     ∷ (codes "xls" ∷ [])
     ∷ (codes "xlsb" ∷ [])
     ∷ (codes "xlsm" ∷ [])
-    ∷ []
-
-unfoldable pub sets_4 : List (List (List ℕ))
-sets_4 =
-    (codes "xlsx" ∷ [])
+    ∷ (codes "xlsx" ∷ [])
     ∷ (codes "xm" ∷ [])
+    ∷ (codes "xmcd" ∷ [])
+    ∷ (codes "xmf" ∷ [])
+    ∷ (codes "xmi" ∷ [])
     ∷ (codes "xml" ∷ [])
     ∷ (codes "xmp" ∷ [])
     ∷ (codes "xpm" ∷ [])
+    ∷ (codes "xpm" ∷ codes "xpm2" ∷ [])
+    ∷ (codes "xsd" ∷ [])
+    ∷ (codes "xslt" ∷ [])
+    ∷ (codes "xspf" ∷ [])
     ∷ (codes "xwd" ∷ [])
     ∷ (codes "xz" ∷ [])
     ∷ (codes "y4m" ∷ [])
     ∷ (codes "yaml" ∷ [])
     ∷ (codes "zim" ∷ [])
     ∷ (codes "zip" ∷ [])
+    ∷ (codes "zoo" ∷ [])
+    ∷ (codes "zpaq" ∷ [])
     ∷ (codes "zst" ∷ [])
+    ∷ (codes "zst" ∷ codes "zstold" ∷ [])
     ∷ []
 
 unfoldable pub sets : List (List (List ℕ))
-sets = sets_0 ++ (sets_1 ++ (sets_2 ++ (sets_3 ++ (sets_4))))
+sets = sets_0 ++ (sets_1 ++ (sets_2 ++ (sets_3 ++ (sets_4 ++ (sets_5 ++ (sets_6))))))

@@ -29,3311 +29,4043 @@ is-application-cbor = 7
 abbrev pub is-application-ccxml-xml : ℕ
 is-application-ccxml-xml = 8
 
+abbrev pub is-application-dash-xml : ℕ
+is-application-dash-xml = 9
+
 abbrev pub is-application-dicom : ℕ
-is-application-dicom = 9
+is-application-dicom = 10
 
 abbrev pub is-application-dita-xml : ℕ
-is-application-dita-xml = 10
+is-application-dita-xml = 11
 
 abbrev pub is-application-edn : ℕ
-is-application-edn = 11
+is-application-edn = 12
 
 abbrev pub is-application-epub-zip : ℕ
-is-application-epub-zip = 12
+is-application-epub-zip = 13
 
 abbrev pub is-application-font-sfnt-as-row-otf : ℕ
-is-application-font-sfnt-as-row-otf = 13
+is-application-font-sfnt-as-row-otf = 14
 
 abbrev pub is-application-font-sfnt-as-row-ttf : ℕ
-is-application-font-sfnt-as-row-ttf = 14
+is-application-font-sfnt-as-row-ttf = 15
 
 abbrev pub is-application-font-woff-as-row-woff : ℕ
-is-application-font-woff-as-row-woff = 15
+is-application-font-woff-as-row-woff = 16
 
 abbrev pub is-application-font-woff-as-row-woff2 : ℕ
-is-application-font-woff-as-row-woff2 = 16
+is-application-font-woff-as-row-woff2 = 17
 
 abbrev pub is-application-geo-json : ℕ
-is-application-geo-json = 17
+is-application-geo-json = 18
 
 abbrev pub is-application-geopackage-sqlite3 : ℕ
-is-application-geopackage-sqlite3 = 18
+is-application-geopackage-sqlite3 = 19
 
 abbrev pub is-application-gml-xml : ℕ
-is-application-gml-xml = 19
+is-application-gml-xml = 20
 
 abbrev pub is-application-gnunet-directory : ℕ
-is-application-gnunet-directory = 20
+is-application-gnunet-directory = 21
 
 abbrev pub is-application-gpx-xml : ℕ
-is-application-gpx-xml = 21
+is-application-gpx-xml = 22
 
 abbrev pub is-application-graphql : ℕ
-is-application-graphql = 22
+is-application-graphql = 23
 
 abbrev pub is-application-gzip : ℕ
-is-application-gzip = 23
+is-application-gzip = 24
 
 abbrev pub is-application-hjson : ℕ
-is-application-hjson = 24
+is-application-hjson = 25
 
 abbrev pub is-application-hta : ℕ
-is-application-hta = 25
+is-application-hta = 26
 
 abbrev pub is-application-illustrator : ℕ
-is-application-illustrator = 26
+is-application-illustrator = 27
 
 abbrev pub is-application-its-xml : ℕ
-is-application-its-xml = 27
+is-application-its-xml = 28
 
 abbrev pub is-application-java : ℕ
-is-application-java = 28
+is-application-java = 29
 
 abbrev pub is-application-java-archive : ℕ
-is-application-java-archive = 29
+is-application-java-archive = 30
 
 abbrev pub is-application-json : ℕ
-is-application-json = 30
+is-application-json = 31
 
 abbrev pub is-application-json5 : ℕ
-is-application-json5 = 31
+is-application-json5 = 32
 
 abbrev pub is-application-jsonnet : ℕ
-is-application-jsonnet = 32
+is-application-jsonnet = 33
 
 abbrev pub is-application-ld-json : ℕ
-is-application-ld-json = 33
+is-application-ld-json = 34
 
 abbrev pub is-application-lrc : ℕ
-is-application-lrc = 34
+is-application-lrc = 35
+
+abbrev pub is-application-mac-binhex40 : ℕ
+is-application-mac-binhex40 = 36
 
 abbrev pub is-application-manifest-json : ℕ
-is-application-manifest-json = 35
+is-application-manifest-json = 37
 
 abbrev pub is-application-mathml-xml : ℕ
-is-application-mathml-xml = 36
+is-application-mathml-xml = 38
 
 abbrev pub is-application-mbox : ℕ
-is-application-mbox = 37
+is-application-mbox = 39
 
 abbrev pub is-application-metalink-xml : ℕ
-is-application-metalink-xml = 38
+is-application-metalink-xml = 40
 
 abbrev pub is-application-metalink4-xml : ℕ
-is-application-metalink4-xml = 39
+is-application-metalink4-xml = 41
 
 abbrev pub is-application-msgpack : ℕ
-is-application-msgpack = 40
+is-application-msgpack = 42
 
 abbrev pub is-application-msix : ℕ
-is-application-msix = 41
+is-application-msix = 43
 
 abbrev pub is-application-msword : ℕ
-is-application-msword = 42
+is-application-msword = 44
 
 abbrev pub is-application-msword-template : ℕ
-is-application-msword-template = 43
+is-application-msword-template = 45
 
 abbrev pub is-application-mxf : ℕ
-is-application-mxf = 44
+is-application-mxf = 46
 
 abbrev pub is-application-n-quads : ℕ
-is-application-n-quads = 45
+is-application-n-quads = 47
 
 abbrev pub is-application-n-triples : ℕ
-is-application-n-triples = 46
+is-application-n-triples = 48
 
 abbrev pub is-application-octet-stream : ℕ
-is-application-octet-stream = 47
+is-application-octet-stream = 49
 
 abbrev pub is-application-oebps-package-xml : ℕ
-is-application-oebps-package-xml = 48
+is-application-oebps-package-xml = 50
 
 abbrev pub is-application-onenote : ℕ
-is-application-onenote = 49
+is-application-onenote = 51
 
 abbrev pub is-application-onnx : ℕ
-is-application-onnx = 50
+is-application-onnx = 52
 
 abbrev pub is-application-owl-xml : ℕ
-is-application-owl-xml = 51
+is-application-owl-xml = 53
 
 abbrev pub is-application-oxps : ℕ
-is-application-oxps = 52
+is-application-oxps = 54
 
 abbrev pub is-application-pdf : ℕ
-is-application-pdf = 53
+is-application-pdf = 55
 
 abbrev pub is-application-pgp-encrypted : ℕ
-is-application-pgp-encrypted = 54
+is-application-pgp-encrypted = 56
 
 abbrev pub is-application-pgp-keys-as-row-asc : ℕ
-is-application-pgp-keys-as-row-asc = 55
+is-application-pgp-keys-as-row-asc = 57
 
 abbrev pub is-application-pgp-keys-as-row-gpg : ℕ
-is-application-pgp-keys-as-row-gpg = 56
+is-application-pgp-keys-as-row-gpg = 58
 
 abbrev pub is-application-pgp-signature : ℕ
-is-application-pgp-signature = 57
+is-application-pgp-signature = 59
 
 abbrev pub is-application-pkcs10 : ℕ
-is-application-pkcs10 = 58
+is-application-pkcs10 = 60
 
 abbrev pub is-application-pkcs12 : ℕ
-is-application-pkcs12 = 59
+is-application-pkcs12 = 61
 
 abbrev pub is-application-pkcs7-mime : ℕ
-is-application-pkcs7-mime = 60
+is-application-pkcs7-mime = 62
 
 abbrev pub is-application-pkcs7-signature : ℕ
-is-application-pkcs7-signature = 61
+is-application-pkcs7-signature = 63
 
 abbrev pub is-application-pkcs8 : ℕ
-is-application-pkcs8 = 62
+is-application-pkcs8 = 64
 
 abbrev pub is-application-pkix-cert : ℕ
-is-application-pkix-cert = 63
+is-application-pkix-cert = 65
 
 abbrev pub is-application-pkix-crl : ℕ
-is-application-pkix-crl = 64
+is-application-pkix-crl = 66
 
 abbrev pub is-application-postscript : ℕ
-is-application-postscript = 65
+is-application-postscript = 67
 
 abbrev pub is-application-protobuf : ℕ
-is-application-protobuf = 66
+is-application-protobuf = 68
 
 abbrev pub is-application-raml-yaml : ℕ
-is-application-raml-yaml = 67
+is-application-raml-yaml = 69
 
 abbrev pub is-application-rdf-xml : ℕ
-is-application-rdf-xml = 68
+is-application-rdf-xml = 70
 
 abbrev pub is-application-relax-ng-compact-syntax : ℕ
-is-application-relax-ng-compact-syntax = 69
+is-application-relax-ng-compact-syntax = 71
 
 abbrev pub is-application-rss-xml : ℕ
-is-application-rss-xml = 70
+is-application-rss-xml = 72
 
 abbrev pub is-application-rtf : ℕ
-is-application-rtf = 71
+is-application-rtf = 73
 
 abbrev pub is-application-sarif-json : ℕ
-is-application-sarif-json = 72
+is-application-sarif-json = 74
 
 abbrev pub is-application-sbml-xml : ℕ
-is-application-sbml-xml = 73
+is-application-sbml-xml = 75
 
 abbrev pub is-application-schema-json : ℕ
-is-application-schema-json = 74
+is-application-schema-json = 76
+
+abbrev pub is-application-sdp : ℕ
+is-application-sdp = 77
+
+abbrev pub is-application-sereal : ℕ
+is-application-sereal = 78
 
 abbrev pub is-application-smil-xml : ℕ
-is-application-smil-xml = 75
+is-application-smil-xml = 79
 
 abbrev pub is-application-sourcemap-json : ℕ
-is-application-sourcemap-json = 76
+is-application-sourcemap-json = 80
 
 abbrev pub is-application-sparql-query : ℕ
-is-application-sparql-query = 77
+is-application-sparql-query = 81
 
 abbrev pub is-application-sparql-results-xml : ℕ
-is-application-sparql-results-xml = 78
+is-application-sparql-results-xml = 82
 
 abbrev pub is-application-sql : ℕ
-is-application-sql = 79
+is-application-sql = 83
 
 abbrev pub is-application-srgs-xml : ℕ
-is-application-srgs-xml = 80
+is-application-srgs-xml = 84
+
+abbrev pub is-application-syzygy : ℕ
+is-application-syzygy = 85
 
 abbrev pub is-application-tei-xml : ℕ
-is-application-tei-xml = 81
+is-application-tei-xml = 86
 
 abbrev pub is-application-timestamp-query : ℕ
-is-application-timestamp-query = 82
+is-application-timestamp-query = 87
 
 abbrev pub is-application-timestamp-reply : ℕ
-is-application-timestamp-reply = 83
+is-application-timestamp-reply = 88
 
 abbrev pub is-application-toml : ℕ
-is-application-toml = 84
+is-application-toml = 89
 
 abbrev pub is-application-topo-json : ℕ
-is-application-topo-json = 85
+is-application-topo-json = 90
 
 abbrev pub is-application-trig : ℕ
-is-application-trig = 86
+is-application-trig = 91
 
 abbrev pub is-application-ttml-xml : ℕ
-is-application-ttml-xml = 87
+is-application-ttml-xml = 92
 
 abbrev pub is-application-tzif : ℕ
-is-application-tzif = 88
+is-application-tzif = 93
 
 abbrev pub is-application-vnd-adobe-xfdf : ℕ
-is-application-vnd-adobe-xfdf = 89
+is-application-vnd-adobe-xfdf = 94
 
 abbrev pub is-application-vnd-amazon-mobi8-ebook : ℕ
-is-application-vnd-amazon-mobi8-ebook = 90
+is-application-vnd-amazon-mobi8-ebook = 95
 
 abbrev pub is-application-vnd-android-dex : ℕ
-is-application-vnd-android-dex = 91
+is-application-vnd-android-dex = 96
 
 abbrev pub is-application-vnd-android-dey : ℕ
-is-application-vnd-android-dey = 92
+is-application-vnd-android-dey = 97
 
 abbrev pub is-application-vnd-android-package-archive : ℕ
-is-application-vnd-android-package-archive = 93
+is-application-vnd-android-package-archive = 98
 
 abbrev pub is-application-vnd-apache-arrow-file : ℕ
-is-application-vnd-apache-arrow-file = 94
+is-application-vnd-apache-arrow-file = 99
 
 abbrev pub is-application-vnd-apache-parquet : ℕ
-is-application-vnd-apache-parquet = 95
+is-application-vnd-apache-parquet = 100
 
 abbrev pub is-application-vnd-appimage : ℕ
-is-application-vnd-appimage = 96
+is-application-vnd-appimage = 101
 
 abbrev pub is-application-vnd-apple-keynote : ℕ
-is-application-vnd-apple-keynote = 97
+is-application-vnd-apple-keynote = 102
 
 abbrev pub is-application-vnd-apple-mpegurl : ℕ
-is-application-vnd-apple-mpegurl = 98
+is-application-vnd-apple-mpegurl = 103
 
 abbrev pub is-application-vnd-apple-numbers : ℕ
-is-application-vnd-apple-numbers = 99
+is-application-vnd-apple-numbers = 104
 
 abbrev pub is-application-vnd-apple-pages : ℕ
-is-application-vnd-apple-pages = 100
+is-application-vnd-apple-pages = 105
 
 abbrev pub is-application-vnd-apple-pkpass : ℕ
-is-application-vnd-apple-pkpass = 101
+is-application-vnd-apple-pkpass = 106
 
 abbrev pub is-application-vnd-bzip3 : ℕ
-is-application-vnd-bzip3 = 102
+is-application-vnd-bzip3 = 107
 
 abbrev pub is-application-vnd-chess-pgn : ℕ
-is-application-vnd-chess-pgn = 103
+is-application-vnd-chess-pgn = 108
 
 abbrev pub is-application-vnd-coffeescript : ℕ
-is-application-vnd-coffeescript = 104
+is-application-vnd-coffeescript = 109
 
 abbrev pub is-application-vnd-comicbook-zip : ℕ
-is-application-vnd-comicbook-zip = 105
+is-application-vnd-comicbook-zip = 110
 
 abbrev pub is-application-vnd-comicbook-rar : ℕ
-is-application-vnd-comicbook-rar = 106
+is-application-vnd-comicbook-rar = 111
 
 abbrev pub is-application-vnd-corel-draw : ℕ
-is-application-vnd-corel-draw = 107
+is-application-vnd-corel-draw = 112
+
+abbrev pub is-application-vnd-cups-ppd : ℕ
+is-application-vnd-cups-ppd = 113
+
+abbrev pub is-application-vnd-cups-raster : ℕ
+is-application-vnd-cups-raster = 114
 
 abbrev pub is-application-vnd-dbf : ℕ
-is-application-vnd-dbf = 108
+is-application-vnd-dbf = 115
 
 abbrev pub is-application-vnd-debian-binary-package : ℕ
-is-application-vnd-debian-binary-package = 109
+is-application-vnd-debian-binary-package = 116
 
 abbrev pub is-application-vnd-etsi-asic-e-zip : ℕ
-is-application-vnd-etsi-asic-e-zip = 110
+is-application-vnd-etsi-asic-e-zip = 117
+
+abbrev pub is-application-vnd-fdf : ℕ
+is-application-vnd-fdf = 118
 
 abbrev pub is-application-vnd-flatpak : ℕ
-is-application-vnd-flatpak = 111
+is-application-vnd-flatpak = 119
+
+abbrev pub is-application-vnd-flatpak-ref : ℕ
+is-application-vnd-flatpak-ref = 120
+
+abbrev pub is-application-vnd-flatpak-repo : ℕ
+is-application-vnd-flatpak-repo = 121
+
+abbrev pub is-application-vnd-font-fontforge-sfd : ℕ
+is-application-vnd-font-fontforge-sfd = 122
+
+abbrev pub is-application-vnd-framemaker : ℕ
+is-application-vnd-framemaker = 123
 
 abbrev pub is-application-vnd-garmin-tcx-xml : ℕ
-is-application-vnd-garmin-tcx-xml = 112
+is-application-vnd-garmin-tcx-xml = 124
 
 abbrev pub is-application-vnd-geogebra-file : ℕ
-is-application-vnd-geogebra-file = 113
+is-application-vnd-geogebra-file = 125
 
 abbrev pub is-application-vnd-google-earth-kml-xml : ℕ
-is-application-vnd-google-earth-kml-xml = 114
+is-application-vnd-google-earth-kml-xml = 126
 
 abbrev pub is-application-vnd-google-earth-kmz : ℕ
-is-application-vnd-google-earth-kmz = 115
+is-application-vnd-google-earth-kmz = 127
+
+abbrev pub is-application-vnd-hdt : ℕ
+is-application-vnd-hdt = 128
 
 abbrev pub is-application-vnd-hp-pcl : ℕ
-is-application-vnd-hp-pcl = 116
+is-application-vnd-hp-pcl = 129
+
+abbrev pub is-application-vnd-hp-pjl : ℕ
+is-application-vnd-hp-pjl = 130
 
 abbrev pub is-application-vnd-iccprofile : ℕ
-is-application-vnd-iccprofile = 117
+is-application-vnd-iccprofile = 131
+
+abbrev pub is-application-vnd-las : ℕ
+is-application-vnd-las = 132
 
 abbrev pub is-application-vnd-laszip : ℕ
-is-application-vnd-laszip = 118
+is-application-vnd-laszip = 133
 
 abbrev pub is-application-vnd-lotus-1-2-3 : ℕ
-is-application-vnd-lotus-1-2-3 = 119
+is-application-vnd-lotus-1-2-3 = 134
 
 abbrev pub is-application-vnd-lotus-wordpro : ℕ
-is-application-vnd-lotus-wordpro = 120
+is-application-vnd-lotus-wordpro = 135
 
 abbrev pub is-application-vnd-mbtiles : ℕ
-is-application-vnd-mbtiles = 121
+is-application-vnd-mbtiles = 136
 
 abbrev pub is-application-vnd-microsoft-portable-executable : ℕ
-is-application-vnd-microsoft-portable-executable = 122
+is-application-vnd-microsoft-portable-executable = 137
+
+abbrev pub is-application-vnd-mif : ℕ
+is-application-vnd-mif = 138
 
 abbrev pub is-application-vnd-mozilla-webapp-json : ℕ
-is-application-vnd-mozilla-webapp-json = 123
+is-application-vnd-mozilla-webapp-json = 139
 
 abbrev pub is-application-vnd-mozilla-xul-xml : ℕ
-is-application-vnd-mozilla-xul-xml = 124
+is-application-vnd-mozilla-xul-xml = 140
 
 abbrev pub is-application-vnd-ms-asf : ℕ
-is-application-vnd-ms-asf = 125
+is-application-vnd-ms-asf = 141
 
 abbrev pub is-application-vnd-ms-cab-compressed : ℕ
-is-application-vnd-ms-cab-compressed = 126
+is-application-vnd-ms-cab-compressed = 142
 
 abbrev pub is-application-vnd-ms-excel : ℕ
-is-application-vnd-ms-excel = 127
+is-application-vnd-ms-excel = 143
 
 abbrev pub is-application-vnd-ms-excel-addin-macroenabled-12 : ℕ
-is-application-vnd-ms-excel-addin-macroenabled-12 = 128
+is-application-vnd-ms-excel-addin-macroenabled-12 = 144
 
 abbrev pub is-application-vnd-ms-excel-sheet-binary-macroenabled-12 : ℕ
-is-application-vnd-ms-excel-sheet-binary-macroenabled-12 = 129
+is-application-vnd-ms-excel-sheet-binary-macroenabled-12 = 145
 
 abbrev pub is-application-vnd-ms-excel-sheet-macroenabled-12 : ℕ
-is-application-vnd-ms-excel-sheet-macroenabled-12 = 130
+is-application-vnd-ms-excel-sheet-macroenabled-12 = 146
 
 abbrev pub is-application-vnd-ms-excel-template-macroenabled-12 : ℕ
-is-application-vnd-ms-excel-template-macroenabled-12 = 131
+is-application-vnd-ms-excel-template-macroenabled-12 = 147
 
 abbrev pub is-application-vnd-ms-htmlhelp : ℕ
-is-application-vnd-ms-htmlhelp = 132
+is-application-vnd-ms-htmlhelp = 148
 
 abbrev pub is-application-vnd-ms-outlook : ℕ
-is-application-vnd-ms-outlook = 133
+is-application-vnd-ms-outlook = 149
 
 abbrev pub is-application-vnd-ms-outlook-pst : ℕ
-is-application-vnd-ms-outlook-pst = 134
+is-application-vnd-ms-outlook-pst = 150
+
+abbrev pub is-application-vnd-ms-package-3dmanufacturing-3dmodel-xml : ℕ
+is-application-vnd-ms-package-3dmanufacturing-3dmodel-xml = 151
 
 abbrev pub is-application-vnd-ms-powerpoint : ℕ
-is-application-vnd-ms-powerpoint = 135
+is-application-vnd-ms-powerpoint = 152
 
 abbrev pub is-application-vnd-ms-powerpoint-presentation-macroenabled-12 : ℕ
-is-application-vnd-ms-powerpoint-presentation-macroenabled-12 = 136
+is-application-vnd-ms-powerpoint-presentation-macroenabled-12 = 153
 
 abbrev pub is-application-vnd-ms-powerpoint-slideshow-macroenabled-12 : ℕ
-is-application-vnd-ms-powerpoint-slideshow-macroenabled-12 = 137
+is-application-vnd-ms-powerpoint-slideshow-macroenabled-12 = 154
 
 abbrev pub is-application-vnd-ms-powerpoint-template-macroenabled-12 : ℕ
-is-application-vnd-ms-powerpoint-template-macroenabled-12 = 138
+is-application-vnd-ms-powerpoint-template-macroenabled-12 = 155
 
 abbrev pub is-application-vnd-ms-project : ℕ
-is-application-vnd-ms-project = 139
+is-application-vnd-ms-project = 156
 
 abbrev pub is-application-vnd-ms-publisher : ℕ
-is-application-vnd-ms-publisher = 140
+is-application-vnd-ms-publisher = 157
 
 abbrev pub is-application-vnd-ms-tnef : ℕ
-is-application-vnd-ms-tnef = 141
+is-application-vnd-ms-tnef = 158
 
 abbrev pub is-application-vnd-ms-visio-drawing-macroenabled-main-xml : ℕ
-is-application-vnd-ms-visio-drawing-macroenabled-main-xml = 142
+is-application-vnd-ms-visio-drawing-macroenabled-main-xml = 159
 
 abbrev pub is-application-vnd-ms-visio-drawing-main-xml : ℕ
-is-application-vnd-ms-visio-drawing-main-xml = 143
+is-application-vnd-ms-visio-drawing-main-xml = 160
 
 abbrev pub is-application-vnd-ms-visio-stencil-main-xml : ℕ
-is-application-vnd-ms-visio-stencil-main-xml = 144
+is-application-vnd-ms-visio-stencil-main-xml = 161
 
 abbrev pub is-application-vnd-ms-visio-template-main-xml : ℕ
-is-application-vnd-ms-visio-template-main-xml = 145
+is-application-vnd-ms-visio-template-main-xml = 162
 
 abbrev pub is-application-vnd-ms-word-document-macroenabled-12 : ℕ
-is-application-vnd-ms-word-document-macroenabled-12 = 146
+is-application-vnd-ms-word-document-macroenabled-12 = 163
 
 abbrev pub is-application-vnd-ms-word-template-macroenabled-12 : ℕ
-is-application-vnd-ms-word-template-macroenabled-12 = 147
+is-application-vnd-ms-word-template-macroenabled-12 = 164
 
 abbrev pub is-application-vnd-ms-works : ℕ
-is-application-vnd-ms-works = 148
+is-application-vnd-ms-works = 165
 
 abbrev pub is-application-vnd-ms-wpl : ℕ
-is-application-vnd-ms-wpl = 149
+is-application-vnd-ms-wpl = 166
 
 abbrev pub is-application-vnd-ms-xpsdocument : ℕ
-is-application-vnd-ms-xpsdocument = 150
+is-application-vnd-ms-xpsdocument = 167
 
 abbrev pub is-application-vnd-nintendo-nitro-rom : ℕ
-is-application-vnd-nintendo-nitro-rom = 151
+is-application-vnd-nintendo-nitro-rom = 168
 
 abbrev pub is-application-vnd-nintendo-snes-rom : ℕ
-is-application-vnd-nintendo-snes-rom = 152
+is-application-vnd-nintendo-snes-rom = 169
 
 abbrev pub is-application-vnd-oasis-opendocument-base : ℕ
-is-application-vnd-oasis-opendocument-base = 153
+is-application-vnd-oasis-opendocument-base = 170
 
 abbrev pub is-application-vnd-oasis-opendocument-chart : ℕ
-is-application-vnd-oasis-opendocument-chart = 154
+is-application-vnd-oasis-opendocument-chart = 171
 
 abbrev pub is-application-vnd-oasis-opendocument-formula : ℕ
-is-application-vnd-oasis-opendocument-formula = 155
+is-application-vnd-oasis-opendocument-formula = 172
 
 abbrev pub is-application-vnd-oasis-opendocument-graphics : ℕ
-is-application-vnd-oasis-opendocument-graphics = 156
+is-application-vnd-oasis-opendocument-graphics = 173
 
 abbrev pub is-application-vnd-oasis-opendocument-graphics-flat-xml : ℕ
-is-application-vnd-oasis-opendocument-graphics-flat-xml = 157
+is-application-vnd-oasis-opendocument-graphics-flat-xml = 174
 
 abbrev pub is-application-vnd-oasis-opendocument-graphics-template : ℕ
-is-application-vnd-oasis-opendocument-graphics-template = 158
+is-application-vnd-oasis-opendocument-graphics-template = 175
 
 abbrev pub is-application-vnd-oasis-opendocument-image : ℕ
-is-application-vnd-oasis-opendocument-image = 159
+is-application-vnd-oasis-opendocument-image = 176
 
 abbrev pub is-application-vnd-oasis-opendocument-presentation : ℕ
-is-application-vnd-oasis-opendocument-presentation = 160
+is-application-vnd-oasis-opendocument-presentation = 177
 
 abbrev pub is-application-vnd-oasis-opendocument-presentation-flat-xml : ℕ
-is-application-vnd-oasis-opendocument-presentation-flat-xml = 161
+is-application-vnd-oasis-opendocument-presentation-flat-xml = 178
 
 abbrev pub is-application-vnd-oasis-opendocument-presentation-template : ℕ
-is-application-vnd-oasis-opendocument-presentation-template = 162
+is-application-vnd-oasis-opendocument-presentation-template = 179
 
 abbrev pub is-application-vnd-oasis-opendocument-spreadsheet : ℕ
-is-application-vnd-oasis-opendocument-spreadsheet = 163
+is-application-vnd-oasis-opendocument-spreadsheet = 180
 
 abbrev pub is-application-vnd-oasis-opendocument-spreadsheet-flat-xml : ℕ
-is-application-vnd-oasis-opendocument-spreadsheet-flat-xml = 164
+is-application-vnd-oasis-opendocument-spreadsheet-flat-xml = 181
 
 abbrev pub is-application-vnd-oasis-opendocument-spreadsheet-template : ℕ
-is-application-vnd-oasis-opendocument-spreadsheet-template = 165
+is-application-vnd-oasis-opendocument-spreadsheet-template = 182
 
 abbrev pub is-application-vnd-oasis-opendocument-text : ℕ
-is-application-vnd-oasis-opendocument-text = 166
+is-application-vnd-oasis-opendocument-text = 183
 
 abbrev pub is-application-vnd-oasis-opendocument-text-flat-xml : ℕ
-is-application-vnd-oasis-opendocument-text-flat-xml = 167
+is-application-vnd-oasis-opendocument-text-flat-xml = 184
 
 abbrev pub is-application-vnd-oasis-opendocument-text-master : ℕ
-is-application-vnd-oasis-opendocument-text-master = 168
+is-application-vnd-oasis-opendocument-text-master = 185
 
 abbrev pub is-application-vnd-oasis-opendocument-text-template : ℕ
-is-application-vnd-oasis-opendocument-text-template = 169
+is-application-vnd-oasis-opendocument-text-template = 186
 
 abbrev pub is-application-vnd-oasis-opendocument-text-web : ℕ
-is-application-vnd-oasis-opendocument-text-web = 170
+is-application-vnd-oasis-opendocument-text-web = 187
+
+abbrev pub is-application-vnd-openstreetmap-data-xml : ℕ
+is-application-vnd-openstreetmap-data-xml = 188
 
 abbrev pub is-application-vnd-openxmlformats-officedocument-presentationml-presentation : ℕ
-is-application-vnd-openxmlformats-officedocument-presentationml-presentation = 171
+is-application-vnd-openxmlformats-officedocument-presentationml-presentation = 189
 
 abbrev pub is-application-vnd-openxmlformats-officedocument-presentationml-slideshow : ℕ
-is-application-vnd-openxmlformats-officedocument-presentationml-slideshow = 172
+is-application-vnd-openxmlformats-officedocument-presentationml-slideshow = 190
 
 abbrev pub is-application-vnd-openxmlformats-officedocument-presentationml-template : ℕ
-is-application-vnd-openxmlformats-officedocument-presentationml-template = 173
+is-application-vnd-openxmlformats-officedocument-presentationml-template = 191
 
 abbrev pub is-application-vnd-openxmlformats-officedocument-spreadsheetml-sheet : ℕ
-is-application-vnd-openxmlformats-officedocument-spreadsheetml-sheet = 174
+is-application-vnd-openxmlformats-officedocument-spreadsheetml-sheet = 192
 
 abbrev pub is-application-vnd-openxmlformats-officedocument-spreadsheetml-template : ℕ
-is-application-vnd-openxmlformats-officedocument-spreadsheetml-template = 175
+is-application-vnd-openxmlformats-officedocument-spreadsheetml-template = 193
 
 abbrev pub is-application-vnd-openxmlformats-officedocument-wordprocessingml-document : ℕ
-is-application-vnd-openxmlformats-officedocument-wordprocessingml-document = 176
+is-application-vnd-openxmlformats-officedocument-wordprocessingml-document = 194
 
 abbrev pub is-application-vnd-openxmlformats-officedocument-wordprocessingml-template : ℕ
-is-application-vnd-openxmlformats-officedocument-wordprocessingml-template = 177
-
-abbrev pub is-application-vnd-osm-xml : ℕ
-is-application-vnd-osm-xml = 178
+is-application-vnd-openxmlformats-officedocument-wordprocessingml-template = 195
 
 abbrev pub is-application-vnd-rar : ℕ
-is-application-vnd-rar = 179
+is-application-vnd-rar = 196
 
 abbrev pub is-application-vnd-recordare-musicxml : ℕ
-is-application-vnd-recordare-musicxml = 180
+is-application-vnd-recordare-musicxml = 197
 
 abbrev pub is-application-vnd-recordare-musicxml-xml : ℕ
-is-application-vnd-recordare-musicxml-xml = 181
+is-application-vnd-recordare-musicxml-xml = 198
 
 abbrev pub is-application-vnd-rn-realmedia : ℕ
-is-application-vnd-rn-realmedia = 182
+is-application-vnd-rn-realmedia = 199
+
+abbrev pub is-application-vnd-sar : ℕ
+is-application-vnd-sar = 200
+
+abbrev pub is-application-vnd-scribus : ℕ
+is-application-vnd-scribus = 201
 
 abbrev pub is-application-vnd-shp : ℕ
-is-application-vnd-shp = 183
+is-application-vnd-shp = 202
 
 abbrev pub is-application-vnd-shx : ℕ
-is-application-vnd-shx = 184
+is-application-vnd-shx = 203
 
 abbrev pub is-application-vnd-smaf : ℕ
-is-application-vnd-smaf = 185
+is-application-vnd-smaf = 204
 
 abbrev pub is-application-vnd-snap : ℕ
-is-application-vnd-snap = 186
+is-application-vnd-snap = 205
 
 abbrev pub is-application-vnd-sqlite3 : ℕ
-is-application-vnd-sqlite3 = 187
+is-application-vnd-sqlite3 = 206
 
 abbrev pub is-application-vnd-squashfs : ℕ
-is-application-vnd-squashfs = 188
+is-application-vnd-squashfs = 207
 
 abbrev pub is-application-vnd-stardivision-writer : ℕ
-is-application-vnd-stardivision-writer = 189
+is-application-vnd-stardivision-writer = 208
 
 abbrev pub is-application-vnd-sun-xml-calc : ℕ
-is-application-vnd-sun-xml-calc = 190
+is-application-vnd-sun-xml-calc = 209
 
 abbrev pub is-application-vnd-sun-xml-draw : ℕ
-is-application-vnd-sun-xml-draw = 191
+is-application-vnd-sun-xml-draw = 210
 
 abbrev pub is-application-vnd-sun-xml-impress : ℕ
-is-application-vnd-sun-xml-impress = 192
+is-application-vnd-sun-xml-impress = 211
 
 abbrev pub is-application-vnd-sun-xml-math : ℕ
-is-application-vnd-sun-xml-math = 193
+is-application-vnd-sun-xml-math = 212
 
 abbrev pub is-application-vnd-sun-xml-writer : ℕ
-is-application-vnd-sun-xml-writer = 194
+is-application-vnd-sun-xml-writer = 213
 
 abbrev pub is-application-vnd-tcpdump-pcap : ℕ
-is-application-vnd-tcpdump-pcap = 195
+is-application-vnd-tcpdump-pcap = 214
 
 abbrev pub is-application-vnd-visio : ℕ
-is-application-vnd-visio = 196
+is-application-vnd-visio = 215
 
 abbrev pub is-application-vnd-wolfram-mathematica : ℕ
-is-application-vnd-wolfram-mathematica = 197
+is-application-vnd-wolfram-mathematica = 216
 
 abbrev pub is-application-vnd-wordperfect : ℕ
-is-application-vnd-wordperfect = 198
+is-application-vnd-wordperfect = 217
 
 abbrev pub is-application-voicexml-xml : ℕ
-is-application-voicexml-xml = 199
+is-application-voicexml-xml = 218
 
 abbrev pub is-application-vsix : ℕ
-is-application-vsix = 200
+is-application-vsix = 219
 
 abbrev pub is-application-warc : ℕ
-is-application-warc = 201
+is-application-warc = 220
 
 abbrev pub is-application-wasm : ℕ
-is-application-wasm = 202
+is-application-wasm = 221
 
 abbrev pub is-application-winhlp : ℕ
-is-application-winhlp = 203
+is-application-winhlp = 222
 
 abbrev pub is-application-wsdl-xml : ℕ
-is-application-wsdl-xml = 204
+is-application-wsdl-xml = 223
 
 abbrev pub is-application-x-7z-compressed : ℕ
-is-application-x-7z-compressed = 205
+is-application-x-7z-compressed = 224
+
+abbrev pub is-application-x-abiword : ℕ
+is-application-x-abiword = 225
 
 abbrev pub is-application-x-ableton-live-set : ℕ
-is-application-x-ableton-live-set = 206
+is-application-x-ableton-live-set = 226
 
 abbrev pub is-application-x-ace : ℕ
-is-application-x-ace = 207
+is-application-x-ace = 227
+
+abbrev pub is-application-x-acronis-tib : ℕ
+is-application-x-acronis-tib = 228
 
 abbrev pub is-application-x-admx : ℕ
-is-application-x-admx = 208
+is-application-x-admx = 229
+
+abbrev pub is-application-x-aes-encrypted : ℕ
+is-application-x-aes-encrypted = 230
 
 abbrev pub is-application-x-age-encryption : ℕ
-is-application-x-age-encryption = 209
+is-application-x-age-encryption = 231
 
 abbrev pub is-application-x-alz : ℕ
-is-application-x-alz = 210
+is-application-x-alz = 232
+
+abbrev pub is-application-x-amf : ℕ
+is-application-x-amf = 233
 
 abbrev pub is-application-x-amiga-disk-format : ℕ
-is-application-x-amiga-disk-format = 211
+is-application-x-amiga-disk-format = 234
 
 abbrev pub is-application-x-android-archive : ℕ
-is-application-x-android-archive = 212
+is-application-x-android-archive = 235
+
+abbrev pub is-application-x-android-binary-xml : ℕ
+is-application-x-android-binary-xml = 236
+
+abbrev pub is-application-x-android-boot-image : ℕ
+is-application-x-android-boot-image = 237
+
+abbrev pub is-application-x-android-resources : ℕ
+is-application-x-android-resources = 238
+
+abbrev pub is-application-x-android-sparse-image : ℕ
+is-application-x-android-sparse-image = 239
+
+abbrev pub is-application-x-android-vdex : ℕ
+is-application-x-android-vdex = 240
 
 abbrev pub is-application-x-ant-xml : ℕ
-is-application-x-ant-xml = 213
+is-application-x-ant-xml = 241
 
 abbrev pub is-application-x-apkm : ℕ
-is-application-x-apkm = 214
+is-application-x-apkm = 242
 
 abbrev pub is-application-x-appdata-xml : ℕ
-is-application-x-appdata-xml = 215
+is-application-x-appdata-xml = 243
 
 abbrev pub is-application-x-apple-diskimage : ℕ
-is-application-x-apple-diskimage = 216
+is-application-x-apple-diskimage = 244
+
+abbrev pub is-application-x-apple-xib : ℕ
+is-application-x-apple-xib = 245
+
+abbrev pub is-application-x-appleworks : ℕ
+is-application-x-appleworks = 246
+
+abbrev pub is-application-x-applix-spreadsheet : ℕ
+is-application-x-applix-spreadsheet = 247
+
+abbrev pub is-application-x-applix-word : ℕ
+is-application-x-applix-word = 248
+
+abbrev pub is-application-x-apt-cache : ℕ
+is-application-x-apt-cache = 249
 
 abbrev pub is-application-x-arb-json : ℕ
-is-application-x-arb-json = 217
+is-application-x-arb-json = 250
 
 abbrev pub is-application-x-arc : ℕ
-is-application-x-arc = 218
+is-application-x-arc = 251
 
 abbrev pub is-application-x-archive-dar : ℕ
-is-application-x-archive-dar = 219
+is-application-x-archive-dar = 252
 
 abbrev pub is-application-x-arj : ℕ
-is-application-x-arj = 220
+is-application-x-arj = 253
 
 abbrev pub is-application-x-asar : ℕ
-is-application-x-asar = 221
+is-application-x-asar = 254
 
 abbrev pub is-application-x-asp : ℕ
-is-application-x-asp = 222
+is-application-x-asp = 255
 
 abbrev pub is-application-x-aspx : ℕ
-is-application-x-aspx = 223
+is-application-x-aspx = 256
 
 abbrev pub is-application-x-atari-7800-rom : ℕ
-is-application-x-atari-7800-rom = 224
+is-application-x-atari-7800-rom = 257
 
 abbrev pub is-application-x-atari-lynx-rom : ℕ
-is-application-x-atari-lynx-rom = 225
+is-application-x-atari-lynx-rom = 258
+
+abbrev pub is-application-x-atari-msa : ℕ
+is-application-x-atari-msa = 259
+
+abbrev pub is-application-x-audacity-project : ℕ
+is-application-x-audacity-project = 260
 
 abbrev pub is-application-x-audacity-project-sqlite3 : ℕ
-is-application-x-audacity-project-sqlite3 = 226
+is-application-x-audacity-project-sqlite3 = 261
 
 abbrev pub is-application-x-autodesk-max : ℕ
-is-application-x-autodesk-max = 227
+is-application-x-autodesk-max = 262
 
 abbrev pub is-application-x-avro : ℕ
-is-application-x-avro = 228
+is-application-x-avro = 263
 
 abbrev pub is-application-x-avro-schema-json : ℕ
-is-application-x-avro-schema-json = 229
+is-application-x-avro-schema-json = 264
+
+abbrev pub is-application-x-bai : ℕ
+is-application-x-bai = 265
+
+abbrev pub is-application-x-bam : ℕ
+is-application-x-bam = 266
 
 abbrev pub is-application-x-bash : ℕ
-is-application-x-bash = 230
+is-application-x-bash = 267
+
+abbrev pub is-application-x-bdf : ℕ
+is-application-x-bdf = 268
+
+abbrev pub is-application-x-bentley-dgn : ℕ
+is-application-x-bentley-dgn = 269
 
 abbrev pub is-application-x-bittorrent : ℕ
-is-application-x-bittorrent = 231
+is-application-x-bittorrent = 270
 
 abbrev pub is-application-x-blender : ℕ
-is-application-x-blender = 232
+is-application-x-blender = 271
+
+abbrev pub is-application-x-blorb : ℕ
+is-application-x-blorb = 272
 
 abbrev pub is-application-x-bplist : ℕ
-is-application-x-bplist = 233
+is-application-x-bplist = 273
 
 abbrev pub is-application-x-bps-patch : ℕ
-is-application-x-bps-patch = 234
+is-application-x-bps-patch = 274
 
 abbrev pub is-application-x-bsdiff : ℕ
-is-application-x-bsdiff = 235
-
-abbrev pub is-application-x-bsp : ℕ
-is-application-x-bsp = 236
+is-application-x-bsdiff = 275
 
 abbrev pub is-application-x-bufr : ℕ
-is-application-x-bufr = 237
+is-application-x-bufr = 276
+
+abbrev pub is-application-x-build-grp : ℕ
+is-application-x-build-grp = 277
 
 abbrev pub is-application-x-bzip-compressed-tar : ℕ
-is-application-x-bzip-compressed-tar = 238
+is-application-x-bzip-compressed-tar = 278
 
 abbrev pub is-application-x-bzip2 : ℕ
-is-application-x-bzip2 = 239
+is-application-x-bzip2 = 279
 
 abbrev pub is-application-x-cb7 : ℕ
-is-application-x-cb7 = 240
+is-application-x-cb7 = 280
 
 abbrev pub is-application-x-cbt : ℕ
-is-application-x-cbt = 241
+is-application-x-cbt = 281
 
 abbrev pub is-application-x-ccmx : ℕ
-is-application-x-ccmx = 242
+is-application-x-ccmx = 282
 
 abbrev pub is-application-x-cd-image : ℕ
-is-application-x-cd-image = 243
+is-application-x-cd-image = 283
+
+abbrev pub is-application-x-cdf : ℕ
+is-application-x-cdf = 284
+
+abbrev pub is-application-x-cern-root : ℕ
+is-application-x-cern-root = 285
+
+abbrev pub is-application-x-clang-pch : ℕ
+is-application-x-clang-pch = 286
 
 abbrev pub is-application-x-cmi : ℕ
-is-application-x-cmi = 244
-
-abbrev pub is-application-x-cml-xml : ℕ
-is-application-x-cml-xml = 245
+is-application-x-cmi = 287
 
 abbrev pub is-application-x-com-executable : ℕ
-is-application-x-com-executable = 246
+is-application-x-com-executable = 288
 
 abbrev pub is-application-x-compress : ℕ
-is-application-x-compress = 247
+is-application-x-compress = 289
+
+abbrev pub is-application-x-compressed-iso : ℕ
+is-application-x-compressed-iso = 290
 
 abbrev pub is-application-x-compressed-tar : ℕ
-is-application-x-compressed-tar = 248
+is-application-x-compressed-tar = 291
 
 abbrev pub is-application-x-core : ℕ
-is-application-x-core = 249
+is-application-x-core = 292
 
 abbrev pub is-application-x-corelpresentations : ℕ
-is-application-x-corelpresentations = 250
+is-application-x-corelpresentations = 293
 
 abbrev pub is-application-x-cpio : ℕ
-is-application-x-cpio = 251
+is-application-x-cpio = 294
+
+abbrev pub is-application-x-cram : ℕ
+is-application-x-cram = 295
+
+abbrev pub is-application-x-cramfs : ℕ
+is-application-x-cramfs = 296
 
 abbrev pub is-application-x-csh : ℕ
-is-application-x-csh = 252
+is-application-x-csh = 297
+
+abbrev pub is-application-x-csi : ℕ
+is-application-x-csi = 298
 
 abbrev pub is-application-x-cubin : ℕ
-is-application-x-cubin = 253
+is-application-x-cubin = 299
 
 abbrev pub is-application-x-cue : ℕ
-is-application-x-cue = 254
+is-application-x-cue = 300
 
 abbrev pub is-application-x-dbm : ℕ
-is-application-x-dbm = 255
-
-abbrev pub is-application-x-dbus-gvdb : ℕ
-is-application-x-dbus-gvdb = 256
+is-application-x-dbm = 301
 
 abbrev pub is-application-x-designer : ℕ
-is-application-x-designer = 257
+is-application-x-designer = 302
 
 abbrev pub is-application-x-desktop : ℕ
-is-application-x-desktop = 258
+is-application-x-desktop = 303
 
 abbrev pub is-application-x-devhelp-xml : ℕ
-is-application-x-devhelp-xml = 259
+is-application-x-devhelp-xml = 304
 
 abbrev pub is-application-x-device-tree-blob : ℕ
-is-application-x-device-tree-blob = 260
+is-application-x-device-tree-blob = 305
+
+abbrev pub is-application-x-dfont : ℕ
+is-application-x-dfont = 306
 
 abbrev pub is-application-x-dia-diagram : ℕ
-is-application-x-dia-diagram = 261
+is-application-x-dia-diagram = 307
 
 abbrev pub is-application-x-dia-shape : ℕ
-is-application-x-dia-shape = 262
+is-application-x-dia-shape = 308
 
 abbrev pub is-application-x-dictzip : ℕ
-is-application-x-dictzip = 263
+is-application-x-dictzip = 309
+
+abbrev pub is-application-x-dif : ℕ
+is-application-x-dif = 310
 
 abbrev pub is-application-x-director : ℕ
-is-application-x-director = 264
+is-application-x-director = 311
+
+abbrev pub is-application-x-dmp : ℕ
+is-application-x-dmp = 312
 
 abbrev pub is-application-x-docbook-xml : ℕ
-is-application-x-docbook-xml = 265
+is-application-x-docbook-xml = 313
 
 abbrev pub is-application-x-doom-wad : ℕ
-is-application-x-doom-wad = 266
+is-application-x-doom-wad = 314
 
 abbrev pub is-application-x-drawio-xml : ℕ
-is-application-x-drawio-xml = 267
+is-application-x-drawio-xml = 315
+
+abbrev pub is-application-x-dtb : ℕ
+is-application-x-dtb = 316
 
 abbrev pub is-application-x-dtbncx-xml : ℕ
-is-application-x-dtbncx-xml = 268
+is-application-x-dtbncx-xml = 317
 
 abbrev pub is-application-x-dvi : ℕ
-is-application-x-dvi = 269
+is-application-x-dvi = 318
 
 abbrev pub is-application-x-eclipse-xml : ℕ
-is-application-x-eclipse-xml = 270
+is-application-x-eclipse-xml = 319
 
-abbrev pub is-application-x-egg-zip : ℕ
-is-application-x-egg-zip = 271
+abbrev pub is-application-x-edf : ℕ
+is-application-x-edf = 320
+
+abbrev pub is-application-x-eet : ℕ
+is-application-x-eet = 321
+
+abbrev pub is-application-x-egg : ℕ
+is-application-x-egg = 322
 
 abbrev pub is-application-x-elc : ℕ
-is-application-x-elc = 272
+is-application-x-elc = 323
 
 abbrev pub is-application-x-emz : ℕ
-is-application-x-emz = 273
+is-application-x-emz = 324
 
 abbrev pub is-application-x-entitlements : ℕ
-is-application-x-entitlements = 274
+is-application-x-entitlements = 325
 
 abbrev pub is-application-x-erb : ℕ
-is-application-x-erb = 275
+is-application-x-erb = 326
 
 abbrev pub is-application-x-erlang-beam : ℕ
-is-application-x-erlang-beam = 276
+is-application-x-erlang-beam = 327
 
 abbrev pub is-application-x-executable-as-row-elf : ℕ
-is-application-x-executable-as-row-elf = 277
+is-application-x-executable-as-row-elf = 328
 
 abbrev pub is-application-x-executable-as-row-obj : ℕ
-is-application-x-executable-as-row-obj = 278
+is-application-x-executable-as-row-obj = 329
 
 abbrev pub is-application-x-ext-filesystem : ℕ
-is-application-x-ext-filesystem = 279
+is-application-x-ext-filesystem = 330
 
 abbrev pub is-application-x-fbx : ℕ
-is-application-x-fbx = 280
+is-application-x-fbx = 331
 
 abbrev pub is-application-x-fds-disk : ℕ
-is-application-x-fds-disk = 281
+is-application-x-fds-disk = 332
 
 abbrev pub is-application-x-fictionbook-xml : ℕ
-is-application-x-fictionbook-xml = 282
+is-application-x-fictionbook-xml = 333
 
 abbrev pub is-application-x-fishscript : ℕ
-is-application-x-fishscript = 283
+is-application-x-fishscript = 334
 
 abbrev pub is-application-x-flash-authoring : ℕ
-is-application-x-flash-authoring = 284
+is-application-x-flash-authoring = 335
 
 abbrev pub is-application-x-fluid : ℕ
-is-application-x-fluid = 285
+is-application-x-fluid = 336
 
 abbrev pub is-application-x-font-afm : ℕ
-is-application-x-font-afm = 286
+is-application-x-font-afm = 337
 
 abbrev pub is-application-x-font-bdf : ℕ
-is-application-x-font-bdf = 287
+is-application-x-font-bdf = 338
+
+abbrev pub is-application-x-font-linux-psf : ℕ
+is-application-x-font-linux-psf = 339
 
 abbrev pub is-application-x-font-pcf : ℕ
-is-application-x-font-pcf = 288
+is-application-x-font-pcf = 340
+
+abbrev pub is-application-x-font-pf2 : ℕ
+is-application-x-font-pf2 = 341
+
+abbrev pub is-application-x-font-speedo : ℕ
+is-application-x-font-speedo = 342
 
 abbrev pub is-application-x-font-ttx : ℕ
-is-application-x-font-ttx = 289
+is-application-x-font-ttx = 343
 
 abbrev pub is-application-x-font-type1 : ℕ
-is-application-x-font-type1 = 290
+is-application-x-font-type1 = 344
+
+abbrev pub is-application-x-fontconfig-cache : ℕ
+is-application-x-fontconfig-cache = 345
 
 abbrev pub is-application-x-freecad : ℕ
-is-application-x-freecad = 291
+is-application-x-freecad = 346
+
+abbrev pub is-application-x-freemind : ℕ
+is-application-x-freemind = 347
+
+abbrev pub is-application-x-g64-disk : ℕ
+is-application-x-g64-disk = 348
 
 abbrev pub is-application-x-gameboy-rom : ℕ
-is-application-x-gameboy-rom = 292
+is-application-x-gameboy-rom = 349
 
 abbrev pub is-application-x-gba-rom : ℕ
-is-application-x-gba-rom = 293
+is-application-x-gba-rom = 350
+
+abbrev pub is-application-x-gcc-pch : ℕ
+is-application-x-gcc-pch = 351
+
+abbrev pub is-application-x-gconv-cache : ℕ
+is-application-x-gconv-cache = 352
 
 abbrev pub is-application-x-gcov-data : ℕ
-is-application-x-gcov-data = 294
+is-application-x-gcov-data = 353
+
+abbrev pub is-application-x-gcov-notes : ℕ
+is-application-x-gcov-notes = 354
 
 abbrev pub is-application-x-gdbm : ℕ
-is-application-x-gdbm = 295
+is-application-x-gdbm = 355
+
+abbrev pub is-application-x-gdf : ℕ
+is-application-x-gdf = 356
 
 abbrev pub is-application-x-gds : ℕ
-is-application-x-gds = 296
+is-application-x-gds = 357
 
 abbrev pub is-application-x-gdscript : ℕ
-is-application-x-gdscript = 297
+is-application-x-gdscript = 358
 
 abbrev pub is-application-x-genesis-rom : ℕ
-is-application-x-genesis-rom = 298
+is-application-x-genesis-rom = 359
 
 abbrev pub is-application-x-gettext-translation : ℕ
-is-application-x-gettext-translation = 299
+is-application-x-gettext-translation = 360
 
 abbrev pub is-application-x-gguf : ℕ
-is-application-x-gguf = 300
+is-application-x-gguf = 361
 
 abbrev pub is-application-x-gir-xml : ℕ
-is-application-x-gir-xml = 301
+is-application-x-gir-xml = 362
+
+abbrev pub is-application-x-gir-typelib : ℕ
+is-application-x-gir-typelib = 363
+
+abbrev pub is-application-x-git : ℕ
+is-application-x-git = 364
+
+abbrev pub is-application-x-git-bundle : ℕ
+is-application-x-git-bundle = 365
+
+abbrev pub is-application-x-git-index : ℕ
+is-application-x-git-index = 366
+
+abbrev pub is-application-x-git-pack-index : ℕ
+is-application-x-git-pack-index = 367
 
 abbrev pub is-application-x-glade : ℕ
-is-application-x-glade = 302
+is-application-x-glade = 368
 
-abbrev pub is-application-x-glib-typelib : ℕ
-is-application-x-glib-typelib = 303
+abbrev pub is-application-x-glibc-locale-archive : ℕ
+is-application-x-glibc-locale-archive = 369
+
+abbrev pub is-application-x-glulx : ℕ
+is-application-x-glulx = 370
 
 abbrev pub is-application-x-gnucash : ℕ
-is-application-x-gnucash = 304
+is-application-x-gnucash = 371
+
+abbrev pub is-application-x-gnumeric : ℕ
+is-application-x-gnumeric = 372
+
+abbrev pub is-application-x-gnupg-trustdb : ℕ
+is-application-x-gnupg-trustdb = 373
 
 abbrev pub is-application-x-gnuplot : ℕ
-is-application-x-gnuplot = 305
+is-application-x-gnuplot = 374
+
+abbrev pub is-application-x-go-object : ℕ
+is-application-x-go-object = 375
 
 abbrev pub is-application-x-go-sgf : ℕ
-is-application-x-go-sgf = 306
+is-application-x-go-sgf = 376
 
 abbrev pub is-application-x-godot-package : ℕ
-is-application-x-godot-package = 307
+is-application-x-godot-package = 377
 
 abbrev pub is-application-x-godot-resource : ℕ
-is-application-x-godot-resource = 308
+is-application-x-godot-resource = 378
 
 abbrev pub is-application-x-godot-scene : ℕ
-is-application-x-godot-scene = 309
+is-application-x-godot-scene = 379
 
 abbrev pub is-application-x-google-chrome-extension : ℕ
-is-application-x-google-chrome-extension = 310
+is-application-x-google-chrome-extension = 380
 
 abbrev pub is-application-x-grib : ℕ
-is-application-x-grib = 311
+is-application-x-grib = 381
+
+abbrev pub is-application-x-grib2 : ℕ
+is-application-x-grib2 = 382
+
+abbrev pub is-application-x-grub-keyboard : ℕ
+is-application-x-grub-keyboard = 383
 
 abbrev pub is-application-x-gschema-xml : ℕ
-is-application-x-gschema-xml = 312
+is-application-x-gschema-xml = 384
 
 abbrev pub is-application-x-gschema-compiled : ℕ
-is-application-x-gschema-compiled = 313
+is-application-x-gschema-compiled = 385
 
 abbrev pub is-application-x-gtk-builder : ℕ
-is-application-x-gtk-builder = 314
+is-application-x-gtk-builder = 386
+
+abbrev pub is-application-x-guitar-pro : ℕ
+is-application-x-guitar-pro = 387
+
+abbrev pub is-application-x-gvdb : ℕ
+is-application-x-gvdb = 388
 
 abbrev pub is-application-x-har-json : ℕ
-is-application-x-har-json = 315
+is-application-x-har-json = 389
 
 abbrev pub is-application-x-haskell-interface : ℕ
-is-application-x-haskell-interface = 316
+is-application-x-haskell-interface = 390
 
 abbrev pub is-application-x-hdf : ℕ
-is-application-x-hdf = 317
+is-application-x-hdf = 391
 
 abbrev pub is-application-x-hdf5 : ℕ
-is-application-x-hdf5 = 318
+is-application-x-hdf5 = 392
 
 abbrev pub is-application-x-hfe-floppy-image : ℕ
-is-application-x-hfe-floppy-image = 319
+is-application-x-hfe-floppy-image = 393
 
-abbrev pub is-application-x-hprof : ℕ
-is-application-x-hprof = 320
+abbrev pub is-application-x-hg-bundle : ℕ
+is-application-x-hg-bundle = 394
 
 abbrev pub is-application-x-hwp : ℕ
-is-application-x-hwp = 321
+is-application-x-hwp = 395
 
 abbrev pub is-application-x-hwpx : ℕ
-is-application-x-hwpx = 322
+is-application-x-hwpx = 396
 
 abbrev pub is-application-x-hxml : ℕ
-is-application-x-hxml = 323
+is-application-x-hxml = 397
+
+abbrev pub is-application-x-ia-arc : ℕ
+is-application-x-ia-arc = 398
+
+abbrev pub is-application-x-iff : ℕ
+is-application-x-iff = 399
 
 abbrev pub is-application-x-indesign : ℕ
-is-application-x-indesign = 324
+is-application-x-indesign = 400
 
 abbrev pub is-application-x-innodb : ℕ
-is-application-x-innodb = 325
+is-application-x-innodb = 401
+
+abbrev pub is-application-x-innosetup : ℕ
+is-application-x-innosetup = 402
+
+abbrev pub is-application-x-intel-aml : ℕ
+is-application-x-intel-aml = 403
 
 abbrev pub is-application-x-intellij-xml : ℕ
-is-application-x-intellij-xml = 326
+is-application-x-intellij-xml = 404
 
 abbrev pub is-application-x-ios-app : ℕ
-is-application-x-ios-app = 327
+is-application-x-ios-app = 405
 
 abbrev pub is-application-x-ips-patch : ℕ
-is-application-x-ips-patch = 328
+is-application-x-ips-patch = 406
 
 abbrev pub is-application-x-ipynb-json : ℕ
-is-application-x-ipynb-json = 329
+is-application-x-ipynb-json = 407
 
 abbrev pub is-application-x-it87 : ℕ
-is-application-x-it87 = 330
+is-application-x-it87 = 408
 
 abbrev pub is-application-x-jasper-xml : ℕ
-is-application-x-jasper-xml = 331
+is-application-x-jasper-xml = 409
 
 abbrev pub is-application-x-java-enterprise-archive : ℕ
-is-application-x-java-enterprise-archive = 332
+is-application-x-java-enterprise-archive = 410
+
+abbrev pub is-application-x-java-flight-recording : ℕ
+is-application-x-java-flight-recording = 411
+
+abbrev pub is-application-x-java-hprof : ℕ
+is-application-x-java-hprof = 412
+
+abbrev pub is-application-x-java-image : ℕ
+is-application-x-java-image = 413
 
 abbrev pub is-application-x-java-jce-keystore : ℕ
-is-application-x-java-jce-keystore = 333
-
-abbrev pub is-application-x-java-jimage : ℕ
-is-application-x-java-jimage = 334
+is-application-x-java-jce-keystore = 414
 
 abbrev pub is-application-x-java-jmod : ℕ
-is-application-x-java-jmod = 335
+is-application-x-java-jmod = 415
 
 abbrev pub is-application-x-java-jnlp-file : ℕ
-is-application-x-java-jnlp-file = 336
+is-application-x-java-jnlp-file = 416
 
 abbrev pub is-application-x-java-keystore : ℕ
-is-application-x-java-keystore = 337
+is-application-x-java-keystore = 417
 
 abbrev pub is-application-x-java-pack200 : ℕ
-is-application-x-java-pack200 = 338
+is-application-x-java-pack200 = 418
 
 abbrev pub is-application-x-java-serialized-object : ℕ
-is-application-x-java-serialized-object = 339
+is-application-x-java-serialized-object = 419
 
 abbrev pub is-application-x-java-web-archive : ℕ
-is-application-x-java-web-archive = 340
+is-application-x-java-web-archive = 420
+
+abbrev pub is-application-x-jffs2 : ℕ
+is-application-x-jffs2 = 421
 
 abbrev pub is-application-x-jmeter-xml : ℕ
-is-application-x-jmeter-xml = 341
+is-application-x-jmeter-xml = 422
 
 abbrev pub is-application-x-jsa : ℕ
-is-application-x-jsa = 342
+is-application-x-jsa = 423
 
 abbrev pub is-application-x-jsonc : ℕ
-is-application-x-jsonc = 343
+is-application-x-jsonc = 424
 
 abbrev pub is-application-x-jsp : ℕ
-is-application-x-jsp = 344
+is-application-x-jsp = 425
 
 abbrev pub is-application-x-karbon : ℕ
-is-application-x-karbon = 345
+is-application-x-karbon = 426
 
 abbrev pub is-application-x-kchart : ℕ
-is-application-x-kchart = 346
+is-application-x-kchart = 427
 
 abbrev pub is-application-x-kdenlive : ℕ
-is-application-x-kdenlive = 347
+is-application-x-kdenlive = 428
+
+abbrev pub is-application-x-kdump : ℕ
+is-application-x-kdump = 429
+
+abbrev pub is-application-x-keepass : ℕ
+is-application-x-keepass = 430
 
 abbrev pub is-application-x-keepass2 : ℕ
-is-application-x-keepass2 = 348
+is-application-x-keepass2 = 431
 
 abbrev pub is-application-x-kerberos-keytab : ℕ
-is-application-x-kerberos-keytab = 349
+is-application-x-kerberos-keytab = 432
 
 abbrev pub is-application-x-kformula : ℕ
-is-application-x-kformula = 350
+is-application-x-kformula = 433
 
 abbrev pub is-application-x-killustrator : ℕ
-is-application-x-killustrator = 351
+is-application-x-killustrator = 434
 
 abbrev pub is-application-x-kivio : ℕ
-is-application-x-kivio = 352
+is-application-x-kivio = 435
 
 abbrev pub is-application-x-kontour : ℕ
-is-application-x-kontour = 353
+is-application-x-kontour = 436
 
 abbrev pub is-application-x-kpresenter : ℕ
-is-application-x-kpresenter = 354
+is-application-x-kpresenter = 437
 
 abbrev pub is-application-x-krita : ℕ
-is-application-x-krita = 355
+is-application-x-krita = 438
 
 abbrev pub is-application-x-ksh : ℕ
-is-application-x-ksh = 356
+is-application-x-ksh = 439
 
 abbrev pub is-application-x-kspread : ℕ
-is-application-x-kspread = 357
+is-application-x-kspread = 440
 
 abbrev pub is-application-x-kword : ℕ
-is-application-x-kword = 358
+is-application-x-kword = 441
+
+abbrev pub is-application-x-ld-so-cache : ℕ
+is-application-x-ld-so-cache = 442
+
+abbrev pub is-application-x-ldml-xml : ℕ
+is-application-x-ldml-xml = 443
 
 abbrev pub is-application-x-leveldb-table : ℕ
-is-application-x-leveldb-table = 359
+is-application-x-leveldb-table = 444
+
+abbrev pub is-application-x-linux-kernel : ℕ
+is-application-x-linux-kernel = 445
 
 abbrev pub is-application-x-llvm : ℕ
-is-application-x-llvm = 360
+is-application-x-llvm = 446
+
+abbrev pub is-application-x-llvm-profdata : ℕ
+is-application-x-llvm-profdata = 447
+
+abbrev pub is-application-x-llvm-profraw : ℕ
+is-application-x-llvm-profraw = 448
 
 abbrev pub is-application-x-locale-archive : ℕ
-is-application-x-locale-archive = 361
+is-application-x-locale-archive = 449
 
 abbrev pub is-application-x-lottie-json : ℕ
-is-application-x-lottie-json = 362
+is-application-x-lottie-json = 450
 
 abbrev pub is-application-x-lrzip : ℕ
-is-application-x-lrzip = 363
+is-application-x-lrzip = 451
 
 abbrev pub is-application-x-lua-bytecode : ℕ
-is-application-x-lua-bytecode = 364
+is-application-x-lua-bytecode = 452
 
 abbrev pub is-application-x-luks : ℕ
-is-application-x-luks = 365
+is-application-x-luks = 453
 
 abbrev pub is-application-x-lyx : ℕ
-is-application-x-lyx = 366
+is-application-x-lyx = 454
 
 abbrev pub is-application-x-lz4 : ℕ
-is-application-x-lz4 = 367
+is-application-x-lz4 = 455
+
+abbrev pub is-application-x-lz4-json : ℕ
+is-application-x-lz4-json = 456
 
 abbrev pub is-application-x-lz4-compressed-tar : ℕ
-is-application-x-lz4-compressed-tar = 368
+is-application-x-lz4-compressed-tar = 457
+
+abbrev pub is-application-x-lzfse : ℕ
+is-application-x-lzfse = 458
 
 abbrev pub is-application-x-lzh-compressed : ℕ
-is-application-x-lzh-compressed = 369
+is-application-x-lzh-compressed = 459
 
 abbrev pub is-application-x-lzip : ℕ
-is-application-x-lzip = 370
+is-application-x-lzip = 460
 
 abbrev pub is-application-x-lzip-compressed-tar : ℕ
-is-application-x-lzip-compressed-tar = 371
+is-application-x-lzip-compressed-tar = 461
 
 abbrev pub is-application-x-lzma : ℕ
-is-application-x-lzma = 372
+is-application-x-lzma = 462
 
 abbrev pub is-application-x-lzma-compressed-tar : ℕ
-is-application-x-lzma-compressed-tar = 373
+is-application-x-lzma-compressed-tar = 463
 
 abbrev pub is-application-x-lzop : ℕ
-is-application-x-lzop = 374
+is-application-x-lzop = 464
 
 abbrev pub is-application-x-m4 : ℕ
-is-application-x-m4 = 375
+is-application-x-m4 = 465
 
 abbrev pub is-application-x-mach-binary : ℕ
-is-application-x-mach-binary = 376
+is-application-x-mach-binary = 466
 
 abbrev pub is-application-x-magic-database : ℕ
-is-application-x-magic-database = 377
+is-application-x-magic-database = 467
 
 abbrev pub is-application-x-mame-chd : ℕ
-is-application-x-mame-chd = 378
+is-application-x-mame-chd = 468
 
 abbrev pub is-application-x-matlab-data : ℕ
-is-application-x-matlab-data = 379
+is-application-x-matlab-data = 469
+
+abbrev pub is-application-x-maxis-dbpf : ℕ
+is-application-x-maxis-dbpf = 470
 
 abbrev pub is-application-x-maya-binary : ℕ
-is-application-x-maya-binary = 380
+is-application-x-maya-binary = 471
 
 abbrev pub is-application-x-mimecache : ℕ
-is-application-x-mimecache = 381
+is-application-x-mimecache = 472
 
 abbrev pub is-application-x-minecraft-world : ℕ
-is-application-x-minecraft-world = 382
+is-application-x-minecraft-world = 473
+
+abbrev pub is-application-x-minisign : ℕ
+is-application-x-minisign = 474
 
 abbrev pub is-application-x-mobipocket-ebook : ℕ
-is-application-x-mobipocket-ebook = 383
+is-application-x-mobipocket-ebook = 475
 
 abbrev pub is-application-x-monotone-database : ℕ
-is-application-x-monotone-database = 384
+is-application-x-monotone-database = 476
+
+abbrev pub is-application-x-mpq : ℕ
+is-application-x-mpq = 477
+
+abbrev pub is-application-x-ms-compress-kwaj : ℕ
+is-application-x-ms-compress-kwaj = 478
+
+abbrev pub is-application-x-ms-compress-szdd : ℕ
+is-application-x-ms-compress-szdd = 479
+
+abbrev pub is-application-x-ms-crash-dump : ℕ
+is-application-x-ms-crash-dump = 480
 
 abbrev pub is-application-x-ms-evtx : ℕ
-is-application-x-ms-evtx = 385
+is-application-x-ms-evtx = 481
 
 abbrev pub is-application-x-ms-pdb : ℕ
-is-application-x-ms-pdb = 386
+is-application-x-ms-pdb = 482
+
+abbrev pub is-application-x-ms-reader : ℕ
+is-application-x-ms-reader = 483
+
+abbrev pub is-application-x-ms-registry : ℕ
+is-application-x-ms-registry = 484
 
 abbrev pub is-application-x-ms-registry-hive : ℕ
-is-application-x-ms-registry-hive = 387
+is-application-x-ms-registry-hive = 485
+
+abbrev pub is-application-x-ms-sdi : ℕ
+is-application-x-ms-sdi = 486
 
 abbrev pub is-application-x-ms-shortcut : ℕ
-is-application-x-ms-shortcut = 388
+is-application-x-ms-shortcut = 487
 
 abbrev pub is-application-x-ms-wim : ℕ
-is-application-x-ms-wim = 389
+is-application-x-ms-wim = 488
 
 abbrev pub is-application-x-msaccess-as-row-accdb : ℕ
-is-application-x-msaccess-as-row-accdb = 390
+is-application-x-msaccess-as-row-accdb = 489
 
 abbrev pub is-application-x-msaccess-as-row-mdb : ℕ
-is-application-x-msaccess-as-row-mdb = 391
+is-application-x-msaccess-as-row-mdb = 490
 
 abbrev pub is-application-x-msbuild-xml : ℕ
-is-application-x-msbuild-xml = 392
+is-application-x-msbuild-xml = 491
 
 abbrev pub is-application-x-msi : ℕ
-is-application-x-msi = 393
+is-application-x-msi = 492
 
 abbrev pub is-application-x-mswinurl : ℕ
-is-application-x-mswinurl = 394
+is-application-x-mswinurl = 493
+
+abbrev pub is-application-x-mswrite : ℕ
+is-application-x-mswrite = 494
 
 abbrev pub is-application-x-musescore : ℕ
-is-application-x-musescore = 395
+is-application-x-musescore = 495
+
+abbrev pub is-application-x-musescore-xml : ℕ
+is-application-x-musescore-xml = 496
 
 abbrev pub is-application-x-mxml : ℕ
-is-application-x-mxml = 396
+is-application-x-mxml = 497
 
 abbrev pub is-application-x-mysql-myisam : ℕ
-is-application-x-mysql-myisam = 397
+is-application-x-mysql-myisam = 498
 
 abbrev pub is-application-x-n64-rom : ℕ
-is-application-x-n64-rom = 398
+is-application-x-n64-rom = 499
 
 abbrev pub is-application-x-natvis-xml : ℕ
-is-application-x-natvis-xml = 399
+is-application-x-natvis-xml = 500
 
 abbrev pub is-application-x-navi-animation : ℕ
-is-application-x-navi-animation = 400
+is-application-x-navi-animation = 501
 
 abbrev pub is-application-x-ndjson : ℕ
-is-application-x-ndjson = 401
+is-application-x-ndjson = 502
+
+abbrev pub is-application-x-nekovm-bytecode : ℕ
+is-application-x-nekovm-bytecode = 503
 
 abbrev pub is-application-x-netcdf : ℕ
-is-application-x-netcdf = 402
+is-application-x-netcdf = 504
+
+abbrev pub is-application-x-netmon : ℕ
+is-application-x-netmon = 505
 
 abbrev pub is-application-x-netshow-channel : ℕ
-is-application-x-netshow-channel = 403
+is-application-x-netshow-channel = 506
+
+abbrev pub is-application-x-nintendo-3ds-executable : ℕ
+is-application-x-nintendo-3ds-executable = 507
 
 abbrev pub is-application-x-nintendo-nes-rom : ℕ
-is-application-x-nintendo-nes-rom = 404
+is-application-x-nintendo-nes-rom = 508
+
+abbrev pub is-application-x-nintendo-nso : ℕ
+is-application-x-nintendo-nso = 509
 
 abbrev pub is-application-x-npy : ℕ
-is-application-x-npy = 405
+is-application-x-npy = 510
 
 abbrev pub is-application-x-npz : ℕ
-is-application-x-npz = 406
+is-application-x-npz = 511
 
 abbrev pub is-application-x-nuget-package : ℕ
-is-application-x-nuget-package = 407
+is-application-x-nuget-package = 512
 
 abbrev pub is-application-x-nuspec-xml : ℕ
-is-application-x-nuspec-xml = 408
+is-application-x-nuspec-xml = 513
 
 abbrev pub is-application-x-nzb : ℕ
-is-application-x-nzb = 409
+is-application-x-nzb = 514
 
 abbrev pub is-application-x-object : ℕ
-is-application-x-object = 410
+is-application-x-object = 515
+
+abbrev pub is-application-x-ocaml-cma : ℕ
+is-application-x-ocaml-cma = 516
+
+abbrev pub is-application-x-ocaml-cmi : ℕ
+is-application-x-ocaml-cmi = 517
+
+abbrev pub is-application-x-ocaml-cmo : ℕ
+is-application-x-ocaml-cmo = 518
+
+abbrev pub is-application-x-ocaml-cmt : ℕ
+is-application-x-ocaml-cmt = 519
+
+abbrev pub is-application-x-ocaml-cmx : ℕ
+is-application-x-ocaml-cmx = 520
+
+abbrev pub is-application-x-ocaml-cmxa : ℕ
+is-application-x-ocaml-cmxa = 521
 
 abbrev pub is-application-x-openssh-private-key : ℕ
-is-application-x-openssh-private-key = 411
+is-application-x-openssh-private-key = 522
+
+abbrev pub is-application-x-openssl-encrypted : ℕ
+is-application-x-openssl-encrypted = 523
 
 abbrev pub is-application-x-openzim : ℕ
-is-application-x-openzim = 412
+is-application-x-openzim = 524
 
 abbrev pub is-application-x-orc : ℕ
-is-application-x-orc = 413
+is-application-x-orc = 525
+
+abbrev pub is-application-x-os2-hlp : ℕ
+is-application-x-os2-hlp = 526
+
+abbrev pub is-application-x-os2-inf : ℕ
+is-application-x-os2-inf = 527
+
+abbrev pub is-application-x-os2-msg : ℕ
+is-application-x-os2-msg = 528
 
 abbrev pub is-application-x-osm-pbf : ℕ
-is-application-x-osm-pbf = 414
+is-application-x-osm-pbf = 529
 
 abbrev pub is-application-x-ova : ℕ
-is-application-x-ova = 415
+is-application-x-ova = 530
+
+abbrev pub is-application-x-pak : ℕ
+is-application-x-pak = 531
+
+abbrev pub is-application-x-par : ℕ
+is-application-x-par = 532
 
 abbrev pub is-application-x-par2 : ℕ
-is-application-x-par2 = 416
+is-application-x-par2 = 533
+
+abbrev pub is-application-x-parallels-disk : ℕ
+is-application-x-parallels-disk = 534
 
 abbrev pub is-application-x-pascal-resource-strings-json : ℕ
-is-application-x-pascal-resource-strings-json = 417
+is-application-x-pascal-resource-strings-json = 535
 
 abbrev pub is-application-x-pascal-unit : ℕ
-is-application-x-pascal-unit = 418
+is-application-x-pascal-unit = 536
 
 abbrev pub is-application-x-pcapng : ℕ
-is-application-x-pcapng = 419
+is-application-x-pcapng = 537
+
+abbrev pub is-application-x-pef-executable : ℕ
+is-application-x-pef-executable = 538
 
 abbrev pub is-application-x-pem-key : ℕ
-is-application-x-pem-key = 420
+is-application-x-pem-key = 539
 
 abbrev pub is-application-x-perf-data : ℕ
-is-application-x-perf-data = 421
+is-application-x-perf-data = 540
 
 abbrev pub is-application-x-phylip : ℕ
-is-application-x-phylip = 422
+is-application-x-phylip = 541
 
 abbrev pub is-application-x-plist : ℕ
-is-application-x-plist = 423
+is-application-x-plist = 542
 
 abbrev pub is-application-x-ply : ℕ
-is-application-x-ply = 424
+is-application-x-ply = 543
 
 abbrev pub is-application-x-pocket-word : ℕ
-is-application-x-pocket-word = 425
+is-application-x-pocket-word = 544
+
+abbrev pub is-application-x-postgresql-dump : ℕ
+is-application-x-postgresql-dump = 545
 
 abbrev pub is-application-x-pov : ℕ
-is-application-x-pov = 426
+is-application-x-pov = 546
 
 abbrev pub is-application-x-powershell : ℕ
-is-application-x-powershell = 427
+is-application-x-powershell = 547
 
-abbrev pub is-application-x-precompiled-header : ℕ
-is-application-x-precompiled-header = 428
-
-abbrev pub is-application-x-profraw : ℕ
-is-application-x-profraw = 429
+abbrev pub is-application-x-ppf-patch : ℕ
+is-application-x-ppf-patch = 548
 
 abbrev pub is-application-x-ps1xml : ℕ
-is-application-x-ps1xml = 430
+is-application-x-ps1xml = 549
+
+abbrev pub is-application-x-psx-executable : ℕ
+is-application-x-psx-executable = 550
+
+abbrev pub is-application-x-putty-private-key : ℕ
+is-application-x-putty-private-key = 551
 
 abbrev pub is-application-x-pyspread-spreadsheet : ℕ
-is-application-x-pyspread-spreadsheet = 431
+is-application-x-pyspread-spreadsheet = 552
 
 abbrev pub is-application-x-python-bytecode : ℕ
-is-application-x-python-bytecode = 432
+is-application-x-python-bytecode = 553
 
 abbrev pub is-application-x-python-pickle : ℕ
-is-application-x-python-pickle = 433
+is-application-x-python-pickle = 554
 
 abbrev pub is-application-x-python-zipapp : ℕ
-is-application-x-python-zipapp = 434
+is-application-x-python-zipapp = 555
 
 abbrev pub is-application-x-pytorch : ℕ
-is-application-x-pytorch = 435
+is-application-x-pytorch = 556
 
 abbrev pub is-application-x-qed-disk : ℕ
-is-application-x-qed-disk = 436
+is-application-x-qed-disk = 557
 
 abbrev pub is-application-x-qemu-disk : ℕ
-is-application-x-qemu-disk = 437
+is-application-x-qemu-disk = 558
 
 abbrev pub is-application-x-qgis-project-as-own : ℕ
-is-application-x-qgis-project-as-own = 438
+is-application-x-qgis-project-as-own = 559
 
 abbrev pub is-application-x-qgis-project-as-row-qgz : ℕ
-is-application-x-qgis-project-as-row-qgz = 439
+is-application-x-qgis-project-as-row-qgz = 560
 
 abbrev pub is-application-x-qpress : ℕ
-is-application-x-qpress = 440
+is-application-x-qpress = 561
 
-abbrev pub is-application-x-qrc-xml : ℕ
-is-application-x-qrc-xml = 441
+abbrev pub is-application-x-qt-resource : ℕ
+is-application-x-qt-resource = 562
 
 abbrev pub is-application-x-qtiplot : ℕ
-is-application-x-qtiplot = 442
+is-application-x-qtiplot = 563
 
-abbrev pub is-application-x-quake-pak : ℕ
-is-application-x-quake-pak = 443
+abbrev pub is-application-x-quake-bsp : ℕ
+is-application-x-quake-bsp = 564
+
+abbrev pub is-application-x-quake-model : ℕ
+is-application-x-quake-model = 565
 
 abbrev pub is-application-x-quattropro : ℕ
-is-application-x-quattropro = 444
+is-application-x-quattropro = 566
 
 abbrev pub is-application-x-quicktime-media-link : ℕ
-is-application-x-quicktime-media-link = 445
+is-application-x-quicktime-media-link = 567
 
 abbrev pub is-application-x-r-data : ℕ
-is-application-x-r-data = 446
+is-application-x-r-data = 568
+
+abbrev pub is-application-x-raw-disk-image : ℕ
+is-application-x-raw-disk-image = 569
+
+abbrev pub is-application-x-redis-dump : ℕ
+is-application-x-redis-dump = 570
 
 abbrev pub is-application-x-resx-xml : ℕ
-is-application-x-resx-xml = 447
+is-application-x-resx-xml = 571
 
 abbrev pub is-application-x-rhino : ℕ
-is-application-x-rhino = 448
+is-application-x-rhino = 572
+
+abbrev pub is-application-x-romfs : ℕ
+is-application-x-romfs = 573
 
 abbrev pub is-application-x-rpm : ℕ
-is-application-x-rpm = 449
+is-application-x-rpm = 574
+
+abbrev pub is-application-x-rrd : ℕ
+is-application-x-rrd = 575
 
 abbrev pub is-application-x-ruby-gem : ℕ
-is-application-x-ruby-gem = 450
+is-application-x-ruby-gem = 576
+
+abbrev pub is-application-x-rust-metadata : ℕ
+is-application-x-rust-metadata = 577
 
 abbrev pub is-application-x-rust-rlib : ℕ
-is-application-x-rust-rlib = 451
+is-application-x-rust-rlib = 578
+
+abbrev pub is-application-x-rzip : ℕ
+is-application-x-rzip = 579
 
 abbrev pub is-application-x-safetensors : ℕ
-is-application-x-safetensors = 452
+is-application-x-safetensors = 580
 
 abbrev pub is-application-x-sami : ℕ
-is-application-x-sami = 453
+is-application-x-sami = 581
 
 abbrev pub is-application-x-sas-data : ℕ
-is-application-x-sas-data = 454
+is-application-x-sas-data = 582
 
-abbrev pub is-application-x-scribus : ℕ
-is-application-x-scribus = 455
+abbrev pub is-application-x-scf : ℕ
+is-application-x-scf = 583
+
+abbrev pub is-application-x-schematron-xml : ℕ
+is-application-x-schematron-xml = 584
 
 abbrev pub is-application-x-scxml-xml : ℕ
-is-application-x-scxml-xml = 456
+is-application-x-scxml-xml = 585
 
 abbrev pub is-application-x-setupscript : ℕ
-is-application-x-setupscript = 457
-
-abbrev pub is-application-x-sfnt-collection-dfont : ℕ
-is-application-x-sfnt-collection-dfont = 458
+is-application-x-setupscript = 586
 
 abbrev pub is-application-x-shapefile-index : ℕ
-is-application-x-shapefile-index = 459
+is-application-x-shapefile-index = 587
 
 abbrev pub is-application-x-shared-library-la : ℕ
-is-application-x-shared-library-la = 460
+is-application-x-shared-library-la = 588
 
 abbrev pub is-application-x-sharedlib : ℕ
-is-application-x-sharedlib = 461
+is-application-x-sharedlib = 589
 
 abbrev pub is-application-x-shockwave-flash : ℕ
-is-application-x-shockwave-flash = 462
+is-application-x-shockwave-flash = 590
+
+abbrev pub is-application-x-shorten : ℕ
+is-application-x-shorten = 591
 
 abbrev pub is-application-x-silverlight-app : ℕ
-is-application-x-silverlight-app = 463
+is-application-x-silverlight-app = 592
 
 abbrev pub is-application-x-sketch : ℕ
-is-application-x-sketch = 464
+is-application-x-sketch = 593
 
 abbrev pub is-application-x-sketchup : ℕ
-is-application-x-sketchup = 465
+is-application-x-sketchup = 594
 
 abbrev pub is-application-x-snappy-framed : ℕ
-is-application-x-snappy-framed = 466
+is-application-x-snappy-framed = 595
+
+abbrev pub is-application-x-snoop : ℕ
+is-application-x-snoop = 596
+
+abbrev pub is-application-x-sony-bbeb : ℕ
+is-application-x-sony-bbeb = 597
 
 abbrev pub is-application-x-source-rpm : ℕ
-is-application-x-source-rpm = 467
+is-application-x-source-rpm = 598
+
+abbrev pub is-application-x-spectrum-szx : ℕ
+is-application-x-spectrum-szx = 599
+
+abbrev pub is-application-x-spectrum-tzx : ℕ
+is-application-x-spectrum-tzx = 600
+
+abbrev pub is-application-x-spirv : ℕ
+is-application-x-spirv = 601
 
 abbrev pub is-application-x-spss-sav : ℕ
-is-application-x-spss-sav = 468
+is-application-x-spss-sav = 602
 
 abbrev pub is-application-x-sqlite2 : ℕ
-is-application-x-sqlite2 = 469
+is-application-x-sqlite2 = 603
 
 abbrev pub is-application-x-ssh-public-key : ℕ
-is-application-x-ssh-public-key = 470
+is-application-x-ssh-public-key = 604
+
+abbrev pub is-application-x-ssh1-private-key : ℕ
+is-application-x-ssh1-private-key = 605
 
 abbrev pub is-application-x-stata-dta : ℕ
-is-application-x-stata-dta = 471
+is-application-x-stata-dta = 606
 
 abbrev pub is-application-x-storyboard-xml : ℕ
-is-application-x-storyboard-xml = 472
+is-application-x-storyboard-xml = 607
 
 abbrev pub is-application-x-stuffit : ℕ
-is-application-x-stuffit = 473
+is-application-x-stuffit = 608
 
 abbrev pub is-application-x-sublime-syntax : ℕ
-is-application-x-sublime-syntax = 474
+is-application-x-sublime-syntax = 609
 
 abbrev pub is-application-x-subrip : ℕ
-is-application-x-subrip = 475
+is-application-x-subrip = 610
+
+abbrev pub is-application-x-supercollider-synthdef : ℕ
+is-application-x-supercollider-synthdef = 611
+
+abbrev pub is-application-x-svn-dump : ℕ
+is-application-x-svn-dump = 612
+
+abbrev pub is-application-x-svr4-package : ℕ
+is-application-x-svr4-package = 613
 
 abbrev pub is-application-x-swiftmodule : ℕ
-is-application-x-swiftmodule = 476
+is-application-x-swiftmodule = 614
 
 abbrev pub is-application-x-systemd-journal : ℕ
-is-application-x-systemd-journal = 477
+is-application-x-systemd-journal = 615
+
+abbrev pub is-application-x-t602 : ℕ
+is-application-x-t602 = 616
+
+abbrev pub is-application-x-tabix : ℕ
+is-application-x-tabix = 617
 
 abbrev pub is-application-x-tar : ℕ
-is-application-x-tar = 478
+is-application-x-tar = 618
 
 abbrev pub is-application-x-tarz : ℕ
-is-application-x-tarz = 479
+is-application-x-tarz = 619
+
+abbrev pub is-application-x-tdb : ℕ
+is-application-x-tdb = 620
 
 abbrev pub is-application-x-terminfo : ℕ
-is-application-x-terminfo = 480
+is-application-x-terminfo = 621
 
 abbrev pub is-application-x-terraform-state-json : ℕ
-is-application-x-terraform-state-json = 481
+is-application-x-terraform-state-json = 622
 
 abbrev pub is-application-x-tex-pk : ℕ
-is-application-x-tex-pk = 482
+is-application-x-tex-pk = 623
 
 abbrev pub is-application-x-tex-tfm : ℕ
-is-application-x-tex-tfm = 483
+is-application-x-tex-tfm = 624
 
 abbrev pub is-application-x-tflite : ℕ
-is-application-x-tflite = 484
+is-application-x-tflite = 625
+
+abbrev pub is-application-x-tgif : ℕ
+is-application-x-tgif = 626
 
 abbrev pub is-application-x-theme : ℕ
-is-application-x-theme = 485
+is-application-x-theme = 627
 
 abbrev pub is-application-x-theme-xml : ℕ
-is-application-x-theme-xml = 486
+is-application-x-theme-xml = 628
 
 abbrev pub is-application-x-thumbs-db : ℕ
-is-application-x-thumbs-db = 487
+is-application-x-thumbs-db = 629
 
 abbrev pub is-application-x-tmx-xml : ℕ
-is-application-x-tmx-xml = 488
+is-application-x-tmx-xml = 630
+
+abbrev pub is-application-x-tokyocabinet-btree : ℕ
+is-application-x-tokyocabinet-btree = 631
+
+abbrev pub is-application-x-tokyocabinet-fixed : ℕ
+is-application-x-tokyocabinet-fixed = 632
+
+abbrev pub is-application-x-tokyocabinet-hash : ℕ
+is-application-x-tokyocabinet-hash = 633
+
+abbrev pub is-application-x-tokyocabinet-table : ℕ
+is-application-x-tokyocabinet-table = 634
+
+abbrev pub is-application-x-trid-trd : ℕ
+is-application-x-trid-trd = 635
+
+abbrev pub is-application-x-ubi : ℕ
+is-application-x-ubi = 636
+
+abbrev pub is-application-x-ubifs : ℕ
+is-application-x-ubifs = 637
+
+abbrev pub is-application-x-uf2 : ℕ
+is-application-x-uf2 = 638
+
+abbrev pub is-application-x-uimage : ℕ
+is-application-x-uimage = 639
 
 abbrev pub is-application-x-unity-asmdef-json : ℕ
-is-application-x-unity-asmdef-json = 489
+is-application-x-unity-asmdef-json = 640
 
 abbrev pub is-application-x-unity-asset : ℕ
-is-application-x-unity-asset = 490
+is-application-x-unity-asset = 641
 
 abbrev pub is-application-x-unix-archive : ℕ
-is-application-x-unix-archive = 491
+is-application-x-unix-archive = 642
+
+abbrev pub is-application-x-unreal-package : ℕ
+is-application-x-unreal-package = 643
 
 abbrev pub is-application-x-uproject-json : ℕ
-is-application-x-uproject-json = 492
+is-application-x-uproject-json = 644
+
+abbrev pub is-application-x-ups-patch : ℕ
+is-application-x-ups-patch = 645
 
 abbrev pub is-application-x-urdf-xml : ℕ
-is-application-x-urdf-xml = 493
+is-application-x-urdf-xml = 646
 
 abbrev pub is-application-x-usdc : ℕ
-is-application-x-usdc = 494
+is-application-x-usdc = 647
 
 abbrev pub is-application-x-usdz : ℕ
-is-application-x-usdz = 495
+is-application-x-usdz = 648
+
+abbrev pub is-application-x-valve-pak : ℕ
+is-application-x-valve-pak = 649
+
+abbrev pub is-application-x-vcdiff : ℕ
+is-application-x-vcdiff = 650
 
 abbrev pub is-application-x-vdi-disk : ℕ
-is-application-x-vdi-disk = 496
+is-application-x-vdi-disk = 651
 
 abbrev pub is-application-x-vhd-disk : ℕ
-is-application-x-vhd-disk = 497
+is-application-x-vhd-disk = 652
 
 abbrev pub is-application-x-vhdx-disk : ℕ
-is-application-x-vhdx-disk = 498
+is-application-x-vhdx-disk = 653
 
 abbrev pub is-application-x-vim-spell : ℕ
-is-application-x-vim-spell = 499
+is-application-x-vim-spell = 654
 
 abbrev pub is-application-x-vim-swap : ℕ
-is-application-x-vim-swap = 500
+is-application-x-vim-swap = 655
 
 abbrev pub is-application-x-virtualbox-saved-state : ℕ
-is-application-x-virtualbox-saved-state = 501
+is-application-x-virtualbox-saved-state = 656
 
 abbrev pub is-application-x-vmdk-disk : ℕ
-is-application-x-vmdk-disk = 502
+is-application-x-vmdk-disk = 657
 
 abbrev pub is-application-x-wheel-zip : ℕ
-is-application-x-wheel-zip = 503
+is-application-x-wheel-zip = 658
+
+abbrev pub is-application-x-wii-rom : ℕ
+is-application-x-wii-rom = 659
 
 abbrev pub is-application-x-wii-wad : ℕ
-is-application-x-wii-wad = 504
+is-application-x-wii-wad = 660
 
 abbrev pub is-application-x-windows-dump : ℕ
-is-application-x-windows-dump = 505
+is-application-x-windows-dump = 661
 
 abbrev pub is-application-x-wix-xml : ℕ
-is-application-x-wix-xml = 506
+is-application-x-wix-xml = 662
 
 abbrev pub is-application-x-wmz : ℕ
-is-application-x-wmz = 507
+is-application-x-wmz = 663
+
+abbrev pub is-application-x-wordperfect-wpm : ℕ
+is-application-x-wordperfect-wpm = 664
 
 abbrev pub is-application-x-x509-ca-cert-as-known : ℕ
-is-application-x-x509-ca-cert-as-known = 508
+is-application-x-x509-ca-cert-as-known = 665
 
 abbrev pub is-application-x-x509-ca-cert-as-row-der : ℕ
-is-application-x-x509-ca-cert-as-row-der = 509
+is-application-x-x509-ca-cert-as-row-der = 666
 
 abbrev pub is-application-x-x509-ca-cert-as-row-pem : ℕ
-is-application-x-x509-ca-cert-as-row-pem = 510
+is-application-x-x509-ca-cert-as-row-pem = 667
 
 abbrev pub is-application-x-xar : ℕ
-is-application-x-xar = 511
+is-application-x-xar = 668
+
+abbrev pub is-application-x-xbel : ℕ
+is-application-x-xbel = 669
+
+abbrev pub is-application-x-xbmc-xbt : ℕ
+is-application-x-xbmc-xbt = 670
 
 abbrev pub is-application-x-xmp-xml : ℕ
-is-application-x-xmp-xml = 512
+is-application-x-xmp-xml = 671
 
 abbrev pub is-application-x-xpinstall : ℕ
-is-application-x-xpinstall = 513
+is-application-x-xpinstall = 672
 
 abbrev pub is-application-x-xz : ℕ
-is-application-x-xz = 514
+is-application-x-xz = 673
 
 abbrev pub is-application-x-xz-compressed-tar : ℕ
-is-application-x-xz-compressed-tar = 515
+is-application-x-xz-compressed-tar = 674
 
 abbrev pub is-application-x-zcml : ℕ
-is-application-x-zcml = 516
+is-application-x-zcml = 675
 
 abbrev pub is-application-x-zip-compressed-fb2 : ℕ
-is-application-x-zip-compressed-fb2 = 517
+is-application-x-zip-compressed-fb2 = 676
 
 abbrev pub is-application-x-zoo : ℕ
-is-application-x-zoo = 518
+is-application-x-zoo = 677
+
+abbrev pub is-application-x-zpaq : ℕ
+is-application-x-zpaq = 678
 
 abbrev pub is-application-x-zsh : ℕ
-is-application-x-zsh = 519
+is-application-x-zsh = 679
 
 abbrev pub is-application-x-zstd-compressed-tar : ℕ
-is-application-x-zstd-compressed-tar = 520
+is-application-x-zstd-compressed-tar = 680
 
 abbrev pub is-application-xaml-xml : ℕ
-is-application-xaml-xml = 521
+is-application-xaml-xml = 681
 
 abbrev pub is-application-xhtml-xml : ℕ
-is-application-xhtml-xml = 522
+is-application-xhtml-xml = 682
 
 abbrev pub is-application-xliff-xml : ℕ
-is-application-xliff-xml = 523
+is-application-xliff-xml = 683
 
 abbrev pub is-application-xml : ℕ
-is-application-xml = 524
+is-application-xml = 684
 
 abbrev pub is-application-xml-dtd : ℕ
-is-application-xml-dtd = 525
+is-application-xml-dtd = 685
 
 abbrev pub is-application-xml-external-parsed-entity : ℕ
-is-application-xml-external-parsed-entity = 526
+is-application-xml-external-parsed-entity = 686
 
 abbrev pub is-application-xproc-xml : ℕ
-is-application-xproc-xml = 527
+is-application-xproc-xml = 687
 
 abbrev pub is-application-xquery : ℕ
-is-application-xquery = 528
+is-application-xquery = 688
 
 abbrev pub is-application-xslt-xml : ℕ
-is-application-xslt-xml = 529
+is-application-xslt-xml = 689
 
 abbrev pub is-application-xspf-xml : ℕ
-is-application-xspf-xml = 530
+is-application-xspf-xml = 690
 
 abbrev pub is-application-yaml : ℕ
-is-application-yaml = 531
+is-application-yaml = 691
 
 abbrev pub is-application-zip : ℕ
-is-application-zip = 532
+is-application-zip = 692
 
 abbrev pub is-application-zstd : ℕ
-is-application-zstd = 533
+is-application-zstd = 693
 
 abbrev pub is-audio-aac : ℕ
-is-audio-aac = 534
+is-audio-aac = 694
 
 abbrev pub is-audio-ac3 : ℕ
-is-audio-ac3 = 535
+is-audio-ac3 = 695
 
 abbrev pub is-audio-amr : ℕ
-is-audio-amr = 536
+is-audio-amr = 696
 
 abbrev pub is-audio-basic : ℕ
-is-audio-basic = 537
+is-audio-basic = 697
 
 abbrev pub is-audio-eac3 : ℕ
-is-audio-eac3 = 538
+is-audio-eac3 = 698
 
 abbrev pub is-audio-m4a : ℕ
-is-audio-m4a = 539
+is-audio-m4a = 699
+
+abbrev pub is-audio-mid : ℕ
+is-audio-mid = 700
 
 abbrev pub is-audio-midi : ℕ
-is-audio-midi = 540
+is-audio-midi = 701
+
+abbrev pub is-audio-mobile-xmf : ℕ
+is-audio-mobile-xmf = 702
 
 abbrev pub is-audio-mpeg : ℕ
-is-audio-mpeg = 541
+is-audio-mpeg = 703
 
 abbrev pub is-audio-ogg-as-row-oga : ℕ
-is-audio-ogg-as-row-oga = 542
+is-audio-ogg-as-row-oga = 704
 
 abbrev pub is-audio-ogg-as-row-ogg : ℕ
-is-audio-ogg-as-row-ogg = 543
+is-audio-ogg-as-row-ogg = 705
 
 abbrev pub is-audio-opus : ℕ
-is-audio-opus = 544
+is-audio-opus = 706
 
 abbrev pub is-audio-prs-sid : ℕ
-is-audio-prs-sid = 545
+is-audio-prs-sid = 707
 
 abbrev pub is-audio-sf2 : ℕ
-is-audio-sf2 = 546
+is-audio-sf2 = 708
 
 abbrev pub is-audio-vnd-audible : ℕ
-is-audio-vnd-audible = 547
+is-audio-vnd-audible = 709
 
 abbrev pub is-audio-vnd-dts : ℕ
-is-audio-vnd-dts = 548
+is-audio-vnd-dts = 710
 
 abbrev pub is-audio-vnd-rn-realaudio : ℕ
-is-audio-vnd-rn-realaudio = 549
+is-audio-vnd-rn-realaudio = 711
 
 abbrev pub is-audio-webm : ℕ
-is-audio-webm = 550
+is-audio-webm = 712
 
-abbrev pub is-audio-x-abc : ℕ
-is-audio-x-abc = 551
+abbrev pub is-audio-x-8svx : ℕ
+is-audio-x-8svx = 713
 
 abbrev pub is-audio-x-aifc : ℕ
-is-audio-x-aifc = 552
+is-audio-x-aifc = 714
 
 abbrev pub is-audio-x-aiff : ℕ
-is-audio-x-aiff = 553
+is-audio-x-aiff = 715
 
 abbrev pub is-audio-x-ape : ℕ
-is-audio-x-ape = 554
+is-audio-x-ape = 716
+
+abbrev pub is-audio-x-avr : ℕ
+is-audio-x-avr = 717
+
+abbrev pub is-audio-x-ay : ℕ
+is-audio-x-ay = 718
+
+abbrev pub is-audio-x-bcstm : ℕ
+is-audio-x-bcstm = 719
+
+abbrev pub is-audio-x-bcwav : ℕ
+is-audio-x-bcwav = 720
+
+abbrev pub is-audio-x-bfstm : ℕ
+is-audio-x-bfstm = 721
+
+abbrev pub is-audio-x-brstm : ℕ
+is-audio-x-brstm = 722
 
 abbrev pub is-audio-x-caf : ℕ
-is-audio-x-caf = 555
+is-audio-x-caf = 723
+
+abbrev pub is-audio-x-dbm : ℕ
+is-audio-x-dbm = 724
 
 abbrev pub is-audio-x-dff : ℕ
-is-audio-x-dff = 556
+is-audio-x-dff = 725
 
 abbrev pub is-audio-x-dsf : ℕ
-is-audio-x-dsf = 557
+is-audio-x-dsf = 726
+
+abbrev pub is-audio-x-dss : ℕ
+is-audio-x-dss = 727
 
 abbrev pub is-audio-x-flac : ℕ
-is-audio-x-flac = 558
+is-audio-x-flac = 728
 
 abbrev pub is-audio-x-gbs : ℕ
-is-audio-x-gbs = 559
+is-audio-x-gbs = 729
 
 abbrev pub is-audio-x-gsm : ℕ
-is-audio-x-gsm = 560
+is-audio-x-gsm = 730
 
 abbrev pub is-audio-x-it : ℕ
-is-audio-x-it = 561
+is-audio-x-it = 731
 
 abbrev pub is-audio-x-m4b : ℕ
-is-audio-x-m4b = 562
+is-audio-x-m4b = 732
 
 abbrev pub is-audio-x-matroska : ℕ
-is-audio-x-matroska = 563
+is-audio-x-matroska = 733
+
+abbrev pub is-audio-x-maud : ℕ
+is-audio-x-maud = 734
+
+abbrev pub is-audio-x-mids : ℕ
+is-audio-x-mids = 735
 
 abbrev pub is-audio-x-mo3 : ℕ
-is-audio-x-mo3 = 564
+is-audio-x-mo3 = 736
 
 abbrev pub is-audio-x-mod : ℕ
-is-audio-x-mod = 565
+is-audio-x-mod = 737
 
 abbrev pub is-audio-x-mpegurl : ℕ
-is-audio-x-mpegurl = 566
+is-audio-x-mpegurl = 738
+
+abbrev pub is-audio-x-ms-asx : ℕ
+is-audio-x-ms-asx = 739
 
 abbrev pub is-audio-x-ms-wma : ℕ
-is-audio-x-ms-wma = 567
+is-audio-x-ms-wma = 740
 
 abbrev pub is-audio-x-musepack : ℕ
-is-audio-x-musepack = 568
+is-audio-x-musepack = 741
+
+abbrev pub is-audio-x-nist : ℕ
+is-audio-x-nist = 742
 
 abbrev pub is-audio-x-nsf : ℕ
-is-audio-x-nsf = 569
+is-audio-x-nsf = 743
+
+abbrev pub is-audio-x-okt : ℕ
+is-audio-x-okt = 744
+
+abbrev pub is-audio-x-paf : ℕ
+is-audio-x-paf = 745
+
+abbrev pub is-audio-x-psf : ℕ
+is-audio-x-psf = 746
+
+abbrev pub is-audio-x-psion-wve : ℕ
+is-audio-x-psion-wve = 747
+
+abbrev pub is-audio-x-pvf : ℕ
+is-audio-x-pvf = 748
+
+abbrev pub is-audio-x-rf64 : ℕ
+is-audio-x-rf64 = 749
 
 abbrev pub is-audio-x-s3m : ℕ
-is-audio-x-s3m = 570
+is-audio-x-s3m = 750
+
+abbrev pub is-audio-x-sample-vision : ℕ
+is-audio-x-sample-vision = 751
+
+abbrev pub is-audio-x-sap : ℕ
+is-audio-x-sap = 752
 
 abbrev pub is-audio-x-scpls : ℕ
-is-audio-x-scpls = 571
+is-audio-x-scpls = 753
+
+abbrev pub is-audio-x-sds : ℕ
+is-audio-x-sds = 754
 
 abbrev pub is-audio-x-sfbk : ℕ
-is-audio-x-sfbk = 572
+is-audio-x-sfbk = 755
 
 abbrev pub is-audio-x-spc : ℕ
-is-audio-x-spc = 573
+is-audio-x-spc = 756
 
 abbrev pub is-audio-x-speex-ogg : ℕ
-is-audio-x-speex-ogg = 574
+is-audio-x-speex-ogg = 757
 
 abbrev pub is-audio-x-tta : ℕ
-is-audio-x-tta = 575
+is-audio-x-tta = 758
 
 abbrev pub is-audio-x-ult : ℕ
-is-audio-x-ult = 576
+is-audio-x-ult = 759
+
+abbrev pub is-audio-x-vgm : ℕ
+is-audio-x-vgm = 760
 
 abbrev pub is-audio-x-voc : ℕ
-is-audio-x-voc = 577
+is-audio-x-voc = 761
+
+abbrev pub is-audio-x-w64 : ℕ
+is-audio-x-w64 = 762
 
 abbrev pub is-audio-x-wav : ℕ
-is-audio-x-wav = 578
+is-audio-x-wav = 763
 
 abbrev pub is-audio-x-wavpack : ℕ
-is-audio-x-wavpack = 579
+is-audio-x-wavpack = 764
+
+abbrev pub is-audio-x-xbox-executable : ℕ
+is-audio-x-xbox-executable = 765
+
+abbrev pub is-audio-x-xbox360-executable : ℕ
+is-audio-x-xbox360-executable = 766
+
+abbrev pub is-audio-x-xi : ℕ
+is-audio-x-xi = 767
 
 abbrev pub is-audio-x-xm : ℕ
-is-audio-x-xm = 580
+is-audio-x-xm = 768
+
+abbrev pub is-audio-x-yamaha-txw : ℕ
+is-audio-x-yamaha-txw = 769
 
 abbrev pub is-chemical-x-cdx : ℕ
-is-chemical-x-cdx = 581
+is-chemical-x-cdx = 770
 
 abbrev pub is-chemical-x-cif : ℕ
-is-chemical-x-cif = 582
+is-chemical-x-cif = 771
+
+abbrev pub is-chemical-x-cml : ℕ
+is-chemical-x-cml = 772
 
 abbrev pub is-chemical-x-mdl-molfile : ℕ
-is-chemical-x-mdl-molfile = 583
+is-chemical-x-mdl-molfile = 773
 
 abbrev pub is-chemical-x-mdl-sdfile : ℕ
-is-chemical-x-mdl-sdfile = 584
+is-chemical-x-mdl-sdfile = 774
+
+abbrev pub is-chemical-x-mol2 : ℕ
+is-chemical-x-mol2 = 775
 
 abbrev pub is-chemical-x-pdb : ℕ
-is-chemical-x-pdb = 585
+is-chemical-x-pdb = 776
 
 abbrev pub is-chemical-x-xyz : ℕ
-is-chemical-x-xyz = 586
+is-chemical-x-xyz = 777
 
 abbrev pub is-font-collection : ℕ
-is-font-collection = 587
+is-font-collection = 778
+
+abbrev pub is-font-x-dos-cpi : ℕ
+is-font-x-dos-cpi = 779
+
+abbrev pub is-font-x-drdos-cpi : ℕ
+is-font-x-drdos-cpi = 780
 
 abbrev pub is-image-apng : ℕ
-is-image-apng = 588
+is-image-apng = 781
 
 abbrev pub is-image-astc : ℕ
-is-image-astc = 589
+is-image-astc = 782
 
 abbrev pub is-image-avif : ℕ
-is-image-avif = 590
+is-image-avif = 783
 
 abbrev pub is-image-bmp : ℕ
-is-image-bmp = 591
+is-image-bmp = 784
 
 abbrev pub is-image-bpg : ℕ
-is-image-bpg = 592
+is-image-bpg = 785
+
+abbrev pub is-image-cineon : ℕ
+is-image-cineon = 786
 
 abbrev pub is-image-dpx : ℕ
-is-image-dpx = 593
+is-image-dpx = 787
 
 abbrev pub is-image-emf : ℕ
-is-image-emf = 594
+is-image-emf = 788
 
 abbrev pub is-image-fits : ℕ
-is-image-fits = 595
+is-image-fits = 789
 
 abbrev pub is-image-flif : ℕ
-is-image-flif = 596
+is-image-flif = 790
 
 abbrev pub is-image-geotiff : ℕ
-is-image-geotiff = 597
+is-image-geotiff = 791
 
 abbrev pub is-image-gif : ℕ
-is-image-gif = 598
+is-image-gif = 792
 
 abbrev pub is-image-heic : ℕ
-is-image-heic = 599
+is-image-heic = 793
 
 abbrev pub is-image-heic-sequence : ℕ
-is-image-heic-sequence = 600
+is-image-heic-sequence = 794
 
 abbrev pub is-image-heif : ℕ
-is-image-heif = 601
+is-image-heif = 795
 
 abbrev pub is-image-jls : ℕ
-is-image-jls = 602
+is-image-jls = 796
 
 abbrev pub is-image-jp2 : ℕ
-is-image-jp2 = 603
+is-image-jp2 = 797
 
 abbrev pub is-image-jpeg : ℕ
-is-image-jpeg = 604
+is-image-jpeg = 798
 
 abbrev pub is-image-jph : ℕ
-is-image-jph = 605
+is-image-jph = 799
 
 abbrev pub is-image-jpm : ℕ
-is-image-jpm = 606
+is-image-jpm = 800
 
 abbrev pub is-image-jpx : ℕ
-is-image-jpx = 607
+is-image-jpx = 801
 
 abbrev pub is-image-jxl : ℕ
-is-image-jxl = 608
+is-image-jxl = 802
 
 abbrev pub is-image-ktx : ℕ
-is-image-ktx = 609
+is-image-ktx = 803
 
 abbrev pub is-image-ktx2 : ℕ
-is-image-ktx2 = 610
+is-image-ktx2 = 804
 
 abbrev pub is-image-openraster : ℕ
-is-image-openraster = 611
+is-image-openraster = 805
 
 abbrev pub is-image-png : ℕ
-is-image-png = 612
+is-image-png = 806
+
+abbrev pub is-image-pwg-raster : ℕ
+is-image-pwg-raster = 807
 
 abbrev pub is-image-svg-xml : ℕ
-is-image-svg-xml = 613
+is-image-svg-xml = 808
 
 abbrev pub is-image-svg-xml-compressed : ℕ
-is-image-svg-xml-compressed = 614
+is-image-svg-xml-compressed = 809
 
 abbrev pub is-image-tiff : ℕ
-is-image-tiff = 615
+is-image-tiff = 810
 
 abbrev pub is-image-vnd-adobe-photoshop : ℕ
-is-image-vnd-adobe-photoshop = 616
+is-image-vnd-adobe-photoshop = 811
 
 abbrev pub is-image-vnd-djvu : ℕ
-is-image-vnd-djvu = 617
+is-image-vnd-djvu = 812
 
 abbrev pub is-image-vnd-dwg : ℕ
-is-image-vnd-dwg = 618
+is-image-vnd-dwg = 813
 
 abbrev pub is-image-vnd-dxf : ℕ
-is-image-vnd-dxf = 619
+is-image-vnd-dxf = 814
 
 abbrev pub is-image-vnd-fpx : ℕ
-is-image-vnd-fpx = 620
+is-image-vnd-fpx = 815
 
 abbrev pub is-image-vnd-microsoft-icon : ℕ
-is-image-vnd-microsoft-icon = 621
+is-image-vnd-microsoft-icon = 816
 
 abbrev pub is-image-vnd-ms-dds : ℕ
-is-image-vnd-ms-dds = 622
+is-image-vnd-ms-dds = 817
 
 abbrev pub is-image-vnd-ms-modi : ℕ
-is-image-vnd-ms-modi = 623
+is-image-vnd-ms-modi = 818
 
 abbrev pub is-image-vnd-ms-photo : ℕ
-is-image-vnd-ms-photo = 624
+is-image-vnd-ms-photo = 819
 
 abbrev pub is-image-vnd-radiance : ℕ
-is-image-vnd-radiance = 625
+is-image-vnd-radiance = 820
+
+abbrev pub is-image-vnd-valve-source-texture : ℕ
+is-image-vnd-valve-source-texture = 821
 
 abbrev pub is-image-vnd-zbrush-pcx : ℕ
-is-image-vnd-zbrush-pcx = 626
+is-image-vnd-zbrush-pcx = 822
 
 abbrev pub is-image-webp : ℕ
-is-image-webp = 627
+is-image-webp = 823
 
 abbrev pub is-image-wmf : ℕ
-is-image-wmf = 628
+is-image-wmf = 824
 
 abbrev pub is-image-x-3ds : ℕ
-is-image-x-3ds = 629
+is-image-x-3ds = 825
 
 abbrev pub is-image-x-adobe-dng : ℕ
-is-image-x-adobe-dng = 630
+is-image-x-adobe-dng = 826
+
+abbrev pub is-image-x-applix-graphics : ℕ
+is-image-x-applix-graphics = 827
+
+abbrev pub is-image-x-award-bioslogo2 : ℕ
+is-image-x-award-bioslogo2 = 828
+
+abbrev pub is-image-x-blp : ℕ
+is-image-x-blp = 829
 
 abbrev pub is-image-x-canon-cr2 : ℕ
-is-image-x-canon-cr2 = 631
+is-image-x-canon-cr2 = 830
 
 abbrev pub is-image-x-canon-cr3 : ℕ
-is-image-x-canon-cr3 = 632
+is-image-x-canon-cr3 = 831
 
 abbrev pub is-image-x-canon-crw : ℕ
-is-image-x-canon-crw = 633
+is-image-x-canon-crw = 832
 
 abbrev pub is-image-x-cmu-raster : ℕ
-is-image-x-cmu-raster = 634
+is-image-x-cmu-raster = 833
+
+abbrev pub is-image-x-cmx : ℕ
+is-image-x-cmx = 834
+
+abbrev pub is-image-x-corel-cpt : ℕ
+is-image-x-corel-cpt = 835
+
+abbrev pub is-image-x-dcx : ℕ
+is-image-x-dcx = 836
+
+abbrev pub is-image-x-epoc-mbm : ℕ
+is-image-x-epoc-mbm = 837
 
 abbrev pub is-image-x-eps : ℕ
-is-image-x-eps = 635
+is-image-x-eps = 838
 
 abbrev pub is-image-x-epson-erf : ℕ
-is-image-x-epson-erf = 636
+is-image-x-epson-erf = 839
 
 abbrev pub is-image-x-exr : ℕ
-is-image-x-exr = 637
+is-image-x-exr = 840
+
+abbrev pub is-image-x-farbfeld : ℕ
+is-image-x-farbfeld = 841
 
 abbrev pub is-image-x-fuji-raf : ℕ
-is-image-x-fuji-raf = 638
+is-image-x-fuji-raf = 842
+
+abbrev pub is-image-x-gd2 : ℕ
+is-image-x-gd2 = 843
 
 abbrev pub is-image-x-gimp-gbr : ℕ
-is-image-x-gimp-gbr = 639
+is-image-x-gimp-gbr = 844
 
 abbrev pub is-image-x-gimp-pat : ℕ
-is-image-x-gimp-pat = 640
+is-image-x-gimp-pat = 845
+
+abbrev pub is-image-x-godot-stex : ℕ
+is-image-x-godot-stex = 846
 
 abbrev pub is-image-x-hasselblad-3fr : ℕ
-is-image-x-hasselblad-3fr = 641
+is-image-x-hasselblad-3fr = 847
+
+abbrev pub is-image-x-hsi : ℕ
+is-image-x-hsi = 848
 
 abbrev pub is-image-x-icns : ℕ
-is-image-x-icns = 642
+is-image-x-icns = 849
 
 abbrev pub is-image-x-ilbm : ℕ
-is-image-x-ilbm = 643
+is-image-x-ilbm = 850
 
 abbrev pub is-image-x-itc : ℕ
-is-image-x-itc = 644
+is-image-x-itc = 851
+
+abbrev pub is-image-x-jbig2 : ℕ
+is-image-x-jbig2 = 852
+
+abbrev pub is-image-x-jng : ℕ
+is-image-x-jng = 853
 
 abbrev pub is-image-x-jp2-codestream : ℕ
-is-image-x-jp2-codestream = 645
+is-image-x-jp2-codestream = 854
 
 abbrev pub is-image-x-kodak-dcr : ℕ
-is-image-x-kodak-dcr = 646
+is-image-x-kodak-dcr = 855
 
 abbrev pub is-image-x-kodak-kdc : ℕ
-is-image-x-kodak-kdc = 647
+is-image-x-kodak-kdc = 856
+
+abbrev pub is-image-x-lss16 : ℕ
+is-image-x-lss16 = 857
+
+abbrev pub is-image-x-lwo : ℕ
+is-image-x-lwo = 858
 
 abbrev pub is-image-x-lytro-lfp : ℕ
-is-image-x-lytro-lfp = 648
+is-image-x-lytro-lfp = 859
 
 abbrev pub is-image-x-mamiya-mef : ℕ
-is-image-x-mamiya-mef = 649
+is-image-x-mamiya-mef = 860
 
 abbrev pub is-image-x-miff : ℕ
-is-image-x-miff = 650
+is-image-x-miff = 861
 
 abbrev pub is-image-x-minolta-mrw : ℕ
-is-image-x-minolta-mrw = 651
+is-image-x-minolta-mrw = 862
 
 abbrev pub is-image-x-mvg : ℕ
-is-image-x-mvg = 652
+is-image-x-mvg = 863
+
+abbrev pub is-image-x-niff : ℕ
+is-image-x-niff = 864
 
 abbrev pub is-image-x-nikon-nef : ℕ
-is-image-x-nikon-nef = 653
+is-image-x-nikon-nef = 865
 
 abbrev pub is-image-x-nikon-nrw : ℕ
-is-image-x-nikon-nrw = 654
+is-image-x-nikon-nrw = 866
 
 abbrev pub is-image-x-olympus-orf : ℕ
-is-image-x-olympus-orf = 655
+is-image-x-olympus-orf = 867
+
+abbrev pub is-image-x-paintnet : ℕ
+is-image-x-paintnet = 868
 
 abbrev pub is-image-x-paintshoppro : ℕ
-is-image-x-paintshoppro = 656
+is-image-x-paintshoppro = 869
 
 abbrev pub is-image-x-panasonic-rw2 : ℕ
-is-image-x-panasonic-rw2 = 657
+is-image-x-panasonic-rw2 = 870
 
 abbrev pub is-image-x-pentax-pef : ℕ
-is-image-x-pentax-pef = 658
+is-image-x-pentax-pef = 871
 
 abbrev pub is-image-x-pgf : ℕ
-is-image-x-pgf = 659
+is-image-x-pgf = 872
+
+abbrev pub is-image-x-pic : ℕ
+is-image-x-pic = 873
 
 abbrev pub is-image-x-pict : ℕ
-is-image-x-pict = 660
+is-image-x-pict = 874
 
 abbrev pub is-image-x-portable-anymap : ℕ
-is-image-x-portable-anymap = 661
+is-image-x-portable-anymap = 875
+
+abbrev pub is-image-x-portable-arbitrarymap : ℕ
+is-image-x-portable-arbitrarymap = 876
 
 abbrev pub is-image-x-portable-bitmap : ℕ
-is-image-x-portable-bitmap = 662
+is-image-x-portable-bitmap = 877
+
+abbrev pub is-image-x-portable-floatmap : ℕ
+is-image-x-portable-floatmap = 878
 
 abbrev pub is-image-x-portable-graymap : ℕ
-is-image-x-portable-graymap = 663
+is-image-x-portable-graymap = 879
 
 abbrev pub is-image-x-portable-pixmap : ℕ
-is-image-x-portable-pixmap = 664
+is-image-x-portable-pixmap = 880
+
+abbrev pub is-image-x-pvr : ℕ
+is-image-x-pvr = 881
 
 abbrev pub is-image-x-qoi : ℕ
-is-image-x-qoi = 665
+is-image-x-qoi = 882
 
 abbrev pub is-image-x-samsung-srw : ℕ
-is-image-x-samsung-srw = 666
+is-image-x-samsung-srw = 883
 
 abbrev pub is-image-x-sgi : ℕ
-is-image-x-sgi = 667
+is-image-x-sgi = 884
 
 abbrev pub is-image-x-sigma-x3f : ℕ
-is-image-x-sigma-x3f = 668
+is-image-x-sigma-x3f = 885
 
 abbrev pub is-image-x-skencil : ℕ
-is-image-x-skencil = 669
+is-image-x-skencil = 886
 
 abbrev pub is-image-x-sony-arw : ℕ
-is-image-x-sony-arw = 670
+is-image-x-sony-arw = 887
 
 abbrev pub is-image-x-sony-sr2 : ℕ
-is-image-x-sony-sr2 = 671
+is-image-x-sony-sr2 = 888
 
 abbrev pub is-image-x-sony-srf : ℕ
-is-image-x-sony-srf = 672
+is-image-x-sony-srf = 889
+
+abbrev pub is-image-x-svm : ℕ
+is-image-x-svm = 890
 
 abbrev pub is-image-x-tga : ℕ
-is-image-x-tga = 673
+is-image-x-tga = 891
+
+abbrev pub is-image-x-vips : ℕ
+is-image-x-vips = 892
 
 abbrev pub is-image-x-win-bitmap : ℕ
-is-image-x-win-bitmap = 674
+is-image-x-win-bitmap = 893
+
+abbrev pub is-image-x-wpg : ℕ
+is-image-x-wpg = 894
 
 abbrev pub is-image-x-xbitmap : ℕ
-is-image-x-xbitmap = 675
+is-image-x-xbitmap = 895
 
 abbrev pub is-image-x-xcf : ℕ
-is-image-x-xcf = 676
+is-image-x-xcf = 896
 
 abbrev pub is-image-x-xfig : ℕ
-is-image-x-xfig = 677
+is-image-x-xfig = 897
+
+abbrev pub is-image-x-xisf : ℕ
+is-image-x-xisf = 898
 
 abbrev pub is-image-x-xpixmap : ℕ
-is-image-x-xpixmap = 678
+is-image-x-xpixmap = 899
 
 abbrev pub is-image-x-xwindowdump : ℕ
-is-image-x-xwindowdump = 679
+is-image-x-xwindowdump = 900
 
 abbrev pub is-image-x-zeiss-czi : ℕ
-is-image-x-zeiss-czi = 680
+is-image-x-zeiss-czi = 901
+
+abbrev pub is-message-http : ℕ
+is-message-http = 902
 
 abbrev pub is-message-rfc822 : ℕ
-is-message-rfc822 = 681
+is-message-rfc822 = 903
 
 abbrev pub is-model-3mf : ℕ
-is-model-3mf = 682
+is-model-3mf = 904
 
 abbrev pub is-model-e57 : ℕ
-is-model-e57 = 683
+is-model-e57 = 905
 
 abbrev pub is-model-gltf-json : ℕ
-is-model-gltf-json = 684
+is-model-gltf-json = 906
 
 abbrev pub is-model-gltf-binary : ℕ
-is-model-gltf-binary = 685
+is-model-gltf-binary = 907
 
 abbrev pub is-model-iges : ℕ
-is-model-iges = 686
+is-model-iges = 908
 
 abbrev pub is-model-mtl : ℕ
-is-model-mtl = 687
+is-model-mtl = 909
 
 abbrev pub is-model-obj : ℕ
-is-model-obj = 688
+is-model-obj = 910
 
 abbrev pub is-model-step : ℕ
-is-model-step = 689
+is-model-step = 911
 
 abbrev pub is-model-stl : ℕ
-is-model-stl = 690
+is-model-stl = 912
 
 abbrev pub is-model-vnd-collada-xml : ℕ
-is-model-vnd-collada-xml = 691
+is-model-vnd-collada-xml = 913
+
+abbrev pub is-model-vnd-usda : ℕ
+is-model-vnd-usda = 914
 
 abbrev pub is-model-vrml : ℕ
-is-model-vrml = 692
+is-model-vrml = 915
+
+abbrev pub is-model-x-milkshape : ℕ
+is-model-x-milkshape = 916
 
 abbrev pub is-model-x3d-xml : ℕ
-is-model-x3d-xml = 693
+is-model-x3d-xml = 917
 
 abbrev pub is-model-x3d-vrml : ℕ
-is-model-x3d-vrml = 694
+is-model-x3d-vrml = 918
 
 abbrev pub is-multipart-related : ℕ
-is-multipart-related = 695
+is-multipart-related = 919
 
 abbrev pub is-text-cache-manifest : ℕ
-is-text-cache-manifest = 696
+is-text-cache-manifest = 920
 
 abbrev pub is-text-calendar : ℕ
-is-text-calendar = 697
+is-text-calendar = 921
 
 abbrev pub is-text-cql : ℕ
-is-text-cql = 698
+is-text-cql = 922
 
 abbrev pub is-text-css : ℕ
-is-text-css = 699
+is-text-css = 923
 
 abbrev pub is-text-csv : ℕ
-is-text-csv = 700
+is-text-csv = 924
 
 abbrev pub is-text-html : ℕ
-is-text-html = 701
+is-text-html = 925
 
 abbrev pub is-text-javascript : ℕ
-is-text-javascript = 702
+is-text-javascript = 926
 
 abbrev pub is-text-markdown : ℕ
-is-text-markdown = 703
+is-text-markdown = 927
 
 abbrev pub is-text-mdx : ℕ
-is-text-mdx = 704
+is-text-mdx = 928
 
 abbrev pub is-text-n3 : ℕ
-is-text-n3 = 705
+is-text-n3 = 929
 
 abbrev pub is-text-org : ℕ
-is-text-org = 706
+is-text-org = 930
 
 abbrev pub is-text-plain : ℕ
-is-text-plain = 707
+is-text-plain = 931
 
 abbrev pub is-text-rust : ℕ
-is-text-rust = 708
+is-text-rust = 932
 
 abbrev pub is-text-sgml : ℕ
-is-text-sgml = 709
+is-text-sgml = 933
 
 abbrev pub is-text-spreadsheet : ℕ
-is-text-spreadsheet = 710
+is-text-spreadsheet = 934
 
 abbrev pub is-text-tab-separated-values : ℕ
-is-text-tab-separated-values = 711
+is-text-tab-separated-values = 935
 
 abbrev pub is-text-troff : ℕ
-is-text-troff = 712
+is-text-troff = 936
 
 abbrev pub is-text-turtle : ℕ
-is-text-turtle = 713
+is-text-turtle = 937
 
 abbrev pub is-text-uri-list : ℕ
-is-text-uri-list = 714
+is-text-uri-list = 938
 
 abbrev pub is-text-vbscript : ℕ
-is-text-vbscript = 715
+is-text-vbscript = 939
 
 abbrev pub is-text-vcard : ℕ
-is-text-vcard = 716
+is-text-vcard = 940
 
 abbrev pub is-text-velocity : ℕ
-is-text-velocity = 717
+is-text-velocity = 941
+
+abbrev pub is-text-vnd-abc : ℕ
+is-text-vnd-abc = 942
 
 abbrev pub is-text-vnd-familysearch-gedcom : ℕ
-is-text-vnd-familysearch-gedcom = 718
+is-text-vnd-familysearch-gedcom = 943
 
 abbrev pub is-text-vnd-graphviz : ℕ
-is-text-vnd-graphviz = 719
+is-text-vnd-graphviz = 944
 
 abbrev pub is-text-vnd-sun-j2me-app-descriptor : ℕ
-is-text-vnd-sun-j2me-app-descriptor = 720
+is-text-vnd-sun-j2me-app-descriptor = 945
 
 abbrev pub is-text-vnd-trolltech-linguist : ℕ
-is-text-vnd-trolltech-linguist = 721
+is-text-vnd-trolltech-linguist = 946
 
 abbrev pub is-text-vnd-wap-wml : ℕ
-is-text-vnd-wap-wml = 722
+is-text-vnd-wap-wml = 947
 
 abbrev pub is-text-vtt : ℕ
-is-text-vtt = 723
+is-text-vtt = 948
 
 abbrev pub is-text-wgsl : ℕ
-is-text-wgsl = 724
+is-text-wgsl = 949
 
 abbrev pub is-text-x-abap : ℕ
-is-text-x-abap = 725
+is-text-x-abap = 950
 
 abbrev pub is-text-x-adasrc : ℕ
-is-text-x-adasrc = 726
+is-text-x-adasrc = 951
 
 abbrev pub is-text-x-agda : ℕ
-is-text-x-agda = 727
+is-text-x-agda = 952
 
 abbrev pub is-text-x-aidl : ℕ
-is-text-x-aidl = 728
+is-text-x-aidl = 953
 
 abbrev pub is-text-x-ampl : ℕ
-is-text-x-ampl = 729
+is-text-x-ampl = 954
 
 abbrev pub is-text-x-antlr : ℕ
-is-text-x-antlr = 730
+is-text-x-antlr = 955
 
 abbrev pub is-text-x-apacheconf : ℕ
-is-text-x-apacheconf = 731
+is-text-x-apacheconf = 956
 
 abbrev pub is-text-x-apex : ℕ
-is-text-x-apex = 732
+is-text-x-apex = 957
 
 abbrev pub is-text-x-apl : ℕ
-is-text-x-apl = 733
+is-text-x-apl = 958
 
 abbrev pub is-text-x-applescript : ℕ
-is-text-x-applescript = 734
+is-text-x-applescript = 959
 
 abbrev pub is-text-x-asciidoc : ℕ
-is-text-x-asciidoc = 735
+is-text-x-asciidoc = 960
 
 abbrev pub is-text-x-asm : ℕ
-is-text-x-asm = 736
+is-text-x-asm = 961
 
 abbrev pub is-text-x-asn1 : ℕ
-is-text-x-asn1 = 737
+is-text-x-asn1 = 962
 
 abbrev pub is-text-x-astro : ℕ
-is-text-x-astro = 738
+is-text-x-astro = 963
 
 abbrev pub is-text-x-asymptote : ℕ
-is-text-x-asymptote = 739
+is-text-x-asymptote = 964
 
 abbrev pub is-text-x-autoconf : ℕ
-is-text-x-autoconf = 740
+is-text-x-autoconf = 965
 
 abbrev pub is-text-x-autohotkey : ℕ
-is-text-x-autohotkey = 741
+is-text-x-autohotkey = 966
 
 abbrev pub is-text-x-autoit : ℕ
-is-text-x-autoit = 742
+is-text-x-autoit = 967
 
 abbrev pub is-text-x-automake : ℕ
-is-text-x-automake = 743
+is-text-x-automake = 968
 
 abbrev pub is-text-x-awk : ℕ
-is-text-x-awk = 744
+is-text-x-awk = 969
 
 abbrev pub is-text-x-ballerina : ℕ
-is-text-x-ballerina = 745
+is-text-x-ballerina = 970
 
 abbrev pub is-text-x-basic : ℕ
-is-text-x-basic = 746
+is-text-x-basic = 971
 
 abbrev pub is-text-x-bats : ℕ
-is-text-x-bats = 747
+is-text-x-bats = 972
 
 abbrev pub is-text-x-bc : ℕ
-is-text-x-bc = 748
+is-text-x-bc = 973
 
 abbrev pub is-text-x-bed : ℕ
-is-text-x-bed = 749
+is-text-x-bed = 974
 
 abbrev pub is-text-x-bibtex : ℕ
-is-text-x-bibtex = 750
+is-text-x-bibtex = 975
 
 abbrev pub is-text-x-bicep : ℕ
-is-text-x-bicep = 751
+is-text-x-bicep = 976
 
 abbrev pub is-text-x-bitbake : ℕ
-is-text-x-bitbake = 752
+is-text-x-bitbake = 977
 
 abbrev pub is-text-x-blade : ℕ
-is-text-x-blade = 753
+is-text-x-blade = 978
 
 abbrev pub is-text-x-bluespec : ℕ
-is-text-x-bluespec = 754
+is-text-x-bluespec = 979
 
 abbrev pub is-text-x-boo : ℕ
-is-text-x-boo = 755
+is-text-x-boo = 980
 
 abbrev pub is-text-x-bpftrace : ℕ
-is-text-x-bpftrace = 756
+is-text-x-bpftrace = 981
 
 abbrev pub is-text-x-bugs : ℕ
-is-text-x-bugs = 757
+is-text-x-bugs = 982
 
 abbrev pub is-text-x-c-hdr : ℕ
-is-text-x-c-hdr = 758
+is-text-x-c-hdr = 983
 
 abbrev pub is-text-x-c-src : ℕ
-is-text-x-c-src = 759
+is-text-x-c-src = 984
 
 abbrev pub is-text-x-cabal : ℕ
-is-text-x-cabal = 760
+is-text-x-cabal = 985
 
 abbrev pub is-text-x-cairo : ℕ
-is-text-x-cairo = 761
+is-text-x-cairo = 986
 
 abbrev pub is-text-x-capnp : ℕ
-is-text-x-capnp = 762
+is-text-x-capnp = 987
 
 abbrev pub is-text-x-cfm : ℕ
-is-text-x-cfm = 763
+is-text-x-cfm = 988
 
 abbrev pub is-text-x-chapel : ℕ
-is-text-x-chapel = 764
+is-text-x-chapel = 989
 
 abbrev pub is-text-x-chdr : ℕ
-is-text-x-chdr = 765
+is-text-x-chdr = 990
 
 abbrev pub is-text-x-checksums : ℕ
-is-text-x-checksums = 766
+is-text-x-checksums = 991
 
 abbrev pub is-text-x-chuck : ℕ
-is-text-x-chuck = 767
+is-text-x-chuck = 992
 
 abbrev pub is-text-x-clojure : ℕ
-is-text-x-clojure = 768
+is-text-x-clojure = 993
 
 abbrev pub is-text-x-cmake : ℕ
-is-text-x-cmake = 769
+is-text-x-cmake = 994
 
 abbrev pub is-text-x-cobol : ℕ
-is-text-x-cobol = 770
+is-text-x-cobol = 995
 
 abbrev pub is-text-x-cocci : ℕ
-is-text-x-cocci = 771
+is-text-x-cocci = 996
 
 abbrev pub is-text-x-common-lisp : ℕ
-is-text-x-common-lisp = 772
+is-text-x-common-lisp = 997
 
 abbrev pub is-text-x-component : ℕ
-is-text-x-component = 773
+is-text-x-component = 998
 
 abbrev pub is-text-x-coq : ℕ
-is-text-x-coq = 774
+is-text-x-coq = 999
 
 abbrev pub is-text-x-cppconf : ℕ
-is-text-x-cppconf = 775
+is-text-x-cppconf = 1000
 
 abbrev pub is-text-x-creole : ℕ
-is-text-x-creole = 776
+is-text-x-creole = 1001
 
 abbrev pub is-text-x-cron : ℕ
-is-text-x-cron = 777
+is-text-x-cron = 1002
 
 abbrev pub is-text-x-crystal : ℕ
-is-text-x-crystal = 778
+is-text-x-crystal = 1003
 
 abbrev pub is-text-x-csharp : ℕ
-is-text-x-csharp = 779
+is-text-x-csharp = 1004
 
 abbrev pub is-text-x-csound : ℕ
-is-text-x-csound = 780
+is-text-x-csound = 1005
 
 abbrev pub is-text-x-csrc : ℕ
-is-text-x-csrc = 781
+is-text-x-csrc = 1006
 
 abbrev pub is-text-x-cuda : ℕ
-is-text-x-cuda = 782
+is-text-x-cuda = 1007
 
 abbrev pub is-text-x-cwl : ℕ
-is-text-x-cwl = 783
+is-text-x-cwl = 1008
 
 abbrev pub is-text-x-cypher : ℕ
-is-text-x-cypher = 784
+is-text-x-cypher = 1009
 
 abbrev pub is-text-x-cython : ℕ
-is-text-x-cython = 785
+is-text-x-cython = 1010
 
 abbrev pub is-text-x-d2 : ℕ
-is-text-x-d2 = 786
+is-text-x-d2 = 1011
 
 abbrev pub is-text-x-dart : ℕ
-is-text-x-dart = 787
+is-text-x-dart = 1012
 
 abbrev pub is-text-x-debian-control : ℕ
-is-text-x-debian-control = 788
+is-text-x-debian-control = 1013
 
 abbrev pub is-text-x-dhall : ℕ
-is-text-x-dhall = 789
+is-text-x-dhall = 1014
 
 abbrev pub is-text-x-dimacs : ℕ
-is-text-x-dimacs = 790
+is-text-x-dimacs = 1015
 
 abbrev pub is-text-x-dns-zone : ℕ
-is-text-x-dns-zone = 791
+is-text-x-dns-zone = 1016
 
 abbrev pub is-text-x-dockerfile : ℕ
-is-text-x-dockerfile = 792
+is-text-x-dockerfile = 1017
 
 abbrev pub is-text-x-dotenv : ℕ
-is-text-x-dotenv = 793
+is-text-x-dotenv = 1018
 
 abbrev pub is-text-x-dsrc : ℕ
-is-text-x-dsrc = 794
+is-text-x-dsrc = 1019
 
 abbrev pub is-text-x-dts : ℕ
-is-text-x-dts = 795
+is-text-x-dts = 1020
 
 abbrev pub is-text-x-dune : ℕ
-is-text-x-dune = 796
+is-text-x-dune = 1021
 
 abbrev pub is-text-x-ebnf : ℕ
-is-text-x-ebnf = 797
+is-text-x-ebnf = 1022
 
 abbrev pub is-text-x-ebuild : ℕ
-is-text-x-ebuild = 798
+is-text-x-ebuild = 1023
 
 abbrev pub is-text-x-editorconfig : ℕ
-is-text-x-editorconfig = 799
+is-text-x-editorconfig = 1024
 
 abbrev pub is-text-x-eex : ℕ
-is-text-x-eex = 800
+is-text-x-eex = 1025
 
 abbrev pub is-text-x-eiffel : ℕ
-is-text-x-eiffel = 801
+is-text-x-eiffel = 1026
 
 abbrev pub is-text-x-ejs : ℕ
-is-text-x-ejs = 802
+is-text-x-ejs = 1027
 
 abbrev pub is-text-x-elixir : ℕ
-is-text-x-elixir = 803
+is-text-x-elixir = 1028
 
 abbrev pub is-text-x-elm : ℕ
-is-text-x-elm = 804
+is-text-x-elm = 1029
 
 abbrev pub is-text-x-emacs-config : ℕ
-is-text-x-emacs-config = 805
+is-text-x-emacs-config = 1030
 
 abbrev pub is-text-x-emacs-lisp : ℕ
-is-text-x-emacs-lisp = 806
+is-text-x-emacs-lisp = 1031
 
 abbrev pub is-text-x-erlang : ℕ
-is-text-x-erlang = 807
+is-text-x-erlang = 1032
 
 abbrev pub is-text-x-expect : ℕ
-is-text-x-expect = 808
+is-text-x-expect = 1033
 
 abbrev pub is-text-x-factor : ℕ
-is-text-x-factor = 809
+is-text-x-factor = 1034
 
 abbrev pub is-text-x-fasta : ℕ
-is-text-x-fasta = 810
+is-text-x-fasta = 1035
 
 abbrev pub is-text-x-fastq : ℕ
-is-text-x-fastq = 811
+is-text-x-fastq = 1036
 
 abbrev pub is-text-x-fennel : ℕ
-is-text-x-fennel = 812
+is-text-x-fennel = 1037
 
 abbrev pub is-text-x-flatbuffers : ℕ
-is-text-x-flatbuffers = 813
-
-abbrev pub is-text-x-fontforge-sfd : ℕ
-is-text-x-fontforge-sfd = 814
+is-text-x-flatbuffers = 1038
 
 abbrev pub is-text-x-forth : ℕ
-is-text-x-forth = 815
+is-text-x-forth = 1039
 
 abbrev pub is-text-x-fortran : ℕ
-is-text-x-fortran = 816
+is-text-x-fortran = 1040
 
 abbrev pub is-text-x-fountain : ℕ
-is-text-x-fountain = 817
+is-text-x-fountain = 1041
 
 abbrev pub is-text-x-freemarker : ℕ
-is-text-x-freemarker = 818
+is-text-x-freemarker = 1042
 
 abbrev pub is-text-x-fsharp : ℕ
-is-text-x-fsharp = 819
+is-text-x-fsharp = 1043
 
 abbrev pub is-text-x-gams : ℕ
-is-text-x-gams = 820
+is-text-x-gams = 1044
 
 abbrev pub is-text-x-gap : ℕ
-is-text-x-gap = 821
+is-text-x-gap = 1045
 
 abbrev pub is-text-x-gcode-gx : ℕ
-is-text-x-gcode-gx = 822
+is-text-x-gcode-gx = 1046
 
 abbrev pub is-text-x-gdb : ℕ
-is-text-x-gdb = 823
+is-text-x-gdb = 1047
 
 abbrev pub is-text-x-genbank : ℕ
-is-text-x-genbank = 824
+is-text-x-genbank = 1048
 
 abbrev pub is-text-x-genie : ℕ
-is-text-x-genie = 825
+is-text-x-genie = 1049
 
 abbrev pub is-text-x-gerber : ℕ
-is-text-x-gerber = 826
+is-text-x-gerber = 1050
 
 abbrev pub is-text-x-gettext-translation : ℕ
-is-text-x-gettext-translation = 827
+is-text-x-gettext-translation = 1051
 
 abbrev pub is-text-x-gettext-translation-template : ℕ
-is-text-x-gettext-translation-template = 828
+is-text-x-gettext-translation-template = 1052
 
 abbrev pub is-text-x-gff : ℕ
-is-text-x-gff = 829
+is-text-x-gff = 1053
+
+abbrev pub is-text-x-gff3 : ℕ
+is-text-x-gff3 = 1054
 
 abbrev pub is-text-x-gfortran-module : ℕ
-is-text-x-gfortran-module = 830
+is-text-x-gfortran-module = 1055
 
 abbrev pub is-text-x-gherkin : ℕ
-is-text-x-gherkin = 831
+is-text-x-gherkin = 1056
+
+abbrev pub is-text-x-gimp-ggr : ℕ
+is-text-x-gimp-ggr = 1057
+
+abbrev pub is-text-x-gimp-gpl : ℕ
+is-text-x-gimp-gpl = 1058
 
 abbrev pub is-text-x-gitattributes : ℕ
-is-text-x-gitattributes = 832
+is-text-x-gitattributes = 1059
 
 abbrev pub is-text-x-gitconfig : ℕ
-is-text-x-gitconfig = 833
+is-text-x-gitconfig = 1060
 
 abbrev pub is-text-x-gitignore : ℕ
-is-text-x-gitignore = 834
+is-text-x-gitignore = 1061
 
 abbrev pub is-text-x-gleam : ℕ
-is-text-x-gleam = 835
+is-text-x-gleam = 1062
 
 abbrev pub is-text-x-glsl : ℕ
-is-text-x-glsl = 836
+is-text-x-glsl = 1063
 
 abbrev pub is-text-x-gn : ℕ
-is-text-x-gn = 837
+is-text-x-gn = 1064
 
 abbrev pub is-text-x-go : ℕ
-is-text-x-go = 838
+is-text-x-go = 1065
 
 abbrev pub is-text-x-gomod : ℕ
-is-text-x-gomod = 839
+is-text-x-gomod = 1066
 
 abbrev pub is-text-x-gosum : ℕ
-is-text-x-gosum = 840
+is-text-x-gosum = 1067
 
 abbrev pub is-text-x-gotemplate : ℕ
-is-text-x-gotemplate = 841
+is-text-x-gotemplate = 1068
 
 abbrev pub is-text-x-gpr : ℕ
-is-text-x-gpr = 842
+is-text-x-gpr = 1069
 
 abbrev pub is-text-x-gradle : ℕ
-is-text-x-gradle = 843
+is-text-x-gradle = 1070
 
 abbrev pub is-text-x-groovy : ℕ
-is-text-x-groovy = 844
+is-text-x-groovy = 1071
 
 abbrev pub is-text-x-haml : ℕ
-is-text-x-haml = 845
+is-text-x-haml = 1072
 
 abbrev pub is-text-x-handlebars : ℕ
-is-text-x-handlebars = 846
+is-text-x-handlebars = 1073
 
 abbrev pub is-text-x-haskell : ℕ
-is-text-x-haskell = 847
+is-text-x-haskell = 1074
 
 abbrev pub is-text-x-haxe : ℕ
-is-text-x-haxe = 848
+is-text-x-haxe = 1075
 
 abbrev pub is-text-x-hcl : ℕ
-is-text-x-hcl = 849
+is-text-x-hcl = 1076
 
 abbrev pub is-text-x-hive : ℕ
-is-text-x-hive = 850
+is-text-x-hive = 1077
 
 abbrev pub is-text-x-hlsl : ℕ
-is-text-x-hlsl = 851
-
-abbrev pub is-text-x-http : ℕ
-is-text-x-http = 852
+is-text-x-hlsl = 1078
 
 abbrev pub is-text-x-hunspell-affix : ℕ
-is-text-x-hunspell-affix = 853
+is-text-x-hunspell-affix = 1079
 
 abbrev pub is-text-x-hy : ℕ
-is-text-x-hy = 854
+is-text-x-hy = 1080
 
 abbrev pub is-text-x-idl : ℕ
-is-text-x-idl = 855
+is-text-x-idl = 1081
 
 abbrev pub is-text-x-idris : ℕ
-is-text-x-idris = 856
+is-text-x-idris = 1082
 
 abbrev pub is-text-x-igor : ℕ
-is-text-x-igor = 857
+is-text-x-igor = 1083
 
 abbrev pub is-text-x-imagej : ℕ
-is-text-x-imagej = 858
+is-text-x-imagej = 1084
 
 abbrev pub is-text-x-imelody : ℕ
-is-text-x-imelody = 859
+is-text-x-imelody = 1085
 
 abbrev pub is-text-x-info : ℕ
-is-text-x-info = 860
+is-text-x-info = 1086
 
 abbrev pub is-text-x-ini : ℕ
-is-text-x-ini = 861
+is-text-x-ini = 1087
 
 abbrev pub is-text-x-innosetup : ℕ
-is-text-x-innosetup = 862
+is-text-x-innosetup = 1088
 
 abbrev pub is-text-x-io : ℕ
-is-text-x-io = 863
+is-text-x-io = 1089
 
 abbrev pub is-text-x-ipxe : ℕ
-is-text-x-ipxe = 864
+is-text-x-ipxe = 1090
 
 abbrev pub is-text-x-irclog : ℕ
-is-text-x-irclog = 865
+is-text-x-irclog = 1091
 
 abbrev pub is-text-x-isabelle : ℕ
-is-text-x-isabelle = 866
+is-text-x-isabelle = 1092
 
 abbrev pub is-text-x-janet : ℕ
-is-text-x-janet = 867
+is-text-x-janet = 1093
 
 abbrev pub is-text-x-java : ℕ
-is-text-x-java = 868
+is-text-x-java = 1094
 
 abbrev pub is-text-x-java-manifest : ℕ
-is-text-x-java-manifest = 869
+is-text-x-java-manifest = 1095
 
 abbrev pub is-text-x-java-properties : ℕ
-is-text-x-java-properties = 870
+is-text-x-java-properties = 1096
 
 abbrev pub is-text-x-jcl : ℕ
-is-text-x-jcl = 871
+is-text-x-jcl = 1097
 
 abbrev pub is-text-x-jelly : ℕ
-is-text-x-jelly = 872
+is-text-x-jelly = 1098
 
 abbrev pub is-text-x-jinja : ℕ
-is-text-x-jinja = 873
+is-text-x-jinja = 1099
 
 abbrev pub is-text-x-jq : ℕ
-is-text-x-jq = 874
+is-text-x-jq = 1100
 
 abbrev pub is-text-x-julia : ℕ
-is-text-x-julia = 875
+is-text-x-julia = 1101
 
 abbrev pub is-text-x-just : ℕ
-is-text-x-just = 876
+is-text-x-just = 1102
 
 abbrev pub is-text-x-kaitai-struct : ℕ
-is-text-x-kaitai-struct = 877
+is-text-x-kaitai-struct = 1103
 
 abbrev pub is-text-x-kconfig : ℕ
-is-text-x-kconfig = 878
+is-text-x-kconfig = 1104
 
 abbrev pub is-text-x-kickstart : ℕ
-is-text-x-kickstart = 879
+is-text-x-kickstart = 1105
 
 abbrev pub is-text-x-kotlin : ℕ
-is-text-x-kotlin = 880
+is-text-x-kotlin = 1106
 
 abbrev pub is-text-x-krl : ℕ
-is-text-x-krl = 881
+is-text-x-krl = 1107
 
 abbrev pub is-text-x-kusto : ℕ
-is-text-x-kusto = 882
+is-text-x-kusto = 1108
 
 abbrev pub is-text-x-latte : ℕ
-is-text-x-latte = 883
+is-text-x-latte = 1109
 
 abbrev pub is-text-x-ld-script : ℕ
-is-text-x-ld-script = 884
+is-text-x-ld-script = 1110
 
 abbrev pub is-text-x-ldif : ℕ
-is-text-x-ldif = 885
+is-text-x-ldif = 1111
 
 abbrev pub is-text-x-lean : ℕ
-is-text-x-lean = 886
+is-text-x-lean = 1112
 
 abbrev pub is-text-x-less : ℕ
-is-text-x-less = 887
+is-text-x-less = 1113
 
 abbrev pub is-text-x-lex : ℕ
-is-text-x-lex = 888
+is-text-x-lex = 1114
 
 abbrev pub is-text-x-lfe : ℕ
-is-text-x-lfe = 889
+is-text-x-lfe = 1115
 
 abbrev pub is-text-x-lilypond : ℕ
-is-text-x-lilypond = 890
+is-text-x-lilypond = 1116
 
 abbrev pub is-text-x-liquid : ℕ
-is-text-x-liquid = 891
+is-text-x-liquid = 1117
 
 abbrev pub is-text-x-literate-haskell : ℕ
-is-text-x-literate-haskell = 892
+is-text-x-literate-haskell = 1118
 
 abbrev pub is-text-x-livescript : ℕ
-is-text-x-livescript = 893
+is-text-x-livescript = 1119
 
 abbrev pub is-text-x-llvm : ℕ
-is-text-x-llvm = 894
+is-text-x-llvm = 1120
 
 abbrev pub is-text-x-logtalk : ℕ
-is-text-x-logtalk = 895
+is-text-x-logtalk = 1121
 
 abbrev pub is-text-x-lsl : ℕ
-is-text-x-lsl = 896
+is-text-x-lsl = 1122
 
 abbrev pub is-text-x-lua : ℕ
-is-text-x-lua = 897
+is-text-x-lua = 1123
 
 abbrev pub is-text-x-luatex : ℕ
-is-text-x-luatex = 898
+is-text-x-luatex = 1124
 
 abbrev pub is-text-x-makefile : ℕ
-is-text-x-makefile = 899
+is-text-x-makefile = 1125
 
 abbrev pub is-text-x-mako : ℕ
-is-text-x-mako = 900
+is-text-x-mako = 1126
 
 abbrev pub is-text-x-marko : ℕ
-is-text-x-marko = 901
+is-text-x-marko = 1127
 
 abbrev pub is-text-x-matlab : ℕ
-is-text-x-matlab = 902
+is-text-x-matlab = 1128
 
 abbrev pub is-text-x-maven-xml : ℕ
-is-text-x-maven-xml = 903
+is-text-x-maven-xml = 1129
 
 abbrev pub is-text-x-maxima : ℕ
-is-text-x-maxima = 904
+is-text-x-maxima = 1130
 
 abbrev pub is-text-x-mcfunction : ℕ
-is-text-x-mcfunction = 905
+is-text-x-mcfunction = 1131
 
 abbrev pub is-text-x-mediawiki : ℕ
-is-text-x-mediawiki = 906
+is-text-x-mediawiki = 1132
 
 abbrev pub is-text-x-mermaid : ℕ
-is-text-x-mermaid = 907
+is-text-x-mermaid = 1133
 
 abbrev pub is-text-x-meson : ℕ
-is-text-x-meson = 908
+is-text-x-meson = 1134
 
 abbrev pub is-text-x-metafont : ℕ
-is-text-x-metafont = 909
+is-text-x-metafont = 1135
 
 abbrev pub is-text-x-metal : ℕ
-is-text-x-metal = 910
+is-text-x-metal = 1136
 
 abbrev pub is-text-x-mib : ℕ
-is-text-x-mib = 911
+is-text-x-mib = 1137
 
 abbrev pub is-text-x-mirc : ℕ
-is-text-x-mirc = 912
+is-text-x-mirc = 1138
 
 abbrev pub is-text-x-mlir : ℕ
-is-text-x-mlir = 913
+is-text-x-mlir = 1139
 
 abbrev pub is-text-x-modelica : ℕ
-is-text-x-modelica = 914
+is-text-x-modelica = 1140
 
 abbrev pub is-text-x-modula : ℕ
-is-text-x-modula = 915
+is-text-x-modula = 1141
 
 abbrev pub is-text-x-mojo : ℕ
-is-text-x-mojo = 916
+is-text-x-mojo = 1142
 
 abbrev pub is-text-x-monkey : ℕ
-is-text-x-monkey = 917
+is-text-x-monkey = 1143
 
 abbrev pub is-text-x-moonscript : ℕ
-is-text-x-moonscript = 918
+is-text-x-moonscript = 1144
 
 abbrev pub is-text-x-move : ℕ
-is-text-x-move = 919
+is-text-x-move = 1145
 
 abbrev pub is-text-x-ms-regedit : ℕ
-is-text-x-ms-regedit = 920
+is-text-x-ms-regedit = 1146
 
 abbrev pub is-text-x-msdos-batch : ℕ
-is-text-x-msdos-batch = 921
+is-text-x-msdos-batch = 1147
+
+abbrev pub is-text-x-mup : ℕ
+is-text-x-mup = 1148
 
 abbrev pub is-text-x-newick : ℕ
-is-text-x-newick = 922
+is-text-x-newick = 1149
 
 abbrev pub is-text-x-nextflow : ℕ
-is-text-x-nextflow = 923
+is-text-x-nextflow = 1150
+
+abbrev pub is-text-x-nexus : ℕ
+is-text-x-nexus = 1151
 
 abbrev pub is-text-x-nftables : ℕ
-is-text-x-nftables = 924
+is-text-x-nftables = 1152
 
 abbrev pub is-text-x-nginx-conf : ℕ
-is-text-x-nginx-conf = 925
+is-text-x-nginx-conf = 1153
 
 abbrev pub is-text-x-nim : ℕ
-is-text-x-nim = 926
+is-text-x-nim = 1154
 
 abbrev pub is-text-x-ninja : ℕ
-is-text-x-ninja = 927
+is-text-x-ninja = 1155
 
 abbrev pub is-text-x-nix : ℕ
-is-text-x-nix = 928
+is-text-x-nix = 1156
 
 abbrev pub is-text-x-nsis : ℕ
-is-text-x-nsis = 929
+is-text-x-nsis = 1157
 
 abbrev pub is-text-x-nushell : ℕ
-is-text-x-nushell = 930
+is-text-x-nushell = 1158
 
 abbrev pub is-text-x-objc-src : ℕ
-is-text-x-objc-src = 931
+is-text-x-objc-src = 1159
 
 abbrev pub is-text-x-objcsrc : ℕ
-is-text-x-objcsrc = 932
+is-text-x-objcsrc = 1160
 
 abbrev pub is-text-x-ocaml : ℕ
-is-text-x-ocaml = 933
+is-text-x-ocaml = 1161
 
 abbrev pub is-text-x-octave : ℕ
-is-text-x-octave = 934
+is-text-x-octave = 1162
 
 abbrev pub is-text-x-odin : ℕ
-is-text-x-odin = 935
+is-text-x-odin = 1163
 
 abbrev pub is-text-x-ooc : ℕ
-is-text-x-ooc = 936
+is-text-x-ooc = 1164
 
 abbrev pub is-text-x-opencl-src : ℕ
-is-text-x-opencl-src = 937
+is-text-x-opencl-src = 1165
 
 abbrev pub is-text-x-openscad : ℕ
-is-text-x-openscad = 938
+is-text-x-openscad = 1166
 
 abbrev pub is-text-x-opentype-feature : ℕ
-is-text-x-opentype-feature = 939
+is-text-x-opentype-feature = 1167
 
 abbrev pub is-text-x-opml-xml : ℕ
-is-text-x-opml-xml = 940
+is-text-x-opml-xml = 1168
 
 abbrev pub is-text-x-oz : ℕ
-is-text-x-oz = 941
+is-text-x-oz = 1169
 
 abbrev pub is-text-x-pascal : ℕ
-is-text-x-pascal = 942
+is-text-x-pascal = 1170
 
 abbrev pub is-text-x-patch : ℕ
-is-text-x-patch = 943
+is-text-x-patch = 1171
 
 abbrev pub is-text-x-pawn : ℕ
-is-text-x-pawn = 944
+is-text-x-pawn = 1172
 
 abbrev pub is-text-x-perl : ℕ
-is-text-x-perl = 945
+is-text-x-perl = 1173
 
 abbrev pub is-text-x-php : ℕ
-is-text-x-php = 946
+is-text-x-php = 1174
 
 abbrev pub is-text-x-pic : ℕ
-is-text-x-pic = 947
+is-text-x-pic = 1175
 
 abbrev pub is-text-x-pig : ℕ
-is-text-x-pig = 948
+is-text-x-pig = 1176
 
 abbrev pub is-text-x-pike : ℕ
-is-text-x-pike = 949
+is-text-x-pike = 1177
 
 abbrev pub is-text-x-pkg-config : ℕ
-is-text-x-pkg-config = 950
+is-text-x-pkg-config = 1178
 
 abbrev pub is-text-x-plantuml : ℕ
-is-text-x-plantuml = 951
+is-text-x-plantuml = 1179
 
 abbrev pub is-text-x-pli : ℕ
-is-text-x-pli = 952
+is-text-x-pli = 1180
 
 abbrev pub is-text-x-pod : ℕ
-is-text-x-pod = 953
+is-text-x-pod = 1181
 
 abbrev pub is-text-x-pony : ℕ
-is-text-x-pony = 954
+is-text-x-pony = 1182
 
 abbrev pub is-text-x-postcss : ℕ
-is-text-x-postcss = 955
+is-text-x-postcss = 1183
 
 abbrev pub is-text-x-praat : ℕ
-is-text-x-praat = 956
+is-text-x-praat = 1184
 
 abbrev pub is-text-x-preseed : ℕ
-is-text-x-preseed = 957
+is-text-x-preseed = 1185
 
 abbrev pub is-text-x-prisma : ℕ
-is-text-x-prisma = 958
+is-text-x-prisma = 1186
 
 abbrev pub is-text-x-procfile : ℕ
-is-text-x-procfile = 959
+is-text-x-procfile = 1187
 
 abbrev pub is-text-x-prolog : ℕ
-is-text-x-prolog = 960
+is-text-x-prolog = 1188
 
 abbrev pub is-text-x-protobuf : ℕ
-is-text-x-protobuf = 961
+is-text-x-protobuf = 1189
 
 abbrev pub is-text-x-psv : ℕ
-is-text-x-psv = 962
+is-text-x-psv = 1190
 
 abbrev pub is-text-x-pth : ℕ
-is-text-x-pth = 963
+is-text-x-pth = 1191
 
 abbrev pub is-text-x-pug : ℕ
-is-text-x-pug = 964
+is-text-x-pug = 1192
 
 abbrev pub is-text-x-puppet : ℕ
-is-text-x-puppet = 965
+is-text-x-puppet = 1193
 
 abbrev pub is-text-x-purescript : ℕ
-is-text-x-purescript = 966
+is-text-x-purescript = 1194
 
 abbrev pub is-text-x-python-as-known : ℕ
-is-text-x-python-as-known = 967
+is-text-x-python-as-known = 1195
 
 abbrev pub is-text-x-python-as-row-py : ℕ
-is-text-x-python-as-row-py = 968
+is-text-x-python-as-row-py = 1196
 
 abbrev pub is-text-x-qmake : ℕ
-is-text-x-qmake = 969
+is-text-x-qmake = 1197
 
 abbrev pub is-text-x-qml : ℕ
-is-text-x-qml = 970
+is-text-x-qml = 1198
 
 abbrev pub is-text-x-r-doc : ℕ
-is-text-x-r-doc = 971
+is-text-x-r-doc = 1199
 
 abbrev pub is-text-x-racket : ℕ
-is-text-x-racket = 972
+is-text-x-racket = 1200
 
 abbrev pub is-text-x-ragel : ℕ
-is-text-x-ragel = 973
+is-text-x-ragel = 1201
 
 abbrev pub is-text-x-raku : ℕ
-is-text-x-raku = 974
+is-text-x-raku = 1202
 
 abbrev pub is-text-x-razor : ℕ
-is-text-x-razor = 975
+is-text-x-razor = 1203
 
 abbrev pub is-text-x-rdoc : ℕ
-is-text-x-rdoc = 976
+is-text-x-rdoc = 1204
 
 abbrev pub is-text-x-readline : ℕ
-is-text-x-readline = 977
+is-text-x-readline = 1205
 
 abbrev pub is-text-x-reason : ℕ
-is-text-x-reason = 978
+is-text-x-reason = 1206
 
 abbrev pub is-text-x-rebol : ℕ
-is-text-x-rebol = 979
+is-text-x-rebol = 1207
 
 abbrev pub is-text-x-red : ℕ
-is-text-x-red = 980
+is-text-x-red = 1208
 
 abbrev pub is-text-x-rego : ℕ
-is-text-x-rego = 981
+is-text-x-rego = 1209
 
 abbrev pub is-text-x-reject : ℕ
-is-text-x-reject = 982
+is-text-x-reject = 1210
 
 abbrev pub is-text-x-rexx : ℕ
-is-text-x-rexx = 983
+is-text-x-rexx = 1211
 
 abbrev pub is-text-x-ring : ℕ
-is-text-x-ring = 984
+is-text-x-ring = 1212
 
 abbrev pub is-text-x-rmarkdown : ℕ
-is-text-x-rmarkdown = 985
+is-text-x-rmarkdown = 1213
 
 abbrev pub is-text-x-robotframework : ℕ
-is-text-x-robotframework = 986
+is-text-x-robotframework = 1214
 
 abbrev pub is-text-x-roc : ℕ
-is-text-x-roc = 987
+is-text-x-roc = 1215
 
 abbrev pub is-text-x-rpgle : ℕ
-is-text-x-rpgle = 988
+is-text-x-rpgle = 1216
 
 abbrev pub is-text-x-rpm-spec : ℕ
-is-text-x-rpm-spec = 989
+is-text-x-rpm-spec = 1217
 
 abbrev pub is-text-x-rsrc : ℕ
-is-text-x-rsrc = 990
+is-text-x-rsrc = 1218
 
 abbrev pub is-text-x-rst : ℕ
-is-text-x-rst = 991
+is-text-x-rst = 1219
 
 abbrev pub is-text-x-ruby : ℕ
-is-text-x-ruby = 992
+is-text-x-ruby = 1220
 
 abbrev pub is-text-x-sagemath : ℕ
-is-text-x-sagemath = 993
+is-text-x-sagemath = 1221
 
 abbrev pub is-text-x-sam : ℕ
-is-text-x-sam = 994
+is-text-x-sam = 1222
 
 abbrev pub is-text-x-sas : ℕ
-is-text-x-sas = 995
+is-text-x-sas = 1223
 
 abbrev pub is-text-x-sass : ℕ
-is-text-x-sass = 996
+is-text-x-sass = 1224
 
 abbrev pub is-text-x-scala : ℕ
-is-text-x-scala = 997
+is-text-x-scala = 1225
 
 abbrev pub is-text-x-scc : ℕ
-is-text-x-scc = 998
+is-text-x-scc = 1226
 
 abbrev pub is-text-x-scheme : ℕ
-is-text-x-scheme = 999
+is-text-x-scheme = 1227
 
 abbrev pub is-text-x-scilab : ℕ
-is-text-x-scilab = 1000
+is-text-x-scilab = 1228
 
 abbrev pub is-text-x-scons : ℕ
-is-text-x-scons = 1001
+is-text-x-scons = 1229
 
 abbrev pub is-text-x-scss : ℕ
-is-text-x-scss = 1002
+is-text-x-scss = 1230
 
 abbrev pub is-text-x-sdc : ℕ
-is-text-x-sdc = 1003
+is-text-x-sdc = 1231
 
 abbrev pub is-text-x-sed : ℕ
-is-text-x-sed = 1004
+is-text-x-sed = 1232
 
 abbrev pub is-text-x-selinux : ℕ
-is-text-x-selinux = 1005
+is-text-x-selinux = 1233
 
 abbrev pub is-text-x-setext : ℕ
-is-text-x-setext = 1006
+is-text-x-setext = 1234
 
 abbrev pub is-text-x-shell-config : ℕ
-is-text-x-shell-config = 1007
+is-text-x-shell-config = 1235
 
 abbrev pub is-text-x-shellscript : ℕ
-is-text-x-shellscript = 1008
+is-text-x-shellscript = 1236
 
 abbrev pub is-text-x-sieve : ℕ
-is-text-x-sieve = 1009
+is-text-x-sieve = 1237
 
 abbrev pub is-text-x-slim : ℕ
-is-text-x-slim = 1010
+is-text-x-slim = 1238
 
 abbrev pub is-text-x-slint : ℕ
-is-text-x-slint = 1011
+is-text-x-slint = 1239
 
 abbrev pub is-text-x-sln : ℕ
-is-text-x-sln = 1012
+is-text-x-sln = 1240
 
 abbrev pub is-text-x-smali : ℕ
-is-text-x-smali = 1013
+is-text-x-smali = 1241
 
 abbrev pub is-text-x-smarty : ℕ
-is-text-x-smarty = 1014
+is-text-x-smarty = 1242
 
 abbrev pub is-text-x-sml : ℕ
-is-text-x-sml = 1015
+is-text-x-sml = 1243
 
 abbrev pub is-text-x-smt : ℕ
-is-text-x-smt = 1016
+is-text-x-smt = 1244
 
 abbrev pub is-text-x-snakemake : ℕ
-is-text-x-snakemake = 1017
+is-text-x-snakemake = 1245
 
 abbrev pub is-text-x-solidity : ℕ
-is-text-x-solidity = 1018
+is-text-x-solidity = 1246
 
 abbrev pub is-text-x-sourcepawn : ℕ
-is-text-x-sourcepawn = 1019
+is-text-x-sourcepawn = 1247
 
 abbrev pub is-text-x-soy : ℕ
-is-text-x-soy = 1020
+is-text-x-soy = 1248
 
 abbrev pub is-text-x-spice : ℕ
-is-text-x-spice = 1021
+is-text-x-spice = 1249
 
 abbrev pub is-text-x-spin : ℕ
-is-text-x-spin = 1022
+is-text-x-spin = 1250
 
 abbrev pub is-text-x-squirrel : ℕ
-is-text-x-squirrel = 1023
+is-text-x-squirrel = 1251
 
 abbrev pub is-text-x-ssa : ℕ
-is-text-x-ssa = 1024
+is-text-x-ssa = 1252
 
 abbrev pub is-text-x-stan : ℕ
-is-text-x-stan = 1025
+is-text-x-stan = 1253
 
 abbrev pub is-text-x-starlark : ℕ
-is-text-x-starlark = 1026
+is-text-x-starlark = 1254
 
 abbrev pub is-text-x-stata : ℕ
-is-text-x-stata = 1027
+is-text-x-stata = 1255
 
 abbrev pub is-text-x-strings : ℕ
-is-text-x-strings = 1028
+is-text-x-strings = 1256
 
 abbrev pub is-text-x-stylus : ℕ
-is-text-x-stylus = 1029
+is-text-x-stylus = 1257
 
 abbrev pub is-text-x-subviewer : ℕ
-is-text-x-subviewer = 1030
+is-text-x-subviewer = 1258
 
 abbrev pub is-text-x-supercollider : ℕ
-is-text-x-supercollider = 1031
+is-text-x-supercollider = 1259
 
 abbrev pub is-text-x-svelte : ℕ
-is-text-x-svelte = 1032
+is-text-x-svelte = 1260
 
 abbrev pub is-text-x-svhdr : ℕ
-is-text-x-svhdr = 1033
+is-text-x-svhdr = 1261
 
 abbrev pub is-text-x-svsrc : ℕ
-is-text-x-svsrc = 1034
+is-text-x-svsrc = 1262
 
 abbrev pub is-text-x-swift : ℕ
-is-text-x-swift = 1035
+is-text-x-swift = 1263
 
 abbrev pub is-text-x-systemd-unit : ℕ
-is-text-x-systemd-unit = 1036
+is-text-x-systemd-unit = 1264
 
 abbrev pub is-text-x-tablegen : ℕ
-is-text-x-tablegen = 1037
+is-text-x-tablegen = 1265
 
 abbrev pub is-text-x-tcl : ℕ
-is-text-x-tcl = 1038
+is-text-x-tcl = 1266
 
 abbrev pub is-text-x-template-toolkit : ℕ
-is-text-x-template-toolkit = 1039
+is-text-x-template-toolkit = 1267
 
 abbrev pub is-text-x-tex : ℕ
-is-text-x-tex = 1040
+is-text-x-tex = 1268
 
 abbrev pub is-text-x-texinfo : ℕ
-is-text-x-texinfo = 1041
+is-text-x-texinfo = 1269
 
 abbrev pub is-text-x-textile : ℕ
-is-text-x-textile = 1042
+is-text-x-textile = 1270
 
 abbrev pub is-text-x-textproto : ℕ
-is-text-x-textproto = 1043
+is-text-x-textproto = 1271
 
 abbrev pub is-text-x-thrift : ℕ
-is-text-x-thrift = 1044
+is-text-x-thrift = 1272
 
 abbrev pub is-text-x-tla : ℕ
-is-text-x-tla = 1045
+is-text-x-tla = 1273
 
 abbrev pub is-text-x-tmux-conf : ℕ
-is-text-x-tmux-conf = 1046
+is-text-x-tmux-conf = 1274
 
 abbrev pub is-text-x-tsx : ℕ
-is-text-x-tsx = 1047
+is-text-x-tsx = 1275
 
 abbrev pub is-text-x-twig : ℕ
-is-text-x-twig = 1048
+is-text-x-twig = 1276
 
 abbrev pub is-text-x-txt2tags : ℕ
-is-text-x-txt2tags = 1049
+is-text-x-txt2tags = 1277
 
 abbrev pub is-text-x-typescript : ℕ
-is-text-x-typescript = 1050
+is-text-x-typescript = 1278
 
 abbrev pub is-text-x-typst : ℕ
-is-text-x-typst = 1051
+is-text-x-typst = 1279
 
 abbrev pub is-text-x-uc : ℕ
-is-text-x-uc = 1052
+is-text-x-uc = 1280
 
 abbrev pub is-text-x-udev-rules : ℕ
-is-text-x-udev-rules = 1053
+is-text-x-udev-rules = 1281
 
 abbrev pub is-text-x-unity : ℕ
-is-text-x-unity = 1054
+is-text-x-unity = 1282
 
 abbrev pub is-text-x-uri : ℕ
-is-text-x-uri = 1055
+is-text-x-uri = 1283
+
+abbrev pub is-text-x-uuencode : ℕ
+is-text-x-uuencode = 1284
 
 abbrev pub is-text-x-vagrantfile : ℕ
-is-text-x-vagrantfile = 1056
+is-text-x-vagrantfile = 1285
 
 abbrev pub is-text-x-vala : ℕ
-is-text-x-vala = 1057
+is-text-x-vala = 1286
 
 abbrev pub is-text-x-vb : ℕ
-is-text-x-vb = 1058
+is-text-x-vb = 1287
+
+abbrev pub is-text-x-vcf : ℕ
+is-text-x-vcf = 1288
 
 abbrev pub is-text-x-vcl : ℕ
-is-text-x-vcl = 1059
+is-text-x-vcl = 1289
 
 abbrev pub is-text-x-vdf : ℕ
-is-text-x-vdf = 1060
+is-text-x-vdf = 1290
 
 abbrev pub is-text-x-verilog : ℕ
-is-text-x-verilog = 1061
+is-text-x-verilog = 1291
 
 abbrev pub is-text-x-vhdl : ℕ
-is-text-x-vhdl = 1062
+is-text-x-vhdl = 1292
 
 abbrev pub is-text-x-vim : ℕ
-is-text-x-vim = 1063
+is-text-x-vim = 1293
 
 abbrev pub is-text-x-vnote : ℕ
-is-text-x-vnote = 1064
+is-text-x-vnote = 1294
 
 abbrev pub is-text-x-vue : ℕ
-is-text-x-vue = 1065
+is-text-x-vue = 1295
 
 abbrev pub is-text-x-vyper : ℕ
-is-text-x-vyper = 1066
+is-text-x-vyper = 1296
 
 abbrev pub is-text-x-wat : ℕ
-is-text-x-wat = 1067
+is-text-x-wat = 1297
 
 abbrev pub is-text-x-wdl : ℕ
-is-text-x-wdl = 1068
+is-text-x-wdl = 1298
 
 abbrev pub is-text-x-wkt : ℕ
-is-text-x-wkt = 1069
+is-text-x-wkt = 1299
 
 abbrev pub is-text-x-wren : ℕ
-is-text-x-wren = 1070
+is-text-x-wren = 1300
 
 abbrev pub is-text-x-xcu-rng : ℕ
-is-text-x-xcu-rng = 1071
+is-text-x-xcu-rng = 1301
+
+abbrev pub is-text-x-xmcd : ℕ
+is-text-x-xmcd = 1302
 
 abbrev pub is-text-x-xmi : ℕ
-is-text-x-xmi = 1072
+is-text-x-xmi = 1303
 
 abbrev pub is-text-x-xonsh : ℕ
-is-text-x-xonsh = 1073
+is-text-x-xonsh = 1304
 
 abbrev pub is-text-x-xresources : ℕ
-is-text-x-xresources = 1074
+is-text-x-xresources = 1305
 
 abbrev pub is-text-x-yacc : ℕ
-is-text-x-yacc = 1075
+is-text-x-yacc = 1306
 
 abbrev pub is-text-x-yang : ℕ
-is-text-x-yang = 1076
+is-text-x-yang = 1307
 
 abbrev pub is-text-x-zig : ℕ
-is-text-x-zig = 1077
+is-text-x-zig = 1308
 
 abbrev pub is-text-x-zimpl : ℕ
-is-text-x-zimpl = 1078
+is-text-x-zimpl = 1309
 
 abbrev pub is-text-x-gcode : ℕ
-is-text-x-gcode = 1079
+is-text-x-gcode = 1310
 
 abbrev pub is-text-xml : ℕ
-is-text-xml = 1080
+is-text-xml = 1311
 
 abbrev pub is-video-3gpp : ℕ
-is-video-3gpp = 1081
+is-video-3gpp = 1312
 
 abbrev pub is-video-3gpp2 : ℕ
-is-video-3gpp2 = 1082
+is-video-3gpp2 = 1313
 
 abbrev pub is-video-dv : ℕ
-is-video-dv = 1083
+is-video-dv = 1314
 
 abbrev pub is-video-h264 : ℕ
-is-video-h264 = 1084
+is-video-h264 = 1315
 
 abbrev pub is-video-h265 : ℕ
-is-video-h265 = 1085
+is-video-h265 = 1316
 
 abbrev pub is-video-mj2 : ℕ
-is-video-mj2 = 1086
+is-video-mj2 = 1317
 
 abbrev pub is-video-mp2t : ℕ
-is-video-mp2t = 1087
+is-video-mp2t = 1318
 
 abbrev pub is-video-mp4 : ℕ
-is-video-mp4 = 1088
+is-video-mp4 = 1319
 
 abbrev pub is-video-mpeg : ℕ
-is-video-mpeg = 1089
+is-video-mpeg = 1320
 
 abbrev pub is-video-ogg : ℕ
-is-video-ogg = 1090
+is-video-ogg = 1321
 
 abbrev pub is-video-quicktime : ℕ
-is-video-quicktime = 1091
+is-video-quicktime = 1322
+
+abbrev pub is-video-vnd-mpegurl : ℕ
+is-video-vnd-mpegurl = 1323
+
+abbrev pub is-video-vnd-radgamettools-bink : ℕ
+is-video-vnd-radgamettools-bink = 1324
 
 abbrev pub is-video-vnd-radgamettools-smacker : ℕ
-is-video-vnd-radgamettools-smacker = 1092
+is-video-vnd-radgamettools-smacker = 1325
 
 abbrev pub is-video-webm : ℕ
-is-video-webm = 1093
+is-video-webm = 1326
+
+abbrev pub is-video-x-4xmv : ℕ
+is-video-x-4xmv = 1327
+
+abbrev pub is-video-x-amv : ℕ
+is-video-x-amv = 1328
 
 abbrev pub is-video-x-anim : ℕ
-is-video-x-anim = 1094
+is-video-x-anim = 1329
+
+abbrev pub is-video-x-cdxa : ℕ
+is-video-x-cdxa = 1330
+
+abbrev pub is-video-x-dirac : ℕ
+is-video-x-dirac = 1331
 
 abbrev pub is-video-x-f4v : ℕ
-is-video-x-f4v = 1095
+is-video-x-f4v = 1332
 
 abbrev pub is-video-x-flic : ℕ
-is-video-x-flic = 1096
+is-video-x-flic = 1333
 
 abbrev pub is-video-x-flv : ℕ
-is-video-x-flv = 1097
+is-video-x-flv = 1334
+
+abbrev pub is-video-x-ifo : ℕ
+is-video-x-ifo = 1335
+
+abbrev pub is-video-x-interplay-mve : ℕ
+is-video-x-interplay-mve = 1336
 
 abbrev pub is-video-x-ivf : ℕ
-is-video-x-ivf = 1098
+is-video-x-ivf = 1337
 
 abbrev pub is-video-x-m4v : ℕ
-is-video-x-m4v = 1099
+is-video-x-m4v = 1338
 
 abbrev pub is-video-x-matroska : ℕ
-is-video-x-matroska = 1100
+is-video-x-matroska = 1339
 
 abbrev pub is-video-x-matroska-3d : ℕ
-is-video-x-matroska-3d = 1101
+is-video-x-matroska-3d = 1340
+
+abbrev pub is-video-x-mmm : ℕ
+is-video-x-mmm = 1341
 
 abbrev pub is-video-x-mng : ℕ
-is-video-x-mng = 1102
+is-video-x-mng = 1342
 
 abbrev pub is-video-x-ms-wmv : ℕ
-is-video-x-ms-wmv = 1103
+is-video-x-ms-wmv = 1343
 
 abbrev pub is-video-x-ms-wtv : ℕ
-is-video-x-ms-wtv = 1104
+is-video-x-ms-wtv = 1344
 
 abbrev pub is-video-x-msvideo : ℕ
-is-video-x-msvideo = 1105
+is-video-x-msvideo = 1345
 
 abbrev pub is-video-x-nsv : ℕ
-is-video-x-nsv = 1106
+is-video-x-nsv = 1346
 
 abbrev pub is-video-x-nut : ℕ
-is-video-x-nut = 1107
+is-video-x-nut = 1347
 
 abbrev pub is-video-x-ogm-ogg : ℕ
-is-video-x-ogm-ogg = 1108
+is-video-x-ogm-ogg = 1348
 
 abbrev pub is-video-x-red-r3d : ℕ
-is-video-x-red-r3d = 1109
+is-video-x-red-r3d = 1349
+
+abbrev pub is-video-x-roq : ℕ
+is-video-x-roq = 1350
+
+abbrev pub is-video-x-sgi-movie : ℕ
+is-video-x-sgi-movie = 1351
+
+abbrev pub is-video-x-vdr : ℕ
+is-video-x-vdr = 1352
 
 abbrev pub is-video-x-yuv4mpeg : ℕ
-is-video-x-yuv4mpeg = 1110
+is-video-x-yuv4mpeg = 1353
+
+abbrev pub is-x-epoc-x-sisx-app : ℕ
+is-x-epoc-x-sisx-app = 1354
 
 unfoldable pub types_0 : List NamedType
 types_0 =
@@ -3344,8 +4076,9 @@ types_0 =
     ∷ named (codes "application/bpmn+xml") own
     ∷ named (codes "application/brotli") own
     ∷ named (codes "application/bson") own
-    ∷ named (codes "application/cbor") known
+    ∷ named (codes "application/cbor") (row (codes "cbor"))
     ∷ named (codes "application/ccxml+xml") known
+    ∷ named (codes "application/dash+xml") (row (codes "mpd"))
     ∷ named (codes "application/dicom") (row (codes "dcm"))
     ∷ named (codes "application/dita+xml") own
     ∷ named (codes "application/edn") own
@@ -3356,7 +4089,7 @@ types_0 =
     ∷ named (codes "application/font-woff") (row (codes "woff2"))
     ∷ named (codes "application/geo+json") known
     ∷ named (codes "application/geopackage+sqlite3") (row (codes "gpkg"))
-    ∷ named (codes "application/gml+xml") known
+    ∷ named (codes "application/gml+xml") (row (codes "gml"))
     ∷ named (codes "application/gnunet-directory") (row (codes "gnd"))
     ∷ named (codes "application/gpx+xml") (row (codes "gpx"))
     ∷ named (codes "application/graphql") own
@@ -3372,10 +4105,11 @@ types_0 =
     ∷ named (codes "application/jsonnet") own
     ∷ named (codes "application/ld+json") known
     ∷ named (codes "application/lrc") own
+    ∷ named (codes "application/mac-binhex40") (row (codes "hqx"))
     ∷ named (codes "application/manifest+json") known
     ∷ named (codes "application/mathml+xml") (row (codes "mml"))
     ∷ named (codes "application/mbox") known
-    ∷ named (codes "application/metalink+xml") known
+    ∷ named (codes "application/metalink+xml") (row (codes "metalink"))
     ∷ named (codes "application/metalink4+xml") (row (codes "meta4"))
     ∷ named (codes "application/msgpack") own
     ∷ named (codes "application/msix") own
@@ -3385,7 +4119,7 @@ types_0 =
     ∷ named (codes "application/n-quads") known
     ∷ named (codes "application/n-triples") known
     ∷ named (codes "application/octet-stream") (row (codes "eot"))
-    ∷ named (codes "application/oebps-package+xml") known
+    ∷ named (codes "application/oebps-package+xml") (row (codes "opf"))
     ∷ named (codes "application/onenote") known
     ∷ named (codes "application/onnx") own
     ∷ named (codes "application/owl+xml") (row (codes "owx"))
@@ -3405,26 +4139,29 @@ types_0 =
     ∷ named (codes "application/postscript") (row (codes "ps"))
     ∷ named (codes "application/protobuf") own
     ∷ named (codes "application/raml+yaml") (row (codes "raml"))
-    ∷ named (codes "application/rdf+xml") known
+    ∷ named (codes "application/rdf+xml") (row (codes "rdf"))
     ∷ named (codes "application/relax-ng-compact-syntax") known
     ∷ named (codes "application/rss+xml") (row (codes "rss"))
     ∷ named (codes "application/rtf") (row (codes "rtf"))
     ∷ named (codes "application/sarif+json") known
-    ∷ named (codes "application/sbml+xml") known
+    ∷ named (codes "application/sbml+xml") (row (codes "sbml"))
     ∷ named (codes "application/schema+json") known
-    ∷ named (codes "application/smil+xml") known
+    ∷ named (codes "application/sdp") (row (codes "sdp"))
+    ∷ named (codes "application/sereal") (row (codes "sereal"))
+    ∷ named (codes "application/smil+xml") (row (codes "smil"))
     ∷ named (codes "application/sourcemap+json") own
     ∷ named (codes "application/sparql-query") (row (codes "rq"))
     ∷ named (codes "application/sparql-results+xml") (row (codes "srx"))
     ∷ named (codes "application/sql") known
     ∷ named (codes "application/srgs+xml") known
-    ∷ named (codes "application/tei+xml") known
+    ∷ named (codes "application/syzygy") (row (codes "syzygy"))
+    ∷ named (codes "application/tei+xml") (row (codes "tei"))
     ∷ named (codes "application/timestamp-query") known
     ∷ named (codes "application/timestamp-reply") known
     ∷ named (codes "application/toml") known
     ∷ named (codes "application/topo+json") own
     ∷ named (codes "application/trig") known
-    ∷ named (codes "application/ttml+xml") known
+    ∷ named (codes "application/ttml+xml") (row (codes "ttml"))
     ∷ named (codes "application/tzif") (row (codes "tzif"))
     ∷ named (codes "application/vnd.adobe.xfdf") own
     ∷ named (codes "application/vnd.amazon.mobi8-ebook") known
@@ -3440,26 +4177,37 @@ types_0 =
     ∷ named (codes "application/vnd.apple.pages") known
     ∷ named (codes "application/vnd.apple.pkpass") (row (codes "pkpass"))
     ∷ named (codes "application/vnd.bzip3") (row (codes "bz3"))
-    ∷ named (codes "application/vnd.chess-pgn") known
+    ∷ named (codes "application/vnd.chess-pgn") (row (codes "pgn"))
     ∷ named (codes "application/vnd.coffeescript") known
     ∷ named (codes "application/vnd.comicbook+zip") known
     ∷ named (codes "application/vnd.comicbook-rar") known
     ∷ named (codes "application/vnd.corel-draw") (row (codes "cdr"))
+    ∷ named (codes "application/vnd.cups-ppd") (row (codes "ppd"))
+    ∷ named (codes "application/vnd.cups-raster") (row (codes "cupsraster"))
     ∷ named (codes "application/vnd.dbf") (row (codes "dbf"))
     ∷ named (codes "application/vnd.debian.binary-package") (row (codes "deb"))
     ∷ named (codes "application/vnd.etsi.asic-e+zip") known
+    ∷ named (codes "application/vnd.fdf") (row (codes "fdf"))
     ∷ named (codes "application/vnd.flatpak") (row (codes "flatpak"))
+    ∷ named (codes "application/vnd.flatpak.ref") (row (codes "flatpakref"))
+    ∷ named (codes "application/vnd.flatpak.repo") (row (codes "flatpakrepo"))
+    ∷ named (codes "application/vnd.font-fontforge-sfd") (row (codes "sfd"))
+    ∷ named (codes "application/vnd.framemaker") (row (codes "fm"))
     ∷ named (codes "application/vnd.garmin.tcx+xml") own
     ∷ named (codes "application/vnd.geogebra.file") known
     ∷ named (codes "application/vnd.google-earth.kml+xml") (row (codes "kml"))
     ∷ named (codes "application/vnd.google-earth.kmz") (row (codes "kmz"))
-    ∷ named (codes "application/vnd.hp-pcl") known
+    ∷ named (codes "application/vnd.hdt") (row (codes "hdt"))
+    ∷ named (codes "application/vnd.hp-pcl") (row (codes "pcl"))
+    ∷ named (codes "application/vnd.hp-pjl") (row (codes "pjl"))
     ∷ named (codes "application/vnd.iccprofile") (row (codes "icc"))
+    ∷ named (codes "application/vnd.las") (row (codes "las"))
     ∷ named (codes "application/vnd.laszip") (row (codes "laz"))
     ∷ named (codes "application/vnd.lotus-1-2-3") known
     ∷ named (codes "application/vnd.lotus-wordpro") (row (codes "lwp"))
     ∷ named (codes "application/vnd.mbtiles") own
     ∷ named (codes "application/vnd.microsoft.portable-executable") (row (codes "exe"))
+    ∷ named (codes "application/vnd.mif") (row (codes "mif"))
     ∷ named (codes "application/vnd.mozilla.webapp+json") own
     ∷ named (codes "application/vnd.mozilla.xul+xml") known
     ∷ named (codes "application/vnd.ms-asf") known
@@ -3472,6 +4220,7 @@ types_0 =
     ∷ named (codes "application/vnd.ms-htmlhelp") (row (codes "chm"))
     ∷ named (codes "application/vnd.ms-outlook") (row (codes "msg"))
     ∷ named (codes "application/vnd.ms-outlook-pst") (row (codes "pst"))
+    ∷ named (codes "application/vnd.ms-package.3dmanufacturing-3dmodel+xml") (row (codes "3dmodel"))
     ∷ named (codes "application/vnd.ms-powerpoint") (row (codes "ppt"))
     ∷ named (codes "application/vnd.ms-powerpoint.presentation.macroEnabled.12") (row (codes "pptm"))
     ∷ named (codes "application/vnd.ms-powerpoint.slideshow.macroEnabled.12") known
@@ -3485,7 +4234,7 @@ types_0 =
     ∷ named (codes "application/vnd.ms-visio.template.main+xml") known
     ∷ named (codes "application/vnd.ms-word.document.macroEnabled.12") (row (codes "docm"))
     ∷ named (codes "application/vnd.ms-word.template.macroEnabled.12") known
-    ∷ named (codes "application/vnd.ms-works") known
+    ∷ named (codes "application/vnd.ms-works") (row (codes "wps"))
     ∷ named (codes "application/vnd.ms-wpl") (row (codes "wpl"))
     ∷ named (codes "application/vnd.ms-xpsdocument") known
     ∷ named (codes "application/vnd.nintendo.nitro.rom") known
@@ -3494,20 +4243,21 @@ types_0 =
     ∷ named (codes "application/vnd.oasis.opendocument.chart") (row (codes "odc"))
     ∷ named (codes "application/vnd.oasis.opendocument.formula") (row (codes "odf"))
     ∷ named (codes "application/vnd.oasis.opendocument.graphics") (row (codes "odg"))
-    ∷ named (codes "application/vnd.oasis.opendocument.graphics-flat-xml") known
+    ∷ named (codes "application/vnd.oasis.opendocument.graphics-flat-xml") (row (codes "fodg"))
     ∷ named (codes "application/vnd.oasis.opendocument.graphics-template") (row (codes "otg"))
     ∷ named (codes "application/vnd.oasis.opendocument.image") (row (codes "odi"))
     ∷ named (codes "application/vnd.oasis.opendocument.presentation") (row (codes "odp"))
-    ∷ named (codes "application/vnd.oasis.opendocument.presentation-flat-xml") known
+    ∷ named (codes "application/vnd.oasis.opendocument.presentation-flat-xml") (row (codes "fodp"))
     ∷ named (codes "application/vnd.oasis.opendocument.presentation-template") (row (codes "otp"))
     ∷ named (codes "application/vnd.oasis.opendocument.spreadsheet") (row (codes "ods"))
-    ∷ named (codes "application/vnd.oasis.opendocument.spreadsheet-flat-xml") known
+    ∷ named (codes "application/vnd.oasis.opendocument.spreadsheet-flat-xml") (row (codes "fods"))
     ∷ named (codes "application/vnd.oasis.opendocument.spreadsheet-template") (row (codes "ots"))
     ∷ named (codes "application/vnd.oasis.opendocument.text") (row (codes "odt"))
     ∷ named (codes "application/vnd.oasis.opendocument.text-flat-xml") (row (codes "fodt"))
     ∷ named (codes "application/vnd.oasis.opendocument.text-master") (row (codes "odm"))
     ∷ named (codes "application/vnd.oasis.opendocument.text-template") (row (codes "ott"))
     ∷ named (codes "application/vnd.oasis.opendocument.text-web") known
+    ∷ named (codes "application/vnd.openstreetmap.data+xml") (row (codes "osm"))
     ∷ named (codes "application/vnd.openxmlformats-officedocument.presentationml.presentation") (row (codes "pptx"))
     ∷ named (codes "application/vnd.openxmlformats-officedocument.presentationml.slideshow") known
     ∷ named (codes "application/vnd.openxmlformats-officedocument.presentationml.template") known
@@ -3515,11 +4265,12 @@ types_0 =
     ∷ named (codes "application/vnd.openxmlformats-officedocument.spreadsheetml.template") known
     ∷ named (codes "application/vnd.openxmlformats-officedocument.wordprocessingml.document") (row (codes "docx"))
     ∷ named (codes "application/vnd.openxmlformats-officedocument.wordprocessingml.template") known
-    ∷ named (codes "application/vnd.osm+xml") own
     ∷ named (codes "application/vnd.rar") (row (codes "rar"))
     ∷ named (codes "application/vnd.recordare.musicxml") known
-    ∷ named (codes "application/vnd.recordare.musicxml+xml") known
+    ∷ named (codes "application/vnd.recordare.musicxml+xml") (row (codes "musicxml"))
     ∷ named (codes "application/vnd.rn-realmedia") (row (codes "rm"))
+    ∷ named (codes "application/vnd.sar") (row (codes "sar"))
+    ∷ named (codes "application/vnd.scribus") (row (codes "sla"))
     ∷ named (codes "application/vnd.shp") (row (codes "shp"))
     ∷ named (codes "application/vnd.shx") (row (codes "shx"))
     ∷ named (codes "application/vnd.smaf") (row (codes "mmf"))
@@ -3535,85 +4286,117 @@ types_0 =
     ∷ named (codes "application/vnd.tcpdump.pcap") (row (codes "pcap"))
     ∷ named (codes "application/vnd.visio") (row (codes "vsd"))
     ∷ named (codes "application/vnd.wolfram.mathematica") known
-    ∷ named (codes "application/vnd.wordperfect") known
+    ∷ named (codes "application/vnd.wordperfect") (row (codes "wpd"))
     ∷ named (codes "application/voicexml+xml") known
     ∷ named (codes "application/vsix") own
     ∷ named (codes "application/warc") (row (codes "warc"))
     ∷ named (codes "application/wasm") (row (codes "wasm"))
     ∷ named (codes "application/winhlp") (row (codes "hlp"))
-    ∷ named (codes "application/wsdl+xml") known
+    ∷ named (codes "application/wsdl+xml") (row (codes "wsdl"))
     ∷ named (codes "application/x-7z-compressed") (row (codes "7z"))
+    ∷ named (codes "application/x-abiword") (row (codes "abw"))
     ∷ named (codes "application/x-ableton-live-set") own
     ∷ named (codes "application/x-ace") known
+    ∷ named (codes "application/x-acronis-tib") (row (codes "tib"))
     ∷ named (codes "application/x-admx") own
+    ∷ named (codes "application/x-aes-encrypted") (row (codes "aes"))
     ∷ named (codes "application/x-age-encryption") (row (codes "age"))
     ∷ named (codes "application/x-alz") (row (codes "alz"))
+    ∷ named (codes "application/x-amf") (row (codes "amf"))
     ∷ named (codes "application/x-amiga-disk-format") (row (codes "adf"))
     ∷ named (codes "application/x-android-archive") own
+    ∷ named (codes "application/x-android-binary-xml") (row (codes "axml"))
+    ∷ named (codes "application/x-android-boot-image") (row (codes "bootimg"))
+    ∷ named (codes "application/x-android-resources") (row (codes "arsc"))
+    ∷ named (codes "application/x-android-sparse-image") (row (codes "simg"))
+    ∷ named (codes "application/x-android-vdex") (row (codes "vdex"))
     ∷ named (codes "application/x-ant+xml") own
     ∷ named (codes "application/x-apkm") own
     ∷ named (codes "application/x-appdata+xml") own
-    ∷ named (codes "application/x-apple-diskimage") known
+    ∷ named (codes "application/x-apple-diskimage") (row (codes "apm"))
+    ∷ named (codes "application/x-apple-xib") (row (codes "xib"))
+    ∷ named (codes "application/x-appleworks") (row (codes "cwk"))
+    ∷ named (codes "application/x-applix-spreadsheet") (row (codes "as"))
+    ∷ named (codes "application/x-applix-word") (row (codes "aw"))
+    ∷ named (codes "application/x-apt-cache") (row (codes "aptcache"))
     ∷ named (codes "application/x-arb+json") own
     ∷ named (codes "application/x-arc") known
     ∷ named (codes "application/x-archive-dar") own
     ∷ named (codes "application/x-arj") (row (codes "arj"))
     ∷ named (codes "application/x-asar") (row (codes "asar"))
     ∷ named (codes "application/x-asp") known
-    ∷ named (codes "application/x-aspx") known
+    ∷ []
+
+unfoldable pub types_1 : List NamedType
+types_1 =
+    named (codes "application/x-aspx") known
     ∷ named (codes "application/x-atari-7800-rom") (row (codes "a78"))
     ∷ named (codes "application/x-atari-lynx-rom") (row (codes "lnx"))
+    ∷ named (codes "application/x-atari-msa") (row (codes "msa"))
+    ∷ named (codes "application/x-audacity-project") (row (codes "aup"))
     ∷ named (codes "application/x-audacity-project+sqlite3") (row (codes "aup3"))
     ∷ named (codes "application/x-autodesk-max") own
     ∷ named (codes "application/x-avro") (row (codes "avro"))
     ∷ named (codes "application/x-avro-schema+json") own
+    ∷ named (codes "application/x-bai") (row (codes "bai"))
+    ∷ named (codes "application/x-bam") (row (codes "bam"))
     ∷ named (codes "application/x-bash") own
+    ∷ named (codes "application/x-bdf") (row (codes "bdfb"))
+    ∷ named (codes "application/x-bentley-dgn") (row (codes "dgn"))
     ∷ named (codes "application/x-bittorrent") (row (codes "torrent"))
     ∷ named (codes "application/x-blender") (row (codes "blend"))
+    ∷ named (codes "application/x-blorb") (row (codes "blb"))
     ∷ named (codes "application/x-bplist") (row (codes "bplist"))
     ∷ named (codes "application/x-bps-patch") (row (codes "bps"))
     ∷ named (codes "application/x-bsdiff") (row (codes "bsdiff"))
-    ∷ named (codes "application/x-bsp") own
-    ∷ named (codes "application/x-bufr") own
+    ∷ named (codes "application/x-bufr") (row (codes "bufr"))
+    ∷ named (codes "application/x-build-grp") (row (codes "grp"))
     ∷ named (codes "application/x-bzip-compressed-tar") known
     ∷ named (codes "application/x-bzip2") (row (codes "bz2"))
     ∷ named (codes "application/x-cb7") known
     ∷ named (codes "application/x-cbt") known
     ∷ named (codes "application/x-ccmx") (row (codes "ccmx"))
     ∷ named (codes "application/x-cd-image") known
+    ∷ named (codes "application/x-cdf") (row (codes "cdf"))
+    ∷ named (codes "application/x-cern-root") (row (codes "root"))
+    ∷ named (codes "application/x-clang-pch") (row (codes "pch"))
     ∷ named (codes "application/x-cmi") own
-    ∷ named (codes "application/x-cml+xml") own
     ∷ named (codes "application/x-com-executable") own
     ∷ named (codes "application/x-compress") (row (codes "Z"))
+    ∷ named (codes "application/x-compressed-iso") (row (codes "cso"))
     ∷ named (codes "application/x-compressed-tar") known
     ∷ named (codes "application/x-core") (row (codes "core"))
     ∷ named (codes "application/x-corelpresentations") (row (codes "shw"))
     ∷ named (codes "application/x-cpio") (row (codes "cpio"))
+    ∷ named (codes "application/x-cram") (row (codes "cram"))
+    ∷ named (codes "application/x-cramfs") (row (codes "cramfs"))
     ∷ named (codes "application/x-csh") (row (codes "csh"))
+    ∷ named (codes "application/x-csi") (row (codes "csi"))
     ∷ named (codes "application/x-cubin") (row (codes "cubin"))
     ∷ named (codes "application/x-cue") known
     ∷ named (codes "application/x-dbm") (row (codes "bdb"))
-    ∷ []
-
-unfoldable pub types_1 : List NamedType
-types_1 =
-    named (codes "application/x-dbus-gvdb") own
-    ∷ named (codes "application/x-designer") known
+    ∷ named (codes "application/x-designer") (row (codes "ui"))
     ∷ named (codes "application/x-desktop") known
     ∷ named (codes "application/x-devhelp+xml") own
     ∷ named (codes "application/x-device-tree-blob") own
-    ∷ named (codes "application/x-dia-diagram") known
+    ∷ named (codes "application/x-dfont") (row (codes "dfont"))
+    ∷ named (codes "application/x-dia-diagram") (row (codes "dia"))
     ∷ named (codes "application/x-dia-shape") (row (codes "diashape"))
     ∷ named (codes "application/x-dictzip") own
+    ∷ named (codes "application/x-dif") (row (codes "dif"))
     ∷ named (codes "application/x-director") (row (codes "dcr"))
+    ∷ named (codes "application/x-dmp") (row (codes "dmp"))
     ∷ named (codes "application/x-docbook+xml") known
     ∷ named (codes "application/x-doom-wad") (row (codes "wad"))
     ∷ named (codes "application/x-drawio+xml") own
-    ∷ named (codes "application/x-dtbncx+xml") own
+    ∷ named (codes "application/x-dtb") (row (codes "dtb"))
+    ∷ named (codes "application/x-dtbncx+xml") (row (codes "ncx"))
     ∷ named (codes "application/x-dvi") (row (codes "dvi"))
     ∷ named (codes "application/x-eclipse+xml") own
-    ∷ named (codes "application/x-egg+zip") own
-    ∷ named (codes "application/x-elc") own
+    ∷ named (codes "application/x-edf") (row (codes "edf"))
+    ∷ named (codes "application/x-eet") (row (codes "eet"))
+    ∷ named (codes "application/x-egg") (row (codes "egg"))
+    ∷ named (codes "application/x-elc") (row (codes "elc"))
     ∷ named (codes "application/x-emz") own
     ∷ named (codes "application/x-entitlements") own
     ∷ named (codes "application/x-erb") known
@@ -3628,45 +4411,72 @@ types_1 =
     ∷ named (codes "application/x-flash-authoring") own
     ∷ named (codes "application/x-fluid") (row (codes "fl"))
     ∷ named (codes "application/x-font-afm") (row (codes "afm"))
-    ∷ named (codes "application/x-font-bdf") known
-    ∷ named (codes "application/x-font-pcf") known
+    ∷ named (codes "application/x-font-bdf") (row (codes "bdf"))
+    ∷ named (codes "application/x-font-linux-psf") (row (codes "psf1"))
+    ∷ named (codes "application/x-font-pcf") (row (codes "pcf"))
+    ∷ named (codes "application/x-font-pf2") (row (codes "pf2"))
+    ∷ named (codes "application/x-font-speedo") (row (codes "spd"))
     ∷ named (codes "application/x-font-ttx") (row (codes "ttx"))
     ∷ named (codes "application/x-font-type1") (row (codes "pfb"))
+    ∷ named (codes "application/x-fontconfig-cache") (row (codes "fccache"))
     ∷ named (codes "application/x-freecad") own
+    ∷ named (codes "application/x-freemind") (row (codes "mm"))
+    ∷ named (codes "application/x-g64-disk") (row (codes "g64"))
     ∷ named (codes "application/x-gameboy-rom") known
     ∷ named (codes "application/x-gba-rom") known
-    ∷ named (codes "application/x-gcov-data") own
+    ∷ named (codes "application/x-gcc-pch") (row (codes "gch"))
+    ∷ named (codes "application/x-gconv-cache") (row (codes "gconv"))
+    ∷ named (codes "application/x-gcov-data") (row (codes "gcda"))
+    ∷ named (codes "application/x-gcov-notes") (row (codes "gcno"))
     ∷ named (codes "application/x-gdbm") (row (codes "gdbm"))
+    ∷ named (codes "application/x-gdf") (row (codes "gdf"))
     ∷ named (codes "application/x-gds") own
     ∷ named (codes "application/x-gdscript") known
     ∷ named (codes "application/x-genesis-rom") known
     ∷ named (codes "application/x-gettext-translation") (row (codes "mo"))
     ∷ named (codes "application/x-gguf") (row (codes "gguf"))
     ∷ named (codes "application/x-gir+xml") own
-    ∷ named (codes "application/x-glade") known
-    ∷ named (codes "application/x-glib-typelib") own
-    ∷ named (codes "application/x-gnucash") known
+    ∷ named (codes "application/x-gir-typelib") (row (codes "typelib"))
+    ∷ named (codes "application/x-git") (row (codes "pack"))
+    ∷ named (codes "application/x-git-bundle") (row (codes "gitbundle"))
+    ∷ named (codes "application/x-git-index") (row (codes "gitindex"))
+    ∷ named (codes "application/x-git-pack-index") (row (codes "gitidx"))
+    ∷ named (codes "application/x-glade") (row (codes "glade"))
+    ∷ named (codes "application/x-glibc-locale-archive") (row (codes "locarch"))
+    ∷ named (codes "application/x-glulx") (row (codes "ulx"))
+    ∷ named (codes "application/x-gnucash") (row (codes "gnucash"))
+    ∷ named (codes "application/x-gnumeric") (row (codes "gnumeric"))
+    ∷ named (codes "application/x-gnupg-trustdb") (row (codes "trustdb"))
     ∷ named (codes "application/x-gnuplot") (row (codes "gnuplot"))
+    ∷ named (codes "application/x-go-object") (row (codes "goobj"))
     ∷ named (codes "application/x-go-sgf") (row (codes "sgf"))
     ∷ named (codes "application/x-godot-package") own
     ∷ named (codes "application/x-godot-resource") (row (codes "tres"))
     ∷ named (codes "application/x-godot-scene") (row (codes "tscn"))
     ∷ named (codes "application/x-google-chrome-extension") (row (codes "crx"))
-    ∷ named (codes "application/x-grib") own
-    ∷ named (codes "application/x-gschema+xml") own
+    ∷ named (codes "application/x-grib") (row (codes "grib"))
+    ∷ named (codes "application/x-grib2") (row (codes "grib2"))
+    ∷ named (codes "application/x-grub-keyboard") (row (codes "grubkbd"))
+    ∷ named (codes "application/x-gschema+xml") (row (codes "gschema"))
     ∷ named (codes "application/x-gschema-compiled") own
     ∷ named (codes "application/x-gtk-builder") (row (codes "gtkbuilder"))
+    ∷ named (codes "application/x-guitar-pro") (row (codes "gtp"))
+    ∷ named (codes "application/x-gvdb") (row (codes "gvdb"))
     ∷ named (codes "application/x-har+json") own
     ∷ named (codes "application/x-haskell-interface") own
     ∷ named (codes "application/x-hdf") (row (codes "hdf4"))
     ∷ named (codes "application/x-hdf5") (row (codes "hdf5"))
     ∷ named (codes "application/x-hfe-floppy-image") (row (codes "hfe"))
-    ∷ named (codes "application/x-hprof") own
-    ∷ named (codes "application/x-hwp") known
+    ∷ named (codes "application/x-hg-bundle") (row (codes "hgbundle"))
+    ∷ named (codes "application/x-hwp") (row (codes "hwp"))
     ∷ named (codes "application/x-hwpx") own
     ∷ named (codes "application/x-hxml") own
+    ∷ named (codes "application/x-ia-arc") (row (codes "iaarc"))
+    ∷ named (codes "application/x-iff") (row (codes "iff"))
     ∷ named (codes "application/x-indesign") (row (codes "indd"))
     ∷ named (codes "application/x-innodb") own
+    ∷ named (codes "application/x-innosetup") (row (codes "innolog"))
+    ∷ named (codes "application/x-intel-aml") (row (codes "aml"))
     ∷ named (codes "application/x-intellij+xml") own
     ∷ named (codes "application/x-ios-app") own
     ∷ named (codes "application/x-ips-patch") (row (codes "ips"))
@@ -3674,14 +4484,17 @@ types_1 =
     ∷ named (codes "application/x-it87") (row (codes "it87"))
     ∷ named (codes "application/x-jasper+xml") own
     ∷ named (codes "application/x-java-enterprise-archive") own
+    ∷ named (codes "application/x-java-flight-recording") (row (codes "jfr"))
+    ∷ named (codes "application/x-java-hprof") (row (codes "hprof"))
+    ∷ named (codes "application/x-java-image") (row (codes "jimage"))
     ∷ named (codes "application/x-java-jce-keystore") (row (codes "jceks"))
-    ∷ named (codes "application/x-java-jimage") own
     ∷ named (codes "application/x-java-jmod") (row (codes "jmod"))
     ∷ named (codes "application/x-java-jnlp-file") (row (codes "jnlp"))
     ∷ named (codes "application/x-java-keystore") (row (codes "jks"))
     ∷ named (codes "application/x-java-pack200") (row (codes "pack200"))
     ∷ named (codes "application/x-java-serialized-object") own
     ∷ named (codes "application/x-java-web-archive") own
+    ∷ named (codes "application/x-jffs2") (row (codes "jffs2"))
     ∷ named (codes "application/x-jmeter+xml") own
     ∷ named (codes "application/x-jsa") own
     ∷ named (codes "application/x-jsonc") own
@@ -3689,7 +4502,9 @@ types_1 =
     ∷ named (codes "application/x-karbon") (row (codes "karbon"))
     ∷ named (codes "application/x-kchart") (row (codes "chrt"))
     ∷ named (codes "application/x-kdenlive") own
-    ∷ named (codes "application/x-keepass2") own
+    ∷ named (codes "application/x-kdump") (row (codes "kdump"))
+    ∷ named (codes "application/x-keepass") (row (codes "kdb"))
+    ∷ named (codes "application/x-keepass2") (row (codes "kdbx"))
     ∷ named (codes "application/x-kerberos-keytab") own
     ∷ named (codes "application/x-kformula") (row (codes "kfo"))
     ∷ named (codes "application/x-killustrator") (row (codes "kil"))
@@ -3700,8 +4515,13 @@ types_1 =
     ∷ named (codes "application/x-ksh") own
     ∷ named (codes "application/x-kspread") (row (codes "ksp"))
     ∷ named (codes "application/x-kword") (row (codes "kwd"))
+    ∷ named (codes "application/x-ld-so-cache") (row (codes "ldcache"))
+    ∷ named (codes "application/x-ldml+xml") (row (codes "ldml"))
     ∷ named (codes "application/x-leveldb-table") own
+    ∷ named (codes "application/x-linux-kernel") (row (codes "bzimage"))
     ∷ named (codes "application/x-llvm") (row (codes "bc"))
+    ∷ named (codes "application/x-llvm-profdata") (row (codes "profdata"))
+    ∷ named (codes "application/x-llvm-profraw") (row (codes "profraw"))
     ∷ named (codes "application/x-locale-archive") own
     ∷ named (codes "application/x-lottie+json") own
     ∷ named (codes "application/x-lrzip") (row (codes "lrz"))
@@ -3709,7 +4529,9 @@ types_1 =
     ∷ named (codes "application/x-luks") (row (codes "luks"))
     ∷ named (codes "application/x-lyx") (row (codes "lyx"))
     ∷ named (codes "application/x-lz4") (row (codes "lz4"))
+    ∷ named (codes "application/x-lz4+json") (row (codes "jsonlz4"))
     ∷ named (codes "application/x-lz4-compressed-tar") known
+    ∷ named (codes "application/x-lzfse") (row (codes "lzfse"))
     ∷ named (codes "application/x-lzh-compressed") (row (codes "lzh"))
     ∷ named (codes "application/x-lzip") (row (codes "lz"))
     ∷ named (codes "application/x-lzip-compressed-tar") known
@@ -3720,61 +4542,96 @@ types_1 =
     ∷ named (codes "application/x-mach-binary") (row (codes "mach"))
     ∷ named (codes "application/x-magic-database") own
     ∷ named (codes "application/x-mame-chd") (row (codes "chd"))
-    ∷ named (codes "application/x-matlab-data") own
+    ∷ named (codes "application/x-matlab-data") (row (codes "mat"))
+    ∷ named (codes "application/x-maxis-dbpf") (row (codes "dbpf"))
     ∷ named (codes "application/x-maya-binary") own
     ∷ named (codes "application/x-mimecache") own
     ∷ named (codes "application/x-minecraft-world") own
+    ∷ named (codes "application/x-minisign") (row (codes "minisig"))
     ∷ named (codes "application/x-mobipocket-ebook") (row (codes "mobi"))
     ∷ named (codes "application/x-monotone-database") (row (codes "mtn"))
+    ∷ named (codes "application/x-mpq") (row (codes "mpq"))
+    ∷ named (codes "application/x-ms-compress-kwaj") (row (codes "kwaj"))
+    ∷ named (codes "application/x-ms-compress-szdd") (row (codes "szdd"))
+    ∷ named (codes "application/x-ms-crash-dump") (row (codes "memdmp"))
     ∷ named (codes "application/x-ms-evtx") (row (codes "evtx"))
-    ∷ named (codes "application/x-ms-pdb") own
+    ∷ named (codes "application/x-ms-pdb") (row (codes "pdb"))
+    ∷ named (codes "application/x-ms-reader") (row (codes "lit"))
+    ∷ named (codes "application/x-ms-registry") (row (codes "regf"))
     ∷ named (codes "application/x-ms-registry-hive") own
+    ∷ named (codes "application/x-ms-sdi") (row (codes "sdi"))
     ∷ named (codes "application/x-ms-shortcut") (row (codes "lnk"))
     ∷ named (codes "application/x-ms-wim") (row (codes "wim"))
     ∷ named (codes "application/x-msaccess") (row (codes "accdb"))
     ∷ named (codes "application/x-msaccess") (row (codes "mdb"))
-    ∷ named (codes "application/x-msbuild+xml") own
+    ∷ named (codes "application/x-msbuild+xml") (row (codes "msbuild"))
     ∷ named (codes "application/x-msi") (row (codes "msi"))
-    ∷ named (codes "application/x-mswinurl") known
+    ∷ named (codes "application/x-mswinurl") (row (codes "url"))
+    ∷ named (codes "application/x-mswrite") (row (codes "wri"))
     ∷ named (codes "application/x-musescore") (row (codes "mscz"))
+    ∷ named (codes "application/x-musescore+xml") (row (codes "mscx"))
     ∷ named (codes "application/x-mxml") own
-    ∷ named (codes "application/x-mysql-myisam") own
+    ∷ named (codes "application/x-mysql-myisam") (row (codes "myi"))
     ∷ named (codes "application/x-n64-rom") (row (codes "n64"))
     ∷ named (codes "application/x-natvis+xml") own
     ∷ named (codes "application/x-navi-animation") (row (codes "ani"))
     ∷ named (codes "application/x-ndjson") (row (codes "ndjson"))
-    ∷ named (codes "application/x-netcdf") known
+    ∷ named (codes "application/x-nekovm-bytecode") (row (codes "neko"))
+    ∷ named (codes "application/x-netcdf") (row (codes "nc"))
+    ∷ named (codes "application/x-netmon") (row (codes "netmon"))
     ∷ named (codes "application/x-netshow-channel") (row (codes "nsc"))
+    ∷ named (codes "application/x-nintendo-3ds-executable") (row (codes "3dsx"))
     ∷ named (codes "application/x-nintendo-nes-rom") (row (codes "nes"))
+    ∷ named (codes "application/x-nintendo-nso") (row (codes "nso"))
     ∷ named (codes "application/x-npy") (row (codes "npy"))
     ∷ named (codes "application/x-npz") own
-    ∷ named (codes "application/x-nuget-package") own
+    ∷ []
+
+unfoldable pub types_2 : List NamedType
+types_2 =
+    named (codes "application/x-nuget-package") own
     ∷ named (codes "application/x-nuspec+xml") own
     ∷ named (codes "application/x-nzb") (row (codes "nzb"))
     ∷ named (codes "application/x-object") (row (codes "o"))
+    ∷ named (codes "application/x-ocaml-cma") (row (codes "cma"))
+    ∷ named (codes "application/x-ocaml-cmi") (row (codes "cmi"))
+    ∷ named (codes "application/x-ocaml-cmo") (row (codes "cmo"))
+    ∷ named (codes "application/x-ocaml-cmt") (row (codes "cmt"))
+    ∷ named (codes "application/x-ocaml-cmx") (row (codes "cmx"))
+    ∷ named (codes "application/x-ocaml-cmxa") (row (codes "cmxa"))
     ∷ named (codes "application/x-openssh-private-key") (row (codes "openssh"))
+    ∷ named (codes "application/x-openssl-encrypted") (row (codes "openssl"))
     ∷ named (codes "application/x-openzim") (row (codes "zim"))
     ∷ named (codes "application/x-orc") (row (codes "orc"))
+    ∷ named (codes "application/x-os2-hlp") (row (codes "os2hlp"))
+    ∷ named (codes "application/x-os2-inf") (row (codes "os2inf"))
+    ∷ named (codes "application/x-os2-msg") (row (codes "os2msg"))
     ∷ named (codes "application/x-osm-pbf") own
     ∷ named (codes "application/x-ova") own
+    ∷ named (codes "application/x-pak") (row (codes "pak"))
+    ∷ named (codes "application/x-par") (row (codes "par"))
     ∷ named (codes "application/x-par2") (row (codes "par2"))
+    ∷ named (codes "application/x-parallels-disk") (row (codes "hdd"))
     ∷ named (codes "application/x-pascal-resource-strings+json") own
     ∷ named (codes "application/x-pascal-unit") (row (codes "ppu"))
     ∷ named (codes "application/x-pcapng") (row (codes "pcapng"))
+    ∷ named (codes "application/x-pef-executable") (row (codes "pef"))
     ∷ named (codes "application/x-pem-key") (row (codes "key"))
     ∷ named (codes "application/x-perf-data") own
     ∷ named (codes "application/x-phylip") own
     ∷ named (codes "application/x-plist") (row (codes "plist"))
     ∷ named (codes "application/x-ply") own
     ∷ named (codes "application/x-pocket-word") (row (codes "psw"))
+    ∷ named (codes "application/x-postgresql-dump") (row (codes "pgdump"))
     ∷ named (codes "application/x-pov") own
     ∷ named (codes "application/x-powershell") (row (codes "ps1"))
-    ∷ named (codes "application/x-precompiled-header") own
-    ∷ named (codes "application/x-profraw") own
+    ∷ named (codes "application/x-ppf-patch") (row (codes "ppf"))
     ∷ named (codes "application/x-ps1xml") own
+    ∷ named (codes "application/x-psx-executable") (row (codes "psx"))
+    ∷ named (codes "application/x-putty-private-key") (row (codes "ppk"))
     ∷ named (codes "application/x-pyspread-spreadsheet") (row (codes "pysu"))
     ∷ named (codes "application/x-python-bytecode") (row (codes "pyc"))
-    ∷ named (codes "application/x-python-pickle") own
+    ∷ named (codes "application/x-python-pickle") (row (codes "pkl"))
     ∷ named (codes "application/x-python-zipapp") own
     ∷ named (codes "application/x-pytorch") own
     ∷ named (codes "application/x-qed-disk") (row (codes "qed"))
@@ -3782,61 +4639,95 @@ types_1 =
     ∷ named (codes "application/x-qgis-project") own
     ∷ named (codes "application/x-qgis-project") (row (codes "qgz"))
     ∷ named (codes "application/x-qpress") (row (codes "qp"))
-    ∷ named (codes "application/x-qrc+xml") own
+    ∷ named (codes "application/x-qt-resource") (row (codes "qrc"))
     ∷ named (codes "application/x-qtiplot") (row (codes "qti"))
-    ∷ named (codes "application/x-quake-pak") own
+    ∷ named (codes "application/x-quake-bsp") (row (codes "bsp"))
+    ∷ named (codes "application/x-quake-model") (row (codes "mdl"))
     ∷ named (codes "application/x-quattropro") known
     ∷ named (codes "application/x-quicktime-media-link") (row (codes "qtl"))
-    ∷ named (codes "application/x-r-data") own
+    ∷ named (codes "application/x-r-data") (row (codes "rdata"))
+    ∷ named (codes "application/x-raw-disk-image") known
+    ∷ named (codes "application/x-redis-dump") (row (codes "rdb"))
     ∷ named (codes "application/x-resx+xml") own
     ∷ named (codes "application/x-rhino") own
+    ∷ named (codes "application/x-romfs") (row (codes "romfs"))
     ∷ named (codes "application/x-rpm") (row (codes "rpm"))
+    ∷ named (codes "application/x-rrd") (row (codes "rrd"))
     ∷ named (codes "application/x-ruby-gem") (row (codes "gem"))
+    ∷ named (codes "application/x-rust-metadata") (row (codes "rmeta"))
     ∷ named (codes "application/x-rust-rlib") own
+    ∷ named (codes "application/x-rzip") (row (codes "rz"))
     ∷ named (codes "application/x-safetensors") (row (codes "safetensors"))
     ∷ named (codes "application/x-sami") (row (codes "sami"))
     ∷ named (codes "application/x-sas-data") own
-    ∷ named (codes "application/x-scribus") own
+    ∷ named (codes "application/x-scf") (row (codes "scf"))
+    ∷ named (codes "application/x-schematron+xml") (row (codes "sch"))
     ∷ named (codes "application/x-scxml+xml") own
     ∷ named (codes "application/x-setupscript") own
-    ∷ named (codes "application/x-sfnt-collection-dfont") own
     ∷ named (codes "application/x-shapefile-index") own
     ∷ named (codes "application/x-shared-library-la") known
     ∷ named (codes "application/x-sharedlib") (row (codes "so"))
     ∷ named (codes "application/x-shockwave-flash") (row (codes "swf"))
+    ∷ named (codes "application/x-shorten") (row (codes "shn"))
     ∷ named (codes "application/x-silverlight-app") (row (codes "xap"))
     ∷ named (codes "application/x-sketch") own
     ∷ named (codes "application/x-sketchup") own
     ∷ named (codes "application/x-snappy-framed") (row (codes "sz"))
+    ∷ named (codes "application/x-snoop") (row (codes "snoop"))
+    ∷ named (codes "application/x-sony-bbeb") (row (codes "lrf"))
     ∷ named (codes "application/x-source-rpm") (row (codes "srpm"))
+    ∷ named (codes "application/x-spectrum-szx") (row (codes "szx"))
+    ∷ named (codes "application/x-spectrum-tzx") (row (codes "tzx"))
+    ∷ named (codes "application/x-spirv") (row (codes "spv"))
     ∷ named (codes "application/x-spss-sav") (row (codes "sav"))
     ∷ named (codes "application/x-sqlite2") (row (codes "sqlite2"))
     ∷ named (codes "application/x-ssh-public-key") own
+    ∷ named (codes "application/x-ssh1-private-key") (row (codes "ssh1"))
     ∷ named (codes "application/x-stata-dta") own
     ∷ named (codes "application/x-storyboard+xml") own
-    ∷ named (codes "application/x-stuffit") known
+    ∷ named (codes "application/x-stuffit") (row (codes "sit"))
     ∷ named (codes "application/x-sublime-syntax") own
     ∷ named (codes "application/x-subrip") (row (codes "srt"))
+    ∷ named (codes "application/x-supercollider-synthdef") (row (codes "scsyn"))
+    ∷ named (codes "application/x-svn-dump") (row (codes "svndump"))
+    ∷ named (codes "application/x-svr4-package") (row (codes "pkgstream"))
     ∷ named (codes "application/x-swiftmodule") own
     ∷ named (codes "application/x-systemd-journal") (row (codes "journal"))
+    ∷ named (codes "application/x-t602") (row (codes "t602"))
+    ∷ named (codes "application/x-tabix") (row (codes "tbi"))
     ∷ named (codes "application/x-tar") (row (codes "tar"))
     ∷ named (codes "application/x-tarz") known
+    ∷ named (codes "application/x-tdb") (row (codes "tdb"))
     ∷ named (codes "application/x-terminfo") (row (codes "terminfo"))
     ∷ named (codes "application/x-terraform-state+json") own
     ∷ named (codes "application/x-tex-pk") known
     ∷ named (codes "application/x-tex-tfm") own
     ∷ named (codes "application/x-tflite") own
+    ∷ named (codes "application/x-tgif") (row (codes "tgif"))
     ∷ named (codes "application/x-theme") known
     ∷ named (codes "application/x-theme+xml") own
     ∷ named (codes "application/x-thumbs-db") own
     ∷ named (codes "application/x-tmx+xml") own
+    ∷ named (codes "application/x-tokyocabinet-btree") (row (codes "tcb"))
+    ∷ named (codes "application/x-tokyocabinet-fixed") (row (codes "tcf"))
+    ∷ named (codes "application/x-tokyocabinet-hash") (row (codes "tch"))
+    ∷ named (codes "application/x-tokyocabinet-table") (row (codes "tct"))
+    ∷ named (codes "application/x-trid-trd") (row (codes "trd"))
+    ∷ named (codes "application/x-ubi") (row (codes "ubi"))
+    ∷ named (codes "application/x-ubifs") (row (codes "ubifs"))
+    ∷ named (codes "application/x-uf2") (row (codes "uf2"))
+    ∷ named (codes "application/x-uimage") (row (codes "uimage"))
     ∷ named (codes "application/x-unity-asmdef+json") own
     ∷ named (codes "application/x-unity-asset") own
     ∷ named (codes "application/x-unix-archive") (row (codes "ar"))
+    ∷ named (codes "application/x-unreal-package") (row (codes "umx"))
     ∷ named (codes "application/x-uproject+json") own
+    ∷ named (codes "application/x-ups-patch") (row (codes "ups"))
     ∷ named (codes "application/x-urdf+xml") own
     ∷ named (codes "application/x-usdc") (row (codes "usdc"))
     ∷ named (codes "application/x-usdz") own
+    ∷ named (codes "application/x-valve-pak") (row (codes "vpk"))
+    ∷ named (codes "application/x-vcdiff") (row (codes "vcdiff"))
     ∷ named (codes "application/x-vdi-disk") (row (codes "vdi"))
     ∷ named (codes "application/x-vhd-disk") (row (codes "vhd"))
     ∷ named (codes "application/x-vhdx-disk") (row (codes "vhdx"))
@@ -3845,37 +4736,38 @@ types_1 =
     ∷ named (codes "application/x-virtualbox-saved-state") own
     ∷ named (codes "application/x-vmdk-disk") (row (codes "vmdk"))
     ∷ named (codes "application/x-wheel+zip") own
+    ∷ named (codes "application/x-wii-rom") (row (codes "rvz"))
     ∷ named (codes "application/x-wii-wad") (row (codes "wiiwad"))
     ∷ named (codes "application/x-windows-dump") own
     ∷ named (codes "application/x-wix+xml") own
     ∷ named (codes "application/x-wmz") own
+    ∷ named (codes "application/x-wordperfect-wpm") (row (codes "wpm"))
     ∷ named (codes "application/x-x509-ca-cert") known
     ∷ named (codes "application/x-x509-ca-cert") (row (codes "der"))
     ∷ named (codes "application/x-x509-ca-cert") (row (codes "pem"))
     ∷ named (codes "application/x-xar") (row (codes "xar"))
-    ∷ []
-
-unfoldable pub types_2 : List NamedType
-types_2 =
-    named (codes "application/x-xmp+xml") (row (codes "xmp"))
+    ∷ named (codes "application/x-xbel") (row (codes "xbel"))
+    ∷ named (codes "application/x-xbmc-xbt") (row (codes "xbt"))
+    ∷ named (codes "application/x-xmp+xml") (row (codes "xmp"))
     ∷ named (codes "application/x-xpinstall") known
     ∷ named (codes "application/x-xz") (row (codes "xz"))
     ∷ named (codes "application/x-xz-compressed-tar") known
     ∷ named (codes "application/x-zcml") own
     ∷ named (codes "application/x-zip-compressed-fb2") (row (codes "fbz"))
-    ∷ named (codes "application/x-zoo") known
+    ∷ named (codes "application/x-zoo") (row (codes "zoo"))
+    ∷ named (codes "application/x-zpaq") (row (codes "zpaq"))
     ∷ named (codes "application/x-zsh") own
     ∷ named (codes "application/x-zstd-compressed-tar") known
     ∷ named (codes "application/xaml+xml") own
     ∷ named (codes "application/xhtml+xml") (row (codes "xhtml"))
-    ∷ named (codes "application/xliff+xml") known
+    ∷ named (codes "application/xliff+xml") (row (codes "xliff"))
     ∷ named (codes "application/xml") known
     ∷ named (codes "application/xml-dtd") known
     ∷ named (codes "application/xml-external-parsed-entity") known
     ∷ named (codes "application/xproc+xml") own
     ∷ named (codes "application/xquery") known
-    ∷ named (codes "application/xslt+xml") known
-    ∷ named (codes "application/xspf+xml") known
+    ∷ named (codes "application/xslt+xml") (row (codes "xslt"))
+    ∷ named (codes "application/xspf+xml") (row (codes "xspf"))
     ∷ named (codes "application/yaml") (row (codes "yaml"))
     ∷ named (codes "application/zip") (row (codes "zip"))
     ∷ named (codes "application/zstd") (row (codes "zst"))
@@ -3883,9 +4775,11 @@ types_2 =
     ∷ named (codes "audio/ac3") (row (codes "ac3"))
     ∷ named (codes "audio/amr") (row (codes "amr"))
     ∷ named (codes "audio/basic") (row (codes "au"))
-    ∷ named (codes "audio/eac3") known
+    ∷ named (codes "audio/eac3") (row (codes "eac3"))
     ∷ named (codes "audio/m4a") (row (codes "m4a"))
+    ∷ named (codes "audio/mid") (row (codes "rmi"))
     ∷ named (codes "audio/midi") (row (codes "midi"))
+    ∷ named (codes "audio/mobile-xmf") (row (codes "xmf"))
     ∷ named (codes "audio/mpeg") (row (codes "mp3"))
     ∷ named (codes "audio/ogg") (row (codes "oga"))
     ∷ named (codes "audio/ogg") (row (codes "ogg"))
@@ -3896,48 +4790,84 @@ types_2 =
     ∷ named (codes "audio/vnd.dts") (row (codes "dts"))
     ∷ named (codes "audio/vnd.rn-realaudio") known
     ∷ named (codes "audio/webm") known
-    ∷ named (codes "audio/x-abc") own
+    ∷ named (codes "audio/x-8svx") (row (codes "8svx"))
     ∷ named (codes "audio/x-aifc") (row (codes "aifc"))
     ∷ named (codes "audio/x-aiff") (row (codes "aiff"))
     ∷ named (codes "audio/x-ape") (row (codes "ape"))
+    ∷ named (codes "audio/x-avr") (row (codes "avr"))
+    ∷ named (codes "audio/x-ay") (row (codes "ay"))
+    ∷ named (codes "audio/x-bcstm") (row (codes "bcstm"))
+    ∷ named (codes "audio/x-bcwav") (row (codes "bcwav"))
+    ∷ named (codes "audio/x-bfstm") (row (codes "bfstm"))
+    ∷ named (codes "audio/x-brstm") (row (codes "brstm"))
     ∷ named (codes "audio/x-caf") (row (codes "caf"))
+    ∷ named (codes "audio/x-dbm") (row (codes "dbm"))
     ∷ named (codes "audio/x-dff") (row (codes "dff"))
     ∷ named (codes "audio/x-dsf") (row (codes "dsf"))
+    ∷ named (codes "audio/x-dss") (row (codes "dss"))
     ∷ named (codes "audio/x-flac") (row (codes "flac"))
     ∷ named (codes "audio/x-gbs") (row (codes "gbs"))
     ∷ named (codes "audio/x-gsm") known
     ∷ named (codes "audio/x-it") (row (codes "it"))
     ∷ named (codes "audio/x-m4b") (row (codes "m4b"))
     ∷ named (codes "audio/x-matroska") known
+    ∷ named (codes "audio/x-maud") (row (codes "maud"))
+    ∷ named (codes "audio/x-mids") (row (codes "mids"))
     ∷ named (codes "audio/x-mo3") (row (codes "mo3"))
     ∷ named (codes "audio/x-mod") known
     ∷ named (codes "audio/x-mpegurl") known
+    ∷ named (codes "audio/x-ms-asx") (row (codes "asx"))
     ∷ named (codes "audio/x-ms-wma") known
     ∷ named (codes "audio/x-musepack") (row (codes "mpc"))
+    ∷ named (codes "audio/x-nist") (row (codes "sph"))
     ∷ named (codes "audio/x-nsf") (row (codes "nsf"))
+    ∷ named (codes "audio/x-okt") (row (codes "okt"))
+    ∷ named (codes "audio/x-paf") (row (codes "paf"))
+    ∷ named (codes "audio/x-psf") (row (codes "psf"))
+    ∷ named (codes "audio/x-psion-wve") (row (codes "wve"))
+    ∷ named (codes "audio/x-pvf") (row (codes "pvf"))
+    ∷ named (codes "audio/x-rf64") (row (codes "rf64"))
     ∷ named (codes "audio/x-s3m") known
+    ∷ named (codes "audio/x-sample-vision") (row (codes "smp"))
+    ∷ named (codes "audio/x-sap") (row (codes "sap"))
     ∷ named (codes "audio/x-scpls") (row (codes "pls"))
+    ∷ named (codes "audio/x-sds") (row (codes "sds"))
     ∷ named (codes "audio/x-sfbk") (row (codes "sf2"))
     ∷ named (codes "audio/x-spc") (row (codes "spc"))
     ∷ named (codes "audio/x-speex+ogg") (row (codes "spx"))
     ∷ named (codes "audio/x-tta") (row (codes "tta"))
     ∷ named (codes "audio/x-ult") (row (codes "ult"))
+    ∷ named (codes "audio/x-vgm") (row (codes "vgm"))
     ∷ named (codes "audio/x-voc") (row (codes "voc"))
+    ∷ named (codes "audio/x-w64") (row (codes "w64"))
     ∷ named (codes "audio/x-wav") (row (codes "wav"))
     ∷ named (codes "audio/x-wavpack") (row (codes "wv"))
-    ∷ named (codes "audio/x-xm") (row (codes "xm"))
+    ∷ named (codes "audio/x-xbox-executable") (row (codes "xbe"))
+    ∷ named (codes "audio/x-xbox360-executable") (row (codes "xex"))
+    ∷ named (codes "audio/x-xi") (row (codes "xi"))
+    ∷ []
+
+unfoldable pub types_3 : List NamedType
+types_3 =
+    named (codes "audio/x-xm") (row (codes "xm"))
+    ∷ named (codes "audio/x-yamaha-txw") (row (codes "txw"))
     ∷ named (codes "chemical/x-cdx") known
     ∷ named (codes "chemical/x-cif") known
+    ∷ named (codes "chemical/x-cml") (row (codes "cml"))
     ∷ named (codes "chemical/x-mdl-molfile") known
     ∷ named (codes "chemical/x-mdl-sdfile") known
-    ∷ named (codes "chemical/x-pdb") known
+    ∷ named (codes "chemical/x-mol2") (row (codes "mol2"))
+    ∷ named (codes "chemical/x-pdb") (row (codes "pdbmol"))
     ∷ named (codes "chemical/x-xyz") known
     ∷ named (codes "font/collection") (row (codes "ttc"))
+    ∷ named (codes "font/x-dos-cpi") (row (codes "cpi"))
+    ∷ named (codes "font/x-drdos-cpi") (row (codes "drdoscpi"))
     ∷ named (codes "image/apng") (row (codes "apng"))
     ∷ named (codes "image/astc") (row (codes "astc"))
     ∷ named (codes "image/avif") (row (codes "avif"))
     ∷ named (codes "image/bmp") (row (codes "bmp"))
     ∷ named (codes "image/bpg") (row (codes "bpg"))
+    ∷ named (codes "image/cineon") (row (codes "cin"))
     ∷ named (codes "image/dpx") (row (codes "dpx"))
     ∷ named (codes "image/emf") (row (codes "emf"))
     ∷ named (codes "image/fits") (row (codes "fits"))
@@ -3958,6 +4888,7 @@ types_2 =
     ∷ named (codes "image/ktx2") (row (codes "ktx2"))
     ∷ named (codes "image/openraster") (row (codes "ora"))
     ∷ named (codes "image/png") (row (codes "png"))
+    ∷ named (codes "image/pwg-raster") (row (codes "pwg"))
     ∷ named (codes "image/svg+xml") (row (codes "svg"))
     ∷ named (codes "image/svg+xml-compressed") known
     ∷ named (codes "image/tiff") (row (codes "tif"))
@@ -3971,45 +4902,67 @@ types_2 =
     ∷ named (codes "image/vnd.ms-modi") (row (codes "mdi"))
     ∷ named (codes "image/vnd.ms-photo") (row (codes "jxr"))
     ∷ named (codes "image/vnd.radiance") (row (codes "hdr"))
+    ∷ named (codes "image/vnd.valve.source.texture") (row (codes "vtf"))
     ∷ named (codes "image/vnd.zbrush.pcx") (row (codes "pcx"))
     ∷ named (codes "image/webp") (row (codes "webp"))
     ∷ named (codes "image/wmf") (row (codes "wmf"))
     ∷ named (codes "image/x-3ds") (row (codes "3ds"))
     ∷ named (codes "image/x-adobe-dng") (row (codes "dng"))
+    ∷ named (codes "image/x-applix-graphics") (row (codes "ag"))
+    ∷ named (codes "image/x-award-bioslogo2") (row (codes "awbm"))
+    ∷ named (codes "image/x-blp") (row (codes "blp"))
     ∷ named (codes "image/x-canon-cr2") (row (codes "cr2"))
     ∷ named (codes "image/x-canon-cr3") (row (codes "cr3"))
     ∷ named (codes "image/x-canon-crw") (row (codes "crw"))
     ∷ named (codes "image/x-cmu-raster") known
+    ∷ named (codes "image/x-cmx") (row (codes "cmxr"))
+    ∷ named (codes "image/x-corel-cpt") (row (codes "cpt"))
+    ∷ named (codes "image/x-dcx") (row (codes "dcx"))
+    ∷ named (codes "image/x-epoc-mbm") (row (codes "mbm"))
     ∷ named (codes "image/x-eps") (row (codes "eps"))
     ∷ named (codes "image/x-epson-erf") known
     ∷ named (codes "image/x-exr") (row (codes "exr"))
+    ∷ named (codes "image/x-farbfeld") (row (codes "ff"))
     ∷ named (codes "image/x-fuji-raf") (row (codes "raf"))
+    ∷ named (codes "image/x-gd2") (row (codes "gd2"))
     ∷ named (codes "image/x-gimp-gbr") (row (codes "gbr"))
     ∷ named (codes "image/x-gimp-pat") (row (codes "pat"))
+    ∷ named (codes "image/x-godot-stex") (row (codes "stex"))
     ∷ named (codes "image/x-hasselblad-3fr") own
+    ∷ named (codes "image/x-hsi") (row (codes "hsi"))
     ∷ named (codes "image/x-icns") (row (codes "icns"))
     ∷ named (codes "image/x-ilbm") (row (codes "ilbm"))
     ∷ named (codes "image/x-itc") (row (codes "itc"))
+    ∷ named (codes "image/x-jbig2") (row (codes "jbig2"))
+    ∷ named (codes "image/x-jng") (row (codes "jng"))
     ∷ named (codes "image/x-jp2-codestream") (row (codes "j2c"))
     ∷ named (codes "image/x-kodak-dcr") known
     ∷ named (codes "image/x-kodak-kdc") known
+    ∷ named (codes "image/x-lss16") (row (codes "lss"))
+    ∷ named (codes "image/x-lwo") (row (codes "lwo"))
     ∷ named (codes "image/x-lytro-lfp") (row (codes "lfp"))
     ∷ named (codes "image/x-mamiya-mef") own
     ∷ named (codes "image/x-miff") (row (codes "miff"))
     ∷ named (codes "image/x-minolta-mrw") known
     ∷ named (codes "image/x-mvg") (row (codes "mvg"))
+    ∷ named (codes "image/x-niff") (row (codes "niff"))
     ∷ named (codes "image/x-nikon-nef") known
     ∷ named (codes "image/x-nikon-nrw") known
     ∷ named (codes "image/x-olympus-orf") (row (codes "orf"))
+    ∷ named (codes "image/x-paintnet") (row (codes "pdn"))
     ∷ named (codes "image/x-paintshoppro") (row (codes "psp"))
     ∷ named (codes "image/x-panasonic-rw2") (row (codes "rw2"))
     ∷ named (codes "image/x-pentax-pef") known
     ∷ named (codes "image/x-pgf") (row (codes "pgf"))
+    ∷ named (codes "image/x-pic") (row (codes "pic"))
     ∷ named (codes "image/x-pict") known
     ∷ named (codes "image/x-portable-anymap") (row (codes "pnm"))
+    ∷ named (codes "image/x-portable-arbitrarymap") (row (codes "pam"))
     ∷ named (codes "image/x-portable-bitmap") known
+    ∷ named (codes "image/x-portable-floatmap") (row (codes "pfmap"))
     ∷ named (codes "image/x-portable-graymap") known
     ∷ named (codes "image/x-portable-pixmap") known
+    ∷ named (codes "image/x-pvr") (row (codes "pvr"))
     ∷ named (codes "image/x-qoi") (row (codes "qoi"))
     ∷ named (codes "image/x-samsung-srw") own
     ∷ named (codes "image/x-sgi") (row (codes "sgi"))
@@ -4018,14 +4971,19 @@ types_2 =
     ∷ named (codes "image/x-sony-arw") known
     ∷ named (codes "image/x-sony-sr2") known
     ∷ named (codes "image/x-sony-srf") known
+    ∷ named (codes "image/x-svm") (row (codes "svm"))
     ∷ named (codes "image/x-tga") known
+    ∷ named (codes "image/x-vips") (row (codes "vips"))
     ∷ named (codes "image/x-win-bitmap") (row (codes "cur"))
+    ∷ named (codes "image/x-wpg") (row (codes "wpg"))
     ∷ named (codes "image/x-xbitmap") known
     ∷ named (codes "image/x-xcf") (row (codes "xcf"))
     ∷ named (codes "image/x-xfig") (row (codes "fig"))
+    ∷ named (codes "image/x-xisf") (row (codes "xisf"))
     ∷ named (codes "image/x-xpixmap") (row (codes "xpm"))
     ∷ named (codes "image/x-xwindowdump") (row (codes "xwd"))
     ∷ named (codes "image/x-zeiss-czi") (row (codes "czi"))
+    ∷ named (codes "message/http") (row (codes "http"))
     ∷ named (codes "message/rfc822") known
     ∷ named (codes "model/3mf") (row (codes "3mf"))
     ∷ named (codes "model/e57") (row (codes "e57"))
@@ -4036,12 +4994,14 @@ types_2 =
     ∷ named (codes "model/obj") known
     ∷ named (codes "model/step") (row (codes "model/step"))
     ∷ named (codes "model/stl") (row (codes "stl"))
-    ∷ named (codes "model/vnd.collada+xml") known
+    ∷ named (codes "model/vnd.collada+xml") (row (codes "dae"))
+    ∷ named (codes "model/vnd.usda") (row (codes "usda"))
     ∷ named (codes "model/vrml") (row (codes "wrl"))
-    ∷ named (codes "model/x3d+xml") known
-    ∷ named (codes "model/x3d-vrml") known
+    ∷ named (codes "model/x-milkshape") (row (codes "ms3d"))
+    ∷ named (codes "model/x3d+xml") (row (codes "x3d"))
+    ∷ named (codes "model/x3d-vrml") (row (codes "x3dv"))
     ∷ named (codes "multipart/related") known
-    ∷ named (codes "text/cache-manifest") known
+    ∷ named (codes "text/cache-manifest") (row (codes "mf"))
     ∷ named (codes "text/calendar") (row (codes "ics"))
     ∷ named (codes "text/cql") known
     ∷ named (codes "text/css") known
@@ -4057,13 +5017,14 @@ types_2 =
     ∷ named (codes "text/sgml") known
     ∷ named (codes "text/spreadsheet") (row (codes "slk"))
     ∷ named (codes "text/tab-separated-values") known
-    ∷ named (codes "text/troff") known
+    ∷ named (codes "text/troff") (row (codes "roff"))
     ∷ named (codes "text/turtle") known
     ∷ named (codes "text/uri-list") known
     ∷ named (codes "text/vbscript") known
     ∷ named (codes "text/vcard") (row (codes "vcf"))
     ∷ named (codes "text/velocity") known
-    ∷ named (codes "text/vnd.familysearch.gedcom") known
+    ∷ named (codes "text/vnd.abc") (row (codes "abc"))
+    ∷ named (codes "text/vnd.familysearch.gedcom") (row (codes "ged"))
     ∷ named (codes "text/vnd.graphviz") known
     ∷ named (codes "text/vnd.sun.j2me.app-descriptor") (row (codes "jad"))
     ∷ named (codes "text/vnd.trolltech.linguist") (row (codes "lingts"))
@@ -4113,11 +5074,7 @@ types_2 =
     ∷ named (codes "text/x-chdr") known
     ∷ named (codes "text/x-checksums") own
     ∷ named (codes "text/x-chuck") own
-    ∷ []
-
-unfoldable pub types_3 : List NamedType
-types_3 =
-    named (codes "text/x-clojure") (row (codes "clj"))
+    ∷ named (codes "text/x-clojure") (row (codes "clj"))
     ∷ named (codes "text/x-cmake") known
     ∷ named (codes "text/x-cobol") known
     ∷ named (codes "text/x-cocci") own
@@ -4148,7 +5105,11 @@ types_3 =
     ∷ named (codes "text/x-dune") own
     ∷ named (codes "text/x-ebnf") known
     ∷ named (codes "text/x-ebuild") own
-    ∷ named (codes "text/x-editorconfig") own
+    ∷ []
+
+unfoldable pub types_4 : List NamedType
+types_4 =
+    named (codes "text/x-editorconfig") own
     ∷ named (codes "text/x-eex") own
     ∷ named (codes "text/x-eiffel") known
     ∷ named (codes "text/x-ejs") own
@@ -4163,7 +5124,6 @@ types_3 =
     ∷ named (codes "text/x-fastq") own
     ∷ named (codes "text/x-fennel") own
     ∷ named (codes "text/x-flatbuffers") own
-    ∷ named (codes "text/x-fontforge-sfd") own
     ∷ named (codes "text/x-forth") known
     ∷ named (codes "text/x-fortran") known
     ∷ named (codes "text/x-fountain") own
@@ -4179,8 +5139,11 @@ types_3 =
     ∷ named (codes "text/x-gettext-translation") known
     ∷ named (codes "text/x-gettext-translation-template") known
     ∷ named (codes "text/x-gff") own
+    ∷ named (codes "text/x-gff3") (row (codes "gff3"))
     ∷ named (codes "text/x-gfortran-module") own
     ∷ named (codes "text/x-gherkin") known
+    ∷ named (codes "text/x-gimp-ggr") (row (codes "ggr"))
+    ∷ named (codes "text/x-gimp-gpl") (row (codes "gpl"))
     ∷ named (codes "text/x-gitattributes") own
     ∷ named (codes "text/x-gitconfig") own
     ∷ named (codes "text/x-gitignore") own
@@ -4201,7 +5164,6 @@ types_3 =
     ∷ named (codes "text/x-hcl") own
     ∷ named (codes "text/x-hive") own
     ∷ named (codes "text/x-hlsl") own
-    ∷ named (codes "text/x-http") own
     ∷ named (codes "text/x-hunspell-affix") own
     ∷ named (codes "text/x-hy") own
     ∷ named (codes "text/x-idl") known
@@ -4243,7 +5205,7 @@ types_3 =
     ∷ named (codes "text/x-liquid") own
     ∷ named (codes "text/x-literate-haskell") known
     ∷ named (codes "text/x-livescript") known
-    ∷ named (codes "text/x-llvm") own
+    ∷ named (codes "text/x-llvm") (row (codes "ll"))
     ∷ named (codes "text/x-logtalk") own
     ∷ named (codes "text/x-lsl") own
     ∷ named (codes "text/x-lua") (row (codes "lua"))
@@ -4269,10 +5231,12 @@ types_3 =
     ∷ named (codes "text/x-monkey") own
     ∷ named (codes "text/x-moonscript") own
     ∷ named (codes "text/x-move") own
-    ∷ named (codes "text/x-ms-regedit") known
-    ∷ named (codes "text/x-msdos-batch") own
+    ∷ named (codes "text/x-ms-regedit") (row (codes "reg"))
+    ∷ named (codes "text/x-msdos-batch") (row (codes "bat"))
+    ∷ named (codes "text/x-mup") (row (codes "mup"))
     ∷ named (codes "text/x-newick") own
     ∷ named (codes "text/x-nextflow") own
+    ∷ named (codes "text/x-nexus") (row (codes "nex"))
     ∷ named (codes "text/x-nftables") (row (codes "nft"))
     ∷ named (codes "text/x-nginx-conf") known
     ∷ named (codes "text/x-nim") own
@@ -4343,7 +5307,7 @@ types_3 =
     ∷ named (codes "text/x-rst") known
     ∷ named (codes "text/x-ruby") (row (codes "rb"))
     ∷ named (codes "text/x-sagemath") known
-    ∷ named (codes "text/x-sam") own
+    ∷ named (codes "text/x-sam") (row (codes "sam"))
     ∷ named (codes "text/x-sas") known
     ∷ named (codes "text/x-sass") known
     ∷ named (codes "text/x-scala") (row (codes "scala"))
@@ -4373,11 +5337,7 @@ types_3 =
     ∷ named (codes "text/x-spice") own
     ∷ named (codes "text/x-spin") own
     ∷ named (codes "text/x-squirrel") own
-    ∷ []
-
-unfoldable pub types_4 : List NamedType
-types_4 =
-    named (codes "text/x-ssa") (row (codes "ssa"))
+    ∷ named (codes "text/x-ssa") (row (codes "ssa"))
     ∷ named (codes "text/x-stan") own
     ∷ named (codes "text/x-starlark") own
     ∷ named (codes "text/x-stata") own
@@ -4405,13 +5365,19 @@ types_4 =
     ∷ named (codes "text/x-txt2tags") (row (codes "t2t"))
     ∷ named (codes "text/x-typescript") own
     ∷ named (codes "text/x-typst") own
-    ∷ named (codes "text/x-uc") own
+    ∷ []
+
+unfoldable pub types_5 : List NamedType
+types_5 =
+    named (codes "text/x-uc") own
     ∷ named (codes "text/x-udev-rules") own
     ∷ named (codes "text/x-unity") own
     ∷ named (codes "text/x-uri") known
+    ∷ named (codes "text/x-uuencode") (row (codes "uu"))
     ∷ named (codes "text/x-vagrantfile") own
     ∷ named (codes "text/x-vala") known
     ∷ named (codes "text/x-vb") known
+    ∷ named (codes "text/x-vcf") (row (codes "vcfg"))
     ∷ named (codes "text/x-vcl") own
     ∷ named (codes "text/x-vdf") own
     ∷ named (codes "text/x-verilog") known
@@ -4425,6 +5391,7 @@ types_4 =
     ∷ named (codes "text/x-wkt") own
     ∷ named (codes "text/x-wren") own
     ∷ named (codes "text/x-xcu-rng") own
+    ∷ named (codes "text/x-xmcd") (row (codes "xmcd"))
     ∷ named (codes "text/x-xmi") known
     ∷ named (codes "text/x-xonsh") own
     ∷ named (codes "text/x-xresources") own
@@ -4445,26 +5412,39 @@ types_4 =
     ∷ named (codes "video/mpeg") (row (codes "mpg"))
     ∷ named (codes "video/ogg") (row (codes "ogv"))
     ∷ named (codes "video/quicktime") (row (codes "mov"))
+    ∷ named (codes "video/vnd.mpegurl") (row (codes "m4u"))
+    ∷ named (codes "video/vnd.radgamettools.bink") (row (codes "bik"))
     ∷ named (codes "video/vnd.radgamettools.smacker") (row (codes "smk"))
     ∷ named (codes "video/webm") (row (codes "webm"))
+    ∷ named (codes "video/x-4xmv") (row (codes "4xm"))
+    ∷ named (codes "video/x-amv") (row (codes "amv"))
     ∷ named (codes "video/x-anim") (row (codes "anim"))
+    ∷ named (codes "video/x-cdxa") (row (codes "cdxa"))
+    ∷ named (codes "video/x-dirac") (row (codes "drc"))
     ∷ named (codes "video/x-f4v") (row (codes "f4v"))
     ∷ named (codes "video/x-flic") known
     ∷ named (codes "video/x-flv") (row (codes "flv"))
+    ∷ named (codes "video/x-ifo") (row (codes "ifo"))
+    ∷ named (codes "video/x-interplay-mve") (row (codes "mve"))
     ∷ named (codes "video/x-ivf") (row (codes "ivf"))
     ∷ named (codes "video/x-m4v") (row (codes "m4v"))
     ∷ named (codes "video/x-matroska") (row (codes "mkv"))
     ∷ named (codes "video/x-matroska-3d") known
+    ∷ named (codes "video/x-mmm") (row (codes "mmm"))
     ∷ named (codes "video/x-mng") (row (codes "mng"))
     ∷ named (codes "video/x-ms-wmv") (row (codes "wmv"))
     ∷ named (codes "video/x-ms-wtv") (row (codes "wtv"))
     ∷ named (codes "video/x-msvideo") (row (codes "avi"))
-    ∷ named (codes "video/x-nsv") known
+    ∷ named (codes "video/x-nsv") (row (codes "nsv"))
     ∷ named (codes "video/x-nut") (row (codes "nut"))
     ∷ named (codes "video/x-ogm+ogg") (row (codes "ogm"))
     ∷ named (codes "video/x-red-r3d") (row (codes "r3d"))
+    ∷ named (codes "video/x-roq") (row (codes "roq"))
+    ∷ named (codes "video/x-sgi-movie") (row (codes "movie"))
+    ∷ named (codes "video/x-vdr") (row (codes "vdr"))
     ∷ named (codes "video/x-yuv4mpeg") (row (codes "y4m"))
+    ∷ named (codes "x-epoc/x-sisx-app") (row (codes "sisx"))
     ∷ []
 
 unfoldable pub types : List NamedType
-types = types_0 ++ (types_1 ++ (types_2 ++ (types_3 ++ (types_4))))
+types = types_0 ++ (types_1 ++ (types_2 ++ (types_3 ++ (types_4 ++ (types_5)))))

@@ -1,6 +1,6 @@
 //! Laws of names and bytes, each the contract of a function that does nothing beside. They hold for every key, so for every
 //! table. To use a law, call it.
-ghost use Rattle.infer_named.specs.Laws.{AnswersLast, AnswersLastByKind, ChangesOnce, DecidedAnswersLast, EachKeyIsReached, EachReadingIsFound, KeysAreRight, KindsLast, LeadsLast, LiesStayVisible, NothingIsInvented, OnlyTheKeyCounts, OnlyThreeCount, SilenceIsExact, TheBytesWin};
+ghost use Rattle.infer_named.specs.Laws.{AnswersLast, AnswersLastByKind, ChangesOnce, DecidedAnswersLast, EachKeyIsReached, EachReadingIsFound, EachRowIsNamed, KeysAreRight, KindsLast, LeadsLast, LiesStayVisible, NothingIsInvented, OnlyTheKeyCounts, OnlyThreeCount, SilenceIsExact, TheBytesWin};
 
 /// The bytes win: no type is told that they contradict, and theirs is told but where a name refines it.
 #[tactic(auto, using(crate::proofs::LawLemmas::bytes_win))]
@@ -56,6 +56,12 @@ pub fn each_key_is_reached()
 /// No reading is hidden by those before it: of some bytes it is the one that is found.
 pub fn each_reading_is_found()
     ensures { EachReadingIsFound }
+{}
+
+/// Each row, built-in or further, has a name: some reading has it in a set. But a few are nameless, since their files have no
+/// name of their own.
+pub fn each_row_is_named()
+    ensures { EachRowIsNamed }
 {}
 
 /// The table is right: each key has from 1 to 27 bytes of small letters, digits and marks, stands once, and has readings, of

@@ -112,10 +112,10 @@ fn number_of(text: &[u8]) -> Option<u16>
 /// The slot of a text.
 fn row_slot(text: &[u8]) -> usize
     ensures value { result ≡ row_slot text.now }
-    ensures bound { result < 1024 }
+    ensures bound { result < 2048 }
 {
     let sum = row_sum(text);
-    (sum / 64 + usize::from(row_shifts()[sum % 64])) % 1024
+    (sum / 64 + usize::from(row_shifts()[sum % 64])) % 2048
 }
 
 /// The sum of a text, by its length and four of its bytes.
@@ -129,5 +129,5 @@ fn row_sum(text: &[u8]) -> usize
     let second = usize::from(text[text.len() / 4]);
     let middle = usize::from(text[text.len() / 2]);
     let last = usize::from(text[text.len() - 1]);
-    text.len() + 1999 * first + 245 * second + 85 * middle + 33 * last
+    text.len() + 2223 * first + 1911 * second + 811 * middle + 1456 * last
 }

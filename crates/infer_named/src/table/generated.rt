@@ -103,7 +103,7 @@ pub(crate) fn row_shifts() -> &'static [u16]
 /// The number of the row of each slot.
 pub(crate) fn row_slots() -> &'static [u16]
     ensures value { result.now ≡ row_slots }
-    ensures many { length result.now ≡ 1024 }
+    ensures many { length result.now ≡ 2048 }
 {
     &ROW_SLOTS
 }

@@ -10,7 +10,7 @@ returns-then-eq c =
     let number : get_or c.row_slots.result.now c.row_slot.result 0 ≡ get_or row_slots (row_slot text) 0
     = ap (λ l. get_or l c.row_slot.result 0) c.row_slots.ensures.value ∙ ap (λ s. get_or row_slots s 0) c.row_slot.ensures.value in
     let same : c.row.result.now ≡ text = search rules in
-    let bound : row_slot text < 1024 = subst (λ s. s < 1024) c.row_slot.ensures.value c.row_slot.ensures.bound in
+    let bound : row_slot text < 2048 = subst (λ s. s < 2048) c.row_slot.ensures.value c.row_slot.ensures.bound in
     let at : row_at (get_or row_slots (row_slot text) 0) ≡ text = sym (ap row_at number) ∙ (sym c.row.ensures ∙ same) in
     subst (λ n. IsRowNumber text (Some n)) (sym number) (number_found text bound at)
 
