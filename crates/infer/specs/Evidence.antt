@@ -1,16 +1,18 @@
 -- Which bytes of a buffer decide its answer.
-use Rattle.std.specs.Prelude.{◌≡◌, ◌↔◌, ◌⊎◌, ℕ, true, IsTrue, List, Option, None, Some, map, option_map}
-use Rattle.std.specs.List.{list_all, range_with_len}
-use Rattle.std.specs.Option.{option_map_or}
+use Rattle.std.specs.Prelude.{◌≡◌, ◌↔◌, ◌⊎◌, ◌+◌, ◌∷◌, [], ℕ, List, Option, None, Some, map, max, option_map}
+use Rattle.std.specs.List.{range_with_len}
 use denote.Ref.{Bor}
 use Rattle.infer_evidence.specs.Evidence.{AgreesOn}
 use Rattle.infer_evidence.specs.Listed.{signature_listed}
-use Rattle.infer_evidence.specs.Weighed.{is_small}
+use Rattle.infer_evidence.specs.Weighed.{most_ranges}
+use Rattle.infer_evidence.specs.declared.search.TheConstants.{MOST_OF_A_SEARCH}
 use Rattle.infer_evidence.specs.declared.ranges.Evidence.{Evidence}
+use Rattle.infer_evidence.specs.declared.search.Search.{Search}
 use Rattle.infer_evidence.specs.declared.signature.Alternative.{Alternative}
+use Rattle.infer_deep.specs.Windows.{StandsBy}
 use Rattle.infer_sig.specs.Signature as fixed
 use Rattle.infer.specs.Buffer.{IsBuffer}
-use Rattle.infer.specs.BuiltIn.{BuiltIn, fixed}
+use Rattle.infer.specs.BuiltIn.{BuiltIn, fixed, pdf}
 use Rattle.infer.specs.Decided.{MayBecomeRow}
 use Rattle.infer.specs.First.{IsFirstOf}
 use Rattle.infer.specs.Row.{Accepts}
@@ -35,6 +37,10 @@ TellsFirst before after b rows answer =
 abbrev pub IsTold : List ℕ → ℕ → Type 0
 IsTold b i = RowHas (Accepts b) i ⊎ ¬ RowHas (MayBecomeRow b) i
 
+-- row i asks that this text stands somewhere at the front, and no more
+abbrev pub IsSearch : ℕ → Search → Type 0
+IsSearch i s = (b : List ℕ) → RowHas (Accepts b) i ↔ StandsBy s.text.now s.end b
+
 -- the bytes at fixed places that a signature asks, if it asks no more
 abbrev pub fixed_of : BuiltIn → Option (List fixed.Alternative)
 fixed_of (fixed alternatives) = Some alternatives
@@ -44,7 +50,16 @@ fixed_of other = None
 abbrev pub fixed_listed : Option (Bor (List Alternative)) → Option (List fixed.Alternative)
 fixed_listed s = option_map (λ alternatives. signature_listed alternatives.now) s
 
--- these are the signatures of the n rows from that one on, and small
-pub record AreListed (first n : ℕ) (signatures : List (Option (Bor (List Alternative)))) : Type 0 where
-  pub same : map fixed_listed signatures ≡ map (λ i. fixed_of (signature_of i)) (range_with_len first n)
-  pub small : IsTrue (list_all (λ s. option_map_or (λ alternatives. is_small alternatives.now) s true) signatures)
+-- these are the signatures of the n rows from that one on
+abbrev pub AreListed : (first n : ℕ) → List (Option (Bor (List Alternative))) → Type 0
+AreListed first n signatures = map fixed_listed signatures ≡ map (λ i. fixed_of (signature_of i)) (range_with_len first n)
+
+-- for how many ranges a row asks at most, and rows together
+abbrev pub most_of : BuiltIn → ℕ
+most_of (fixed alternatives) = max 1 (most_ranges alternatives)
+most_of pdf = MOST_OF_A_SEARCH
+most_of other = 1
+
+abbrev pub most_of_all : List ℕ → ℕ
+most_of_all [] = 0
+most_of_all (i ∷ rows) = most_of (signature_of i) + most_of_all rows

@@ -1,5 +1,5 @@
 -- What a buffer has of a signature place by place is what the signature accepts.
-use Rattle.infer_evidence.proofs.Common.{◌≡◌, ◌↔◌, ◌∷◌, ◌||◌, ◌&&◌, ◌∙◌, ℕ, Bool, IsTrue, List, [], All, Any, length, get_or, map, ap, refl, sym, subst, and_parts, and_from, ltb-true, lt-ltb, leb-true, le-leb, list_all, list_any, Any-from_list_any, list_any-from_Any, AllPass-from_list_all, list_all-from_AllPass, Alternative, Part, Text, AnyText, Byte, alternative_listed, part_listed, signature_listed, HasAlternative, HasPart, HasSignature, StandsByPlace, accepts, fits, has_part, stands}
+use Rattle.infer_evidence.proofs.Common.{◌<◌, ◌≤◌, zero, suc, arith, length-map, most_parts, most_ranges, ◌≡◌, ◌↔◌, ◌∷◌, ◌||◌, ◌&&◌, ◌∙◌, ℕ, Bool, IsTrue, List, [], All, Any, length, get_or, map, ap, refl, sym, subst, and_parts, and_from, ltb-true, lt-ltb, leb-true, le-leb, list_all, list_any, Any-from_list_any, list_any-from_Any, AllPass-from_list_all, list_all-from_AllPass, Alternative, Part, Text, AnyText, Byte, alternative_listed, part_listed, signature_listed, HasAlternative, HasPart, HasSignature, StandsByPlace, accepts, fits, has_part, stands}
 
 -- tests of the images of a list
 module _ {A B : Type 0} (p : B → Bool) (f : A → B) where
@@ -44,6 +44,22 @@ module _ (by_place : (place : ℕ) (t b : List ℕ) → IsTrue (stands place t b
 
   pub signature_told : (alternatives : List Alternative) → IsTrue (accepts (signature_listed alternatives) b) ↔ HasSignature b alternatives
   signature_told alternatives = any_told (fits b) alternative_listed (HasAlternative b) alternative_told alternatives
+
+-- no alternative has more parts than that of the signature which has most
+parts_at : (xs : List Alternative) (k : ℕ) (d : Alternative) → k < length xs → length (get_or xs k d).parts.now ≤ most_parts (signature_listed xs)
+parts_at [] k d lt = absurd (omega (arith, lt))
+parts_at (x ∷ xs) zero d lt =
+    let here : length (map part_listed x.parts.now) ≡ length x.parts.now = length-map x.parts.now part_listed in grind (arith, here)
+parts_at (x ∷ xs) (suc k) d lt = let before = parts_at xs k d (omega (arith, lt)) in grind (arith, before)
+
+pub parts_within : (xs : List Alternative) (a : Alternative) → Any (λ other. other ≡ a) xs → length a.parts.now ≤ most_ranges (signature_listed xs)
+parts_within xs a found =
+    let here = parts_at xs found.0 found.1 found.2 in
+    let is : get_or xs found.0 found.1 ≡ a = found.3 ∙ found.4 in
+    let most = subst (λ x. length x.parts.now ≤ most_parts (signature_listed xs)) is here in grind (arith, most)
+
+pub alternatives_within : (xs : List Alternative) → length xs ≤ most_ranges (signature_listed xs)
+alternatives_within xs = let same : length (signature_listed xs) ≡ length xs = length-map xs alternative_listed in grind (arith, same)
 
 -- an alternative of a signature that the buffer has is one by which it has the signature, and where it has none, it has it not
 pub by_one : (alternatives : List Alternative) (a : Alternative) (b : List ℕ) → Any (λ other. other ≡ a) alternatives → HasAlternative b a → HasSignature b alternatives

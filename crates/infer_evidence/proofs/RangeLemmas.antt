@@ -1,5 +1,5 @@
 -- One range more.
-use Rattle.infer_evidence.proofs.Common.{◌+◌, ◌<◌, ◌≤◌, ◌∷◌, ◌++◌, ◌∙◌, ℕ, List, [], All, length, take, take_all, set, subst, sym, arith, length-append, get_or_append_left, get_or-append_right, take-set_at, Any, Evidence, Range, All-push, AgreesOn, IsAround, IsInside, IsOf, IsSame, ranges_of}
+use Rattle.infer_evidence.proofs.Common.{◌≡◌, ◌-◌, get_or, place_in, ◌+◌, ◌<◌, ◌≤◌, ◌∷◌, ◌++◌, ◌∙◌, ℕ, List, [], All, length, take, take_all, set, subst, sym, arith, length-append, get_or_append_left, get_or-append_right, take-set_at, Any, Evidence, Range, All-push, AgreesOn, HasSame, IsAround, IsInside, IsOf, IsSame, ranges_of}
 
 -- what holds of each element of a list and of one behind it, it holds of each
 module _ (P : Range → Type 0) where
@@ -39,4 +39,21 @@ pub same_around : (e : Evidence) (r : Range) → Any (IsAround r) (ranges_of e) 
 same_around e r around b c h =
     let outer = around.1 in
     let same : IsSame b c outer = subst (IsSame b c) around.3 (h.same around.0 outer around.2) in
-    (h, λ k low high. same k (let within = around.4.0 in omega arith) (let within = around.4.1 in omega arith))
+    (h, λ k lt. let here = around.4 k lt in subst (λ p. (p < length c) × (get_or c p 0 ≡ get_or b p 0)) (sym here.2) (same here.0 here.1))
+
+-- of bytes in a row one is each from the first to the last
+pub in_a_row : (b c : List ℕ) (r : Range) → r.step ≡ 1 → IsSame b c r → (k : ℕ) → r.place ≤ k → k < r.place + r.len → (k < length c) × (get_or c k 0 ≡ get_or b k 0)
+in_a_row b c r one same k low high =
+    let here : place_in r (k - r.place) ≡ k = grind (arith, one) in
+    subst (λ p. (p < length c) × (get_or c p 0 ≡ get_or b p 0)) here (same (k - r.place) (omega (arith, low, high)))
+
+pub reads_in_a_row : (r : Range) (place n : ℕ) → r.place ≡ place → r.len ≡ n → r.step ≡ 1 → (b c : List ℕ) → IsSame b c r → HasSame b c place n
+reads_in_a_row r place n at long one b c same k low high = in_a_row b c r one same k (omega (arith, at, low)) (omega (arith, at, long, high))
+
+pub inside_in_a_row : (r : Range) (place n : ℕ) → r.place ≡ place → r.len ≡ n → r.step ≡ 1 → (b : List ℕ) → place + n ≤ length b → IsInside b r
+inside_in_a_row r place n at long one b within k lt = grind (arith, at, long, one, within, lt)
+
+pub around_in_a_row : (inner outer : Range) → outer.step ≡ 1 → inner.step ≡ 1 → outer.place ≤ inner.place → inner.place + inner.len ≤ outer.place + outer.len
+    → IsAround inner outer
+around_in_a_row inner outer one also low high k lt =
+    (inner.place - outer.place + k, omega (arith, lt, low, high), grind (arith, one, also, low))

@@ -1,3 +1,4 @@
 pub mod Evidence
 pub mod Listed
+pub mod Searched
 pub mod Weighed

@@ -1,13 +1,12 @@
 -- What a buffer has of a signature that the code lists, place by place.
-use Rattle.std.specs.Prelude.{◌≡◌, ◌≢◌, ◌+◌, ◌-◌, ◌<◌, ◌≤◌, ◌&&◌, ℕ, Bool, List, All, Any, IsTrue, length, nat_le, slice_index}
-use Rattle.std.specs.List.{list_all}
+use Rattle.std.specs.Prelude.{◌≡◌, ◌≢◌, ◌+◌, ◌-◌, ◌<◌, ◌≤◌, ℕ, List, [], ◌∷◌, All, Any, IsTrue, length, max, slice_index}
 use denote.Ref.{Bor}
 use Rattle.infer_sig.specs.Places.{StandsByPlace}
+use Rattle.infer_sig.specs.Signature as fixed
 use Rattle.infer_sig.specs.Signature.{allows}
 use Rattle.infer_evidence.specs.Evidence.{IsSame}
 use Rattle.infer_evidence.specs.Listed.{set_listed}
 use Rattle.infer_evidence.specs.declared.weighing.Refusal.{Refusal}
-use Rattle.infer_evidence.specs.declared.weighing.TheConstants.{MOST_OF_A_ROW}
 use Rattle.infer_evidence.specs.declared.signature.Alternative.{Alternative}
 use Rattle.infer_evidence.specs.declared.signature.Part.{Part}
 use Rattle.infer_evidence.specs.declared.signature.Part.TheVariants.{AnyText, Byte, Text}
@@ -45,6 +44,14 @@ pub record Differs (place : ℕ) (t b : List ℕ) (k : ℕ) : Type 0 where
 abbrev pub IsSameTo : List ℕ → List ℕ → Refusal → Type 0
 IsSameTo b c l = IsSame b c l.range × (IsTrue l.exact → length c ≡ length b)
 
--- it has few alternatives, each of few parts
-abbrev pub is_small : List Alternative → Bool
-is_small alternatives = nat_le (length alternatives) MOST_OF_A_ROW && list_all (λ a. nat_le (length a.parts.now) MOST_OF_A_ROW) alternatives
+-- how many parts an alternative has, and the one that has most
+abbrev pub part_count : fixed.Alternative → ℕ
+part_count (fixed.at_least n parts) = length parts
+
+abbrev pub most_parts : List fixed.Alternative → ℕ
+most_parts [] = 0
+most_parts (a ∷ alternatives) = max (part_count a) (most_parts alternatives)
+
+-- how many ranges a signature asks for at most: one of each part of an alternative that the buffer has, or one of each alternative
+abbrev pub most_ranges : List fixed.Alternative → ℕ
+most_ranges alternatives = max (length alternatives) (most_parts alternatives)

@@ -4,10 +4,12 @@
 
 mod front;
 pub mod ranges;
+mod search;
 pub mod signature;
 mod weighing;
 
 pub use front::{Told, shortest_front};
 pub use ranges::{Evidence, MOST_RANGES, Range};
+pub use search::{MOST_OF_A_SEARCH, Search, accept_search, refuse_search};
 pub use signature::{Alternative, AsPart, Part, Set};
-pub use weighing::{MOST_OF_A_ROW, accept, fits, refuse, weigh};
+pub use weighing::{accept, fits, refuse, weigh};

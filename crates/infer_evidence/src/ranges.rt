@@ -1,17 +1,94 @@
 //! Ranges of a buffer, and what is needed of its length.
-ghost use Rattle.std.specs.Prelude.{◌≡◌, ◌+◌, ◌≤◌, ℕ, List, [], Any, IsTrue, false, length};
-ghost use Rattle.infer_evidence.specs.Evidence.{AgreesOn, IsAround, IsInside, IsOf, IsSame, ranges_of};
+ghost use Rattle.std.specs.Prelude.{◌≡◌, ◌+◌, ◌<◌, ◌≤◌, ℕ, List, [], Any, IfSome, IsTrue, MatchOption, None, Some, false, length};
+ghost use Rattle.infer_evidence.specs.Evidence.{AgreesOn, Grows, HasSame, IsAround, IsInside, IsOf, IsSame, place_in, ranges_of, row_of};
 
 /// For how many ranges an [`Evidence`] has room.
-pub const MOST_RANGES: usize = 128;
+pub const MOST_RANGES: usize = 80;
 
-/// Bytes of a buffer: `len` of them from `place` on, and the first row of which they tell. That which tells of no single row
-/// is the first byte, which rules out all rows that begin with another.
+/// The row of a range that tells of none.
+const NO_ROW: u32 = u32::MAX;
+
+/// How far apart bytes of a range are at most.
+const MOST_STEP: usize = 1 << 16;
+
+/// Bytes of a buffer, and the first row of which they tell: `len` of them, the first at `place` and each other `step` behind
+/// the one before. That which tells of no single row is the first byte, which rules out all rows that begin with another.
 #[derive(Clone, Copy)]
 pub struct Range {
     pub place: usize,
     pub len: usize,
-    pub row: Option<usize>,
+    pub step: u32,
+    row: u32,
+}
+
+impl Range {
+    /// The `len` bytes from `place` on, which tell of the row.
+    #[tactic(auto, using(crate::proofs::RangeLemmas::inside_in_a_row))]
+    pub fn new(place: usize, len: usize, row: Option<usize>) -> Range
+        ensures place { result.place ≡ place }
+        ensures len { result.len ≡ len }
+        ensures step { result.step ≡ 1 }
+        ensures reads { (b c : List ℕ) → IsSame b c result → HasSame b c place len }
+        ensures inside { (b : List ℕ) → place + len ≤ length b → IsInside b result }
+        ensures row { MatchOption row (row_of result ≡ None) (λ i. i < NO_ROW → row_of result ≡ Some i) }
+    {
+        Range {
+            place,
+            len,
+            step: 1,
+            row: number(row),
+        }
+    }
+
+    /// The row of which the bytes tell.
+    pub fn row(&self) -> Option<usize>
+        ensures { result ≡ row_of self.now }
+    {
+        if self.row == NO_ROW {
+            return None;
+        }
+        Some(self.row as usize)
+    }
+
+    /// Makes the byte at `place` one more of the range, if it can be: if it is the first, the second, or as far behind the last
+    /// as each of them is behind the one before.
+    pub(crate) fn grow(&mut self, place: usize) -> bool
+        ensures grown { IsTrue result → Grows self.old place self.new }
+        ensures kept { result ≡ false → self.new ≡ self.old }
+    {
+        let Some(len) = self.len.checked_add(1) else {
+            return false;
+        };
+        match self.len {
+            0 => self.place = place,
+            1 if self.place < place && place - self.place <= MOST_STEP => {
+                self.step = (place - self.place) as u32;
+            }
+            _ if self.next_place() == Some(place) => {}
+            _ => return false,
+        }
+        self.len = len;
+        true
+    }
+
+    /// The place of one byte more.
+    fn next_place(&self) -> Option<usize>
+        ensures { IfSome result (λ p. p ≡ place_in self.now self.now.len) }
+    {
+        let extent = self.len.checked_mul(self.step as usize)?;
+        self.place.checked_add(extent)
+    }
+}
+
+/// The number of the row as a range keeps it.
+fn number(row: Option<usize>) -> u32
+    ensures none { row ≡ None → result ≡ NO_ROW }
+    ensures some { IfSome row (λ i. i < NO_ROW → result ≡ i) }
+{
+    match row {
+        Some(i) if i < NO_ROW as usize => i as u32,
+        _ => NO_ROW,
+    }
 }
 
 /// What decides: ranges of a buffer, the least length that is needed, and whether another length is not enough.
@@ -30,13 +107,8 @@ impl Evidence {
         ensures least { result.least ≡ 0 }
         ensures exact { result.exact ≡ false }
     {
-        let nothing = Range {
-            place: 0,
-            len: 0,
-            row: None,
-        };
         Evidence {
-            ranges: [nothing; MOST_RANGES],
+            ranges: [Range::new(0, 0, None); MOST_RANGES],
             count: 0,
             least: 0,
             exact: false,
@@ -98,7 +170,7 @@ impl Evidence {
     /// Asks for the bytes of a range by which a row accepts, also where a range with all of them is asked for: so these are
     /// told.
     #[tactic(auto, using(crate::proofs::RangeLemmas::one_more, crate::proofs::RangeLemmas::one_more_inside, crate::proofs::RangeLemmas::no_more))]
-    pub(crate) fn ask_held(&mut self, range: Range)
+    pub fn ask_held(&mut self, range: Range)
         ensures same { (b c : List ℕ) → AgreesOn self.new b c → AgreesOn self.old b c
             × IsSame b c range }
         ensures inside { (b : List ℕ) → IsOf self.old b → IsInside b range → IsOf self.new b }
@@ -163,10 +235,14 @@ impl Evidence {
     }
 }
 
-/// Whether the first range has all bytes of the second.
+/// Whether the first range has all bytes of the second, if each has bytes in a row.
+#[tactic(auto, using(crate::proofs::RangeLemmas::around_in_a_row))]
 fn is_around(outer: &Range, inner: &Range) -> bool
     ensures { IsTrue result → IsAround inner.now outer.now }
 {
+    if outer.step != 1 || inner.step != 1 {
+        return false;
+    }
     outer.place <= inner.place
         && inner.len <= outer.len
         && inner.place - outer.place <= outer.len - inner.len

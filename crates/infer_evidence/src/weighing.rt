@@ -3,9 +3,8 @@ ghost use Rattle.std.specs.Prelude.{◌≡◌, ◌↔◌, ◌+◌, ◌<◌, ◌�
 ghost use Rattle.infer_deep.specs.Open.{AgreesAt};
 ghost use Rattle.infer_evidence.specs.Evidence.{AgreesOn, IsInside, IsOf, IsSame};
 ghost use Rattle.infer_evidence.specs.Listed.{signature_listed};
-ghost use Rattle.infer_evidence.specs.Weighed.{Differs, HasAlternative, HasPart, HasParts, IsSameTo, StandsNone, is_small};
+ghost use Rattle.infer_evidence.specs.Weighed.{Differs, HasAlternative, HasPart, HasParts, IsSameTo, StandsNone, most_ranges};
 ghost use Rattle.infer_evidence.specs.declared.signature.Part.TheVariants as parts;
-ghost use Rattle.infer_evidence.specs.declared.weighing.TheConstants.{MOST_OF_A_ROW};
 ghost use Rattle.infer_sig.specs.Places.{StandsByPlace};
 ghost use Rattle.infer_sig.specs.Signature.{accepts};
 
@@ -13,9 +12,6 @@ use crate::ranges::{Evidence, Range};
 use crate::signature::{Alternative, AsPart, Part, Set, allows};
 use infer_deep::places::stands_at;
 use infer_sig::laws;
-
-/// How many ranges a row asks for at most, if its signature is small.
-pub const MOST_OF_A_ROW: usize = 4;
 
 /// Why a buffer has not what a part asks: the bytes of a range, and its length if that is needed too.
 #[derive(Drop)]
@@ -47,7 +43,7 @@ fn standing<'a>(buf: &[u8], texts: &[&'a [u8]], place: usize) -> Option<&'a [u8]
 }
 
 /// The first place from `place` on at which `buf` has a byte, and not that of `text`.
-fn difference(buf: &[u8], text: &[u8], place: usize) -> Option<usize>
+pub(crate) fn difference(buf: &[u8], text: &[u8], place: usize) -> Option<usize>
     ensures some { IfSome result (λ k. Differs place text.now buf.now k) }
     ensures none { result ≡ None → AgreesAt buf.now text.now place }
 {
@@ -92,11 +88,7 @@ fn text_held(text: &[u8], place: usize, buf: &[u8], row: Option<usize>) -> Range
     ensures inside { IsInside buf.now result }
     ensures tells { (c : List ℕ) → IsSame buf.now c result → StandsByPlace place text.now c }
 {
-    Range {
-        place: place.min(buf.len()),
-        len: text.len(),
-        row,
-    }
+    Range::new(place.min(buf.len()), text.len(), row)
 }
 
 /// The bytes by which the buffer has what the part asks.
@@ -111,11 +103,7 @@ fn held(part: &Part, buf: &[u8], row: Option<usize>) -> Range
             Some(text) => text_held(text, *place, buf, row),
             None => text_held(&[], 0, buf, row),
         },
-        Part::Byte(place, _) => Range {
-            place: *place,
-            len: 1,
-            row,
-        },
+        Part::Byte(place, _) => Range::new(*place, 1, row),
     }
 }
 
@@ -127,7 +115,7 @@ fn text_refused(text: &[u8], place: usize, buf: &[u8], row: Option<usize>) -> Re
 {
     match difference(buf, text, place) {
         Some(place) => Refusal {
-            range: Range { place, len: 1, row },
+            range: Range::new(place, 1, row),
             exact: false,
         },
         None => short(row),
@@ -144,21 +132,18 @@ fn texts_refused(texts: &[&[u8]], place: usize, buf: &[u8], row: Option<usize>) 
     let place = place.min(buf.len());
     let len = longest.min(buf.len() - place);
     Refusal {
-        range: Range { place, len, row },
+        range: Range::new(place, len, row),
         exact: len < longest,
     }
 }
 
 /// No bytes, and the length.
 fn short(row: Option<usize>) -> Refusal
-    ensures { result ≡ record { range = record { place = 0; len = 0; row = row }; exact = true } }
+    ensures none { result.range.len ≡ 0 }
+    ensures exact { result.exact ≡ true }
 {
     Refusal {
-        range: Range {
-            place: 0,
-            len: 0,
-            row,
-        },
+        range: Range::new(0, 0, row),
         exact: true,
     }
 }
@@ -186,7 +171,7 @@ fn byte_refused(place: usize, buf: &[u8], row: Option<usize>) -> Refusal
         return short(row);
     }
     Refusal {
-        range: Range { place, len: 1, row },
+        range: Range::new(place, 1, row),
         exact: false,
     }
 }
@@ -213,7 +198,7 @@ fn text_differing(text: &[u8], place: usize, buf: &[u8], row: Option<usize>) -> 
         → ¬ StandsByPlace place text.now c) }
 {
     match difference(buf, text, place) {
-        Some(place) => Some(Range { place, len: 1, row }),
+        Some(place) => Some(Range::new(place, 1, row)),
         None => None,
     }
 }
@@ -227,7 +212,7 @@ fn byte_differing(set: &Set, place: usize, buf: &[u8], row: Option<usize>) -> Op
     if place >= buf.len() || allows(set, buf[place]) {
         return None;
     }
-    Some(Range { place, len: 1, row })
+    Some(Range::new(place, 1, row))
 }
 
 /// What the buffer has in the place of all of these texts, if it is long enough for each.
@@ -282,6 +267,7 @@ pub fn fits<P: AsPart>(least: usize, parts: &[P], buf: &[u8]) -> bool
 }
 
 /// Asks for that by which the buffer has the length and the parts.
+#[inline(always)]
 pub fn accept<P: AsPart>(
     least: usize,
     parts: &[P],
@@ -343,6 +329,7 @@ fn fitting<'a>(signature: &'a [Alternative], buf: &[u8]) -> Option<&'a Alternati
 
 /// The bytes by which the buffer lacks the only alternative, whatever its length is, if there is but one and it does so.
 fn refused_alone(signature: &[Alternative], buf: &[u8], row: Option<usize>) -> Option<Range>
+    ensures alone { IfSome result (λ range. length signature.now ≡ 1) }
     ensures inside { IfSome result (IsInside buf.now) }
     ensures tells { IfSome result (λ range. (c : List ℕ) → IsSame buf.now c range
         → All (λ a. ¬ HasAlternative c a) signature.now) }
@@ -382,8 +369,8 @@ pub fn weigh(
         × (IsTrue (accepts (signature_listed signature.now) c)
         ↔ IsTrue (accepts (signature_listed signature.now) buf.now)) }
     ensures inside { IsOf evidence.old buf.now → IsOf evidence.new buf.now }
-    ensures few { IsTrue (is_small signature.now)
-        → evidence.new.count ≤ evidence.old.count + MOST_OF_A_ROW }
+    ensures few { evidence.new.count
+        ≤ evidence.old.count + most_ranges (signature_listed signature.now) }
 {
     laws::by_place();
     if let Some(range) = refused_alone(signature, buf, row) {

@@ -75,23 +75,11 @@ fn weigh_front(told: &Acceptance, buf: &[u8], evidence: &mut Evidence)
     ensures inside { IsOf evidence.old buf.now → IsOf evidence.new buf.now }
 {
     match shortest_front(told, buf) {
-        Some(len) => evidence.ask_front(front(len, told.i), told.accepts),
+        Some(len) => evidence.ask_front(Range::new(0, len, number(told.i)), told.accepts),
         None => {
-            evidence.ask_front(front(buf.len(), told.i), told.accepts);
+            evidence.ask_front(Range::new(0, buf.len(), number(told.i)), told.accepts);
             evidence.ask_exact();
         }
-    }
-}
-
-/// The bytes of a front, which tell of the row.
-fn front(len: usize, i: usize) -> Range
-    ensures place { result.place ≡ 0 }
-    ensures len { result.len ≡ len }
-{
-    Range {
-        place: 0,
-        len,
-        row: number(i),
     }
 }
 

@@ -4,3 +4,6 @@ use Rattle.infer_evidence.proofs.weighing.refused.Goals as goal
 
 pub returns-in-AnyText-clause-tells : goal.returns-in-AnyText-clause-tells
 returns-in-AnyText-clause-tells c = λ b same h. no_text _ c.in-AnyText.place b (c.texts_refused.ensures.tells b same) (subst (HasPart b) c.in-AnyText.is h)
+
+pub returns-in-Text-clause-tells : goal.returns-in-Text-clause-tells
+returns-in-Text-clause-tells c = λ b same h. c.text_refused.ensures.tells b same (subst (HasPart b) c.in-Text.is h)

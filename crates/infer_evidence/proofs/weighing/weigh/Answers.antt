@@ -1,17 +1,17 @@
-use Rattle.infer_evidence.proofs.Common.{List, arith, false≢true, refl, ℕ}
-use Rattle.infer_evidence.proofs.ListedLemmas.{by_none, by_one, signature_told}
+use Rattle.infer_evidence.proofs.Common.{arith, List, false≢true, refl, ℕ}
+use Rattle.infer_evidence.proofs.ListedLemmas.{alternatives_within, by_none, by_one, parts_within, signature_told}
 use Rattle.infer_evidence.proofs.weighing.weigh.Goals as goal
 
 pub returns-in-Some-clause-answer : goal.returns-in-Some-clause-answer
 returns-in-Some-clause-answer c =
     let told = signature_told c.by_place.ensures c.args.buf.now c.args.signature.now in
-    let none = by_none _ _ (c.in-Some.ensures.tells c.args.buf.now (λ k low high. (grind (arith, c.in-Some.ensures.inside), refl))) in
+    let none = by_none _ _ (c.in-Some.ensures.tells c.args.buf.now (λ k lt. (c.in-Some.ensures.inside k lt, refl))) in
     (λ yes. absurd (false≢true yes), λ h. absurd (none (told.0 h)))
 
 pub returns-in-Some-clause-tells : goal.returns-in-Some-clause-tells
 returns-in-Some-clause-tells c =
     let told = λ (b : List ℕ). signature_told c.by_place.ensures b c.args.signature.now in
-    let none = by_none _ _ (c.in-Some.ensures.tells c.args.buf.now (λ k low high. (grind (arith, c.in-Some.ensures.inside), refl))) in
+    let none = by_none _ _ (c.in-Some.ensures.tells c.args.buf.now (λ k lt. (c.in-Some.ensures.inside k lt, refl))) in
     λ b agrees. let same = c.ask.ensures.same c.args.buf.now b agrees in
     (same.0, (λ h. absurd (by_none _ _ (c.in-Some.ensures.tells b same.1) ((told b).0 h)), λ h. absurd (none ((told c.args.buf.now).0 h))))
 
@@ -38,3 +38,15 @@ returns-in-None-clause-tells c =
     let none = by_none _ _ (c.in-None.ensures.none refl) in
     λ b agrees. let same = c.refuse_all.ensures.tells b agrees in
     (same.0, (λ h. absurd (by_none _ _ same.1 ((told b).0 h)), λ h. absurd (none ((told c.args.buf.now).0 h))))
+
+pub returns-in-Some-clause-few : goal.returns-in-Some-clause-few
+returns-in-Some-clause-few c =
+    let now = c.ask.ensures.few in let most = alternatives_within c.args.signature.now in grind (arith, now, most, c.in-Some.ensures.alone)
+
+pub returns-in-Some-fitting-clause-few : goal.returns-in-Some-fitting-clause-few
+returns-in-Some-fitting-clause-few c =
+    let now = c.accept.ensures.few in let most = parts_within c.args.signature.now _ c.in-Some-fitting.ensures.among in grind (arith, now, most)
+
+pub returns-in-None-clause-few : goal.returns-in-None-clause-few
+returns-in-None-clause-few c =
+    let now = c.refuse_all.ensures.few in let most = alternatives_within c.args.signature.now in grind (arith, now, most)
