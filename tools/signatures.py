@@ -54,21 +54,31 @@ def part_of(part):
     raise Unread(part)
 
 
-def lines(names):
-    """The signature of each row of the table, whose rows have these names."""
+def signatures_of(names):
+    """The names of the rows of the table, each with what its signature is and, of bytes at fixed places, the alternatives."""
     signatures = re.findall(r'^    (?:∷ )?row \w+ \(codes ".*?"\) \(codes ".*?"\) (.*)$', text_of(TABLE), re.M)
     for name, signature in zip(names, signatures, strict=True):
-        alternatives = term_of(spelled(signature[1:-1].partition(" ")[2])) if signature.startswith("(fixed ") else ()
-        listed = (f" [{least} {', '.join(map(part_of, parts))}]" for _, (least, parts) in alternatives)
+        kind, _, rest = signature.strip("()").partition(" ")
+        alternatives = term_of(spelled(signature[1:-1].partition(" ")[2])) if kind == "fixed" else ()
+        yield name, kind, [it.takes for it in alternatives]
+
+
+def lines(names):
+    """The signature of each row of the table, whose rows have these names."""
+    for name, _, alternatives in signatures_of(names):
+        listed = (f" [{least} {', '.join(map(part_of, parts))}]" for least, parts in alternatives)
         yield f"    {name}{''.join(listed)};"
+
+
+def in_sixteens(code, known, begin):
+    """The code with these lines in its lists, sixteen a list, each of which begins so of its first row and its length."""
+    for first in range(0, len(known), 16):
+        rows = known[first : first + 16]
+        before, found, after = code.partition(begin(first, len(rows)))
+        code = before + found + "\n".join(rows) + "\n" + after[after.index("};\n") :]
+    return code
 
 
 def made(code, names):
     """The text of signatures.rt with the signatures, sixteen a list."""
-    known = list(lines(names))
-    for first in range(0, len(known), 16):
-        rows = known[first : first + 16]
-        begin = f"static ROWS_FROM_{first}: [Option<&[Alternative]>; {len(rows)}] = signatures! {{\n"
-        before, found, after = code.partition(begin)
-        code = before + found + "\n".join(rows) + "\n" + after[after.index("};\n") :]
-    return code
+    return in_sixteens(code, list(lines(names)), "static ROWS_FROM_{}: [Option<&[Alternative]>; {}] = signatures! {{\n".format)

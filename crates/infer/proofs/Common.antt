@@ -13,6 +13,9 @@ pub use Rattle.infer.specs.First.{IsFirstOf, IsFirst, NoneHas, IsAnswer, SomeHas
 pub use Rattle.infer.specs.Laws.{AnswersAreLocal, AnswersAsBuiltIn, AnyLasts, Breaks, FrontDecides, IsNotLater}
 pub use Rattle.infer.specs.Laws.{IsSteady, OnlyFarRowsFollow, ReadersAreAlike}
 pub use Rattle.infer.specs.Laws.{answers_far}
+unfoldable pub use Rattle.infer.specs.Guards.{are_guards, bars_rows, bars_text, first_asked, guard_rows, is_ascending}
+pub use Rattle.infer.specs.Guards.{IsAscending, IsGuardedBy, Lacks, alternatives_of, bars, bars_alternative, bars_part, bars_signature}
+pub use Rattle.infer.specs.Guards.{is_guarded_by, part_bars, probe_bars}
 unfoldable pub use Rattle.infer.specs.Leads.{candidates}
 pub use Rattle.infer.specs.Leads.{candidates_of, Leads, allows_first, numbers_from}
 pub use Rattle.infer.specs.Listed.{number_of, buffer_listed, row_listed}

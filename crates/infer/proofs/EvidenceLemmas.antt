@@ -1,5 +1,5 @@
 -- What is listed of a row.
-use Rattle.infer.proofs.Common.{◌≡◌, ◌+◌, ◌-◌, ◌<◌, ◌≤◌, ◌∙◌, ℕ, List, Option, None, Some, IfSome, IsTrue, true, ap, arith, refl, length, sym, subst, slice_get, get_or, Bor, signature_of, BuiltIn, fixed, length-range_with_len, length-map, option_map_or, [], Row, IsBuffer, MatchOption, Accepts, MayBecomeRow, IsAccepted, RowHas, table, ◌⊎◌, ◌↔◌, ◌++◌, inl, inr, take, drop, Lasts, length-take-le, get_or-take, take-append-drop, Bool, false, false≢true, AllWithin, AllWithin-more, AllWithin-upto, IsFirstAmong, get_or_default, candidates, candidates_of, ◌∷◌}
+use Rattle.infer.proofs.Common.{list_all, zero, suc, ◌≡◌, ◌+◌, ◌-◌, ◌<◌, ◌≤◌, ◌∙◌, ℕ, List, Option, None, Some, IfSome, IsTrue, true, ap, arith, refl, length, sym, subst, slice_get, get_or, Bor, leb-true, signature_of, BuiltIn, fixed, length-range_with_len, length-map, option_map_or, [], Row, IsBuffer, MatchOption, Accepts, MayBecomeRow, IsAccepted, RowHas, table, ◌⊎◌, ◌↔◌, ◌++◌, inl, inr, take, drop, Lasts, length-take-le, get_or-take, take-append-drop, Bool, false, false≢true, AllWithin, AllWithin-more, AllWithin-upto, IsFirstAmong, get_or_default, candidates, candidates_of, ◌∷◌}
 use Rattle.std.proofs.Math.ListN.{get_or-map}
 use Rattle.std.proofs.lemmas.List.FromFn.{get_or-map-range_with_len}
 use Rattle.std.proofs.lemmas.Grind.{same_number_lists}
@@ -9,16 +9,25 @@ use Rattle.std.proofs.lemmas.List.Sums.{AllPass-from_list_all}
 use Rattle.std.proofs.lemmas.Option.{get_or_from_slice_get, slice_get_within}
 use Rattle.infer.proofs.AskLemmas.{none_among}
 use Rattle.infer.proofs.TableLemmas.{row_accepts}
-use Rattle.infer.specs.Evidence.{AreListed, IsTold, fixed_listed, fixed_of}
+use Rattle.infer.specs.Arms.{rows_of}
+use Rattle.infer.specs.Evidence.{AreListed, IsTold, fixed_listed, fixed_of, most_of, most_of_all}
+use Rattle.infer.specs.declared.candidates.arms.Arm.{Arm}
+use Rattle.infer.specs.contracts.candidates.arms.Arm as arm_type
+use denote.Enum.Declared.{tag_of}
+use Rattle.infer.specs.declared.candidates.dispatch.TheConstants.{CANDIDATES}
+use Rattle.infer.specs.declared.why.TheConstants.{MOST_OF_CANDIDATES}
+use Rattle.std.specs.Prelude.{codes, nat_le}
+use Rattle.infer.specs.declared.table.rows.TheConstants.{PDF}
+use Rattle.infer_deep.specs.Windows.{StandsBy}
+use Rattle.infer_evidence.specs.declared.search.TheConstants.{MOST_OF_A_SEARCH}
 use Rattle.infer_sig.specs.Signature as signature
 use Rattle.infer_sig.specs.Signature.{accepts}
 use Rattle.infer_evidence.specs.Listed.{signature_listed}
-use Rattle.infer_evidence.specs.Weighed.{is_small}
 use Rattle.infer_evidence.specs.declared.signature.Alternative.{Alternative}
 
 module _ (first n : ℕ) (rows : List (Option (Bor (List Alternative)))) (h : AreListed first n rows) (i : ℕ) (s : Option (Bor (List Alternative))) (found : slice_get rows i ≡ Some s) where
   inside : i < n
-  inside = grind (arith, slice_get_within rows i s found, h.same, length-map, length-range_with_len)
+  inside = grind (arith, slice_get_within rows i s found, h, length-map, length-range_with_len)
 
   here : get_or rows i s ≡ s
   here = get_or_from_slice_get rows i s s found
@@ -26,14 +35,9 @@ module _ (first n : ℕ) (rows : List (Option (Bor (List Alternative)))) (h : Ar
   pub listed_at : fixed_of (signature_of (first + i)) ≡ fixed_listed s
   listed_at =
       sym (get_or-map-range_with_len (λ j. fixed_of (signature_of j)) first n i (first + i) (fixed_listed s) inside refl)
-      ∙ ap (λ xs. get_or xs i (fixed_listed s)) (sym h.same)
+      ∙ ap (λ xs. get_or xs i (fixed_listed s)) (sym h)
       ∙ get_or-map fixed_listed rows i s
       ∙ ap fixed_listed here
-
-  -- and it is small
-  pub small_at : IsTrue (option_map_or (λ alternatives. is_small alternatives.now) s true)
-  small_at = subst (λ t. IsTrue (option_map_or (λ alternatives. is_small alternatives.now) t true)) here
-      (AllPass-from_list_all (λ t. option_map_or (λ alternatives. is_small alternatives.now) t true) rows h.small i s (slice_get_within rows i s found))
 
 -- a signature of which the bytes at fixed places are these is that of these
 pub fixed_by : (s : BuiltIn) (alternatives : List signature.Alternative) → fixed_of s ≡ Some alternatives → s ≡ fixed alternatives
@@ -43,14 +47,12 @@ fixed_by s alternatives e = absurd (cc)
 -- what is listed at a row's place is its signature
 pub row_listed_at : (row first n : ℕ) (rows : List (Option (Bor (List Alternative)))) → first ≤ row → AreListed first n rows
     → (s : Option (Bor (List Alternative))) → slice_get rows (row - first) ≡ Some s
-    → IfSome s (λ a. (signature_of row ≡ fixed (signature_listed a.now)) × IsTrue (is_small a.now))
+    → IfSome s (λ a. signature_of row ≡ fixed (signature_listed a.now))
 row_listed_at row first n rows le h None found = tt
 row_listed_at row first n rows le h (Some a) found =
-    let place : first + (row - first) ≡ row = omega arith in (
-      fixed_by (signature_of row) (signature_listed a.now)
-          (subst (λ i. fixed_of (signature_of i) ≡ Some (signature_listed a.now)) place (listed_at first n rows h (row - first) (Some a) found)),
-      small_at first n rows h (row - first) (Some a) found,
-    )
+    let place : first + (row - first) ≡ row = omega arith in
+    fixed_by (signature_of row) (signature_listed a.now)
+        (subst (λ i. fixed_of (signature_of i) ≡ Some (signature_listed a.now)) place (listed_at first n rows h (row - first) (Some a) found))
 
 -- a front tells of a row if it is accepted or nothing that begins so is
 module _ (lasts : (s : BuiltIn) → Lasts (IsAccepted s)) where
@@ -122,3 +124,47 @@ pub same_candidates : (b c : List ℕ) → 0 < length b → 0 < length c → get
 same_candidates [] c some more e = absurd (omega (arith, some))
 same_candidates (x ∷ xs) [] some more e = absurd (omega (arith, more))
 same_candidates (x ∷ xs) (y ∷ ys) some more e = ap candidates e
+
+-- the row of PDF asks for its text in the first 1024 bytes
+pub pdf_most : most_of (signature_of PDF) ≡ MOST_OF_A_SEARCH
+unfolding signature_of table
+pdf_most = refl
+
+pub pdf_searches : (b : List ℕ) → RowHas (Accepts b) PDF ↔ StandsBy (codes "%PDF") 1024 b
+unfolding signature_of table
+pdf_searches b = let told = row_accepts b PDF in (told.1, told.0)
+
+-- for one row more they ask for as many more
+pub most_more : (rows : List ℕ) (i : ℕ) → i < length rows → most_of_all (take (i + 1) rows) ≡ most_of_all (take i rows) + most_of (signature_of (get_or rows i 0))
+most_more [] i lt = absurd (omega (arith, lt))
+most_more (x ∷ rows) zero lt = omega arith
+most_more (x ∷ rows) (suc i) lt =
+    let rest = most_more rows i (omega (arith, lt)) in
+    let next : suc (i + 1) ≡ suc i + 1 = omega arith in
+    subst (λ n. most_of_all (take n (x ∷ rows)) ≡ most_of_all (take (suc i) (x ∷ rows)) + most_of (signature_of (get_or rows i 0))) next (omega (arith, rest))
+
+pub most_upto : (rows : List ℕ) (i : ℕ) → most_of_all (take i rows) ≤ most_of_all rows
+most_upto [] zero = omega arith
+most_upto [] (suc i) = omega arith
+most_upto (x ∷ rows) zero = omega arith
+most_upto (x ∷ rows) (suc i) = let rest = most_upto rows i in omega (arith, rest)
+
+-- the candidates of an arm ask for few
+each_few : IsTrue (list_all (λ rows. nat_le (most_of_all rows.now) MOST_OF_CANDIDATES) CANDIDATES)
+unfolding signature_of table
+each_few = refl
+
+few_in : {X : Type 0} (now : X → List ℕ) (xs : List X) → IsTrue (list_all (λ x. nat_le (most_of_all (now x)) MOST_OF_CANDIDATES) xs)
+    → (k : ℕ) (o : Option X) → slice_get xs k ≡ o → most_of_all (option_map_or now o []) ≤ MOST_OF_CANDIDATES
+few_in now xs few k None found = omega arith
+few_in now xs few k (Some x) found =
+    let here = AllPass-from_list_all (λ x. nat_le (most_of_all (now x)) MOST_OF_CANDIDATES) xs few k x (slice_get_within xs k x found) in
+    leb-true _ _ (subst (λ y. IsTrue (nat_le (most_of_all (now y)) MOST_OF_CANDIDATES)) (get_or_from_slice_get xs k x x found) here)
+
+pub few_of_arm : (arm : Arm) → most_of_all (rows_of arm) ≤ MOST_OF_CANDIDATES
+few_of_arm arm = few_in (λ rows. rows.now) CANDIDATES each_few (tag_of arm_type.the_type arm) _ refl
+
+-- each row may ask for one
+pub some_of : (s : BuiltIn) → 1 ≤ most_of s
+some_of (fixed alternatives) = omega arith
+some_of s = omega arith

@@ -20,3 +20,4 @@ pub mod SlotLemmas
 pub mod DecidedLemmas
 pub mod FirstByteLemmas
 pub mod EvidenceLemmas
+pub mod GuardLemmas

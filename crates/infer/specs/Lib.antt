@@ -42,6 +42,7 @@ pub mod Walks
 pub mod Arms
 pub mod Decided
 pub mod Evidence
+pub mod Guards
 pub mod Laws
 pub mod Samples
 pub mod Listed

@@ -2,12 +2,13 @@
 //! asks more than bytes at fixed places has none. Made by `tools/tables` from the definitions.
 ghost use Rattle.std.specs.Prelude.{◌≡◌, ◌≤◌, ℕ, IfSome, IsTrue};
 ghost use Rattle.infer.specs.BuiltIn.{fixed};
-ghost use Rattle.infer.specs.Evidence.{AreListed};
+ghost use Rattle.infer.specs.Evidence.{AreListed, IsSearch, most_of};
+ghost use Rattle.infer_evidence.specs.declared.search.TheConstants.{MOST_OF_A_SEARCH};
 ghost use Rattle.infer.specs.Table.{signature_of};
 ghost use Rattle.infer_evidence.specs.Listed.{signature_listed};
-ghost use Rattle.infer_evidence.specs.Weighed.{is_small};
 
-use infer_evidence::Alternative;
+use crate::table::rows::PDF;
+use infer_evidence::{Alternative, Search};
 use infer_evidence::Part::{AnyText, Byte, Text};
 use infer_evidence::Set::{AllBut, AnyOf, Between};
 
@@ -209,12 +210,25 @@ fn list_of(row: usize) -> Option<(usize, &'static [Option<&'static [Alternative]
 
 /// The signature of a row that asks for bytes at fixed places alone.
 pub(super) fn signature(row: usize) -> Option<&'static [Alternative]>
-    ensures { IfSome result (λ s. (signature_of row ≡ fixed (signature_listed s.now))
-        × IsTrue (is_small s.now)) }
+    ensures { IfSome result (λ s. signature_of row ≡ fixed (signature_listed s.now)) }
 {
     let (first, rows) = list_of(row)?;
     match rows.get(row - first) {
         Some(signature) => *signature,
         None => None,
     }
+}
+
+/// What a row searches for that asks for a text somewhere at the front alone.
+pub(super) fn search_of(row: usize) -> Option<Search>
+    ensures is { IfSome result (IsSearch row) }
+    ensures most { IfSome result (λ s. most_of (signature_of row) ≡ MOST_OF_A_SEARCH) }
+{
+    if row != PDF {
+        return None;
+    }
+    Some(Search {
+        text: b"%PDF",
+        end: 1024,
+    })
 }

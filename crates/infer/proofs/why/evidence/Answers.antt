@@ -1,20 +1,6 @@
-use Rattle.infer.proofs.Common.{◌≡◌, ◌<◌, ◌∙◌, arith, length, candidates_of, rules, sym}
-use Rattle.infer.proofs.CandidateLemmas.{first_accepting}
-use Rattle.infer.proofs.EvidenceLemmas.{same_candidates}
+use Rattle.infer.proofs.Common.{arith}
 use Rattle.infer.proofs.TableLemmas.{length-table}
 use Rattle.infer.proofs.why.evidence.Goals as goal
 
-pub returns-clause-first : goal.returns-clause-first
-returns-clause-first c = first_accepting c.leads.ensures c.blank.ensures c.args.buf.now _ c.weigh_rows.result (search rules) c.weigh_rows.ensures.first
-
-pub returns-clause-bound : goal.returns-clause-bound
-returns-clause-bound c = let first = returns-clause-first c in grind (arith, length-table)
-
-pub returns-clause-decides : goal.returns-clause-decides
-returns-clause-decides c = λ b bytes agrees.
-    let told = c.weigh_rows.ensures.tells b bytes agrees in
-    let asked = c.ask.ensures.same c.args.buf.now b told.0 in
-    let first = asked.1 0 (omega arith) (omega arith) in
-    let here : c.candidates_at.result.now ≡ candidates_of c.args.buf.now = search rules in
-    let some : 0 < length c.args.buf.now = grind arith in
-    first_accepting c.leads.ensures c.blank.ensures b _ c.weigh_rows.result (here ∙ sym (same_candidates c.args.buf.now b some first.0 first.1)) told.1
+pub returns-in_default-clause-bound : goal.returns-in_default-clause-bound
+returns-in_default-clause-bound c = let first = c.weigh_candidates.ensures.first in grind (arith, length-table)

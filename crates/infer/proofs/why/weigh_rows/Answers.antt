@@ -1,6 +1,6 @@
-use Rattle.infer.proofs.Common.{Accepts, RowHas, arith}
+use Rattle.infer.proofs.Common.{◌+◌, Accepts, RowHas, arith}
 use Rattle.infer.proofs.AskLemmas.{found_among}
-use Rattle.infer.proofs.EvidenceLemmas.{none_more, none_of_all, refuted_by, refuted_too}
+use Rattle.infer.proofs.EvidenceLemmas.{most_more, most_upto, none_more, none_of_all, refuted_by, refuted_too}
 use Rattle.infer.proofs.why.weigh_rows.Goals as goal
 
 pub returns-then-weigh_row-clause-first : goal.returns-then-weigh_row-clause-first
@@ -16,6 +16,14 @@ returns-then-weigh_row-clause-tells c = λ b bytes agrees.
       found_among (RowHas (Accepts b)) c.args.rows.now c.loop-row.row-index 0 c.loop-row-test.true (told.1.1 (c.weigh_row.ensures.answer.0 c.if-weigh_row.true)) before.1,
     )
 
+pub returns-then-weigh_row-clause-few : goal.returns-then-weigh_row-clause-few
+returns-then-weigh_row-clause-few c =
+    let before = c.loop-row.invariant.few in
+    let now = c.weigh_row.ensures.few in
+    let more = most_more c.args.rows.now c.loop-row.row-index c.loop-row-test.true in
+    let most = most_upto c.args.rows.now (c.loop-row.row-index + 1) in
+    grind (arith, before, now, more, most)
+
 pub loop-row-preserved : goal.loop-row-preserved
 loop-row-preserved c =
     let here = refuted_by c.if-weigh_row.false c.weigh_row.ensures.answer in record {
@@ -25,7 +33,10 @@ loop-row-preserved c =
           let before = c.loop-row.invariant.tells b bytes told.0 in
           (before.0, none_more (RowHas (Accepts b)) _ _ c.loop-row-test.true before.1 (refuted_too told.1 here));
       inside = λ of. c.weigh_row.ensures.inside (c.loop-row.invariant.inside of);
-      few = let before = c.loop-row.invariant.few in let now = c.weigh_row.ensures.few in omega arith;
+      few = let before = c.loop-row.invariant.few in
+          let now = c.weigh_row.ensures.few in
+          let more = most_more c.args.rows.now c.loop-row.row-index c.loop-row-test.true in
+          grind (arith, before, now, more);
     }
 
 pub returns-clause-first : goal.returns-clause-first
@@ -35,3 +46,6 @@ pub returns-clause-tells : goal.returns-clause-tells
 returns-clause-tells c = λ b bytes agrees.
     let before = c.loop-row.invariant.tells b bytes agrees in
     (before.0, none_of_all (RowHas (Accepts b)) c.args.rows.now c.loop-row.row-index (grind arith) before.1)
+
+pub returns-clause-few : goal.returns-clause-few
+returns-clause-few c = let before = c.loop-row.invariant.few in let most = most_upto c.args.rows.now c.loop-row.row-index in omega (arith, before, most)

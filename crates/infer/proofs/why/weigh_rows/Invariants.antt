@@ -1,7 +1,7 @@
 -- whoever agrees so far has none of the rows so far
-use Rattle.infer.proofs.Common.{◌*◌, ◌+◌, ◌≤◌, ℕ, List, Accepts, AllWithin, IsBuffer, RowHas}
+use Rattle.infer.proofs.Common.{◌+◌, ◌≤◌, ℕ, List, take, Accepts, AllWithin, IsBuffer, RowHas}
 use Rattle.infer_evidence.specs.Evidence.{AgreesOn, IsOf}
-use Rattle.infer_evidence.specs.declared.weighing.TheConstants.{MOST_OF_A_ROW}
+use Rattle.infer.specs.Evidence.{most_of_all}
 use Rattle.infer.proofs.why.weigh_rows.Given as goal
 
 abbrev pub invariant-loop-row : goal.invariant-loop-row
@@ -9,5 +9,5 @@ invariant-loop-row l = record {
   refused : AllWithin (λ i. ¬ RowHas (Accepts l.buf) i) l.rows 0 l.row-index;
   tells : (b : List ℕ) → IsBuffer b → AgreesOn l.evidence l.buf b → AgreesOn l.fn.evidence l.buf b × AllWithin (λ i. ¬ RowHas (Accepts b) i) l.rows 0 l.row-index;
   inside : IsOf l.fn.evidence l.buf → IsOf l.evidence l.buf;
-  few : l.evidence.count ≤ l.fn.evidence.count + MOST_OF_A_ROW * l.row-index;
+  few : l.evidence.count ≤ l.fn.evidence.count + most_of_all (take l.row-index l.rows);
 }

@@ -3,4 +3,4 @@ use Rattle.infer.proofs.why.signatures.rows_from_32.Goals as goal
 
 pub returns : goal.returns
 unfolding signature_of table
-returns c = record { same = refl; small = refl }
+returns c = refl

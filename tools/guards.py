@@ -1,0 +1,96 @@
+"""What is left to be asked of the rows before an answer, from the definitions: of each alternative of a row's signature that
+begins with a known byte, the probes by which those rows are ruled out that its own bytes do not rule out, and the rows that no
+probe does. The check refuses a list from which a row is left out; here the few probes are chosen."""
+from signatures import in_sixteens, signatures_of
+from terms import Call
+
+# What a place may have of which nothing is known.
+ALL = {*range(256)}
+# Rows that read deeper, but have a byte that is known: images of ISO media in a box "ftyp".
+BOXED = {"heif": {4: {0x66}}, "avif": {4: {0x66}}}
+# With which bytes others of these begin. A PDF document may begin with any.
+WHITE = {0x09, 0x0A, 0x0C, 0x0D, 0x20, 0x3C}
+FIRST = {"matroska": {0x1A}, "office": {0x50}, "doc": {0xD0}, "xls": {0xD0}, "ppt": {0xD0}, "html": WHITE, "xml": WHITE | {0xEF, 0xFE, 0xFF}}
+FIRST |= {"framed": {*range(0x50, 0x60), 0x28, 0x04}, "pdf": ALL}
+
+
+def set_of(bytes_):
+    match bytes_:
+        case Call("anyof", (listed,)):
+            return set(listed)
+        case Call("between", (low, high)):
+            return {*range(low, high + 1)}
+        case Call("allbut", (other,)):
+            return ALL - {other}
+
+
+def asked(alternative):
+    """The bytes that each place may have by what an alternative asks."""
+    places = {}
+    for part in alternative[1]:
+        match part:
+            case Call("text", (place, text)):
+                places |= {place + k: {byte} for k, byte in enumerate(text)}
+            case Call("anytext", (place, texts)):
+                places |= {place + k: {*bytes_} for k, bytes_ in enumerate(zip(*texts))}
+            case Call("byte", (place, bytes_)):
+                places[place] = set_of(bytes_)
+    return places
+
+
+def held(alternative):
+    """The same, but of no part that asks for one of several texts."""
+    return asked((alternative[0], [it for it in alternative[1] if it.name != "anytext"]))
+
+
+def is_barred(places, own):
+    """Whether no buffer has at its places what both ask."""
+    return any(place in own and not own[place] & bytes_ for place, bytes_ in places.items())
+
+
+def guard(row, own, known):
+    """The probes, and the rows that are left, before the row by the alternative that asks this."""
+    if len(own.get(0, ())) != 1 and any(not its for _, _, its in known[:row]):
+        return None
+    probes, left = {}, []
+    for name, kind, alternatives in known[:row]:
+        if kind in FIRST:
+            left += [name] if FIRST[kind] & own[0] else []
+            continue
+        for places in [BOXED[kind]] if kind in BOXED else map(asked, alternatives):
+            if is_barred(places, own):
+                continue
+            place = min((it for it, bytes_ in places.items() if len(bytes_) <= 2 and not own.get(it, ALL) <= bytes_), default=0)
+            if place == 0:
+                return None
+            of_place = probes.setdefault(place, {})
+            for byte in sorted(places[place]):
+                of_place.setdefault(byte, name)
+    return sorted(probes.items()), left
+
+
+def text_of_guard(found, own):
+    """A guard as the code writes it: of each probe the place, the two bytes, whether the byte there is named already, and the
+    first row of which the probe tells."""
+    if found is None:
+        return " [none]"
+    probes = []
+    for place, names in found[0]:
+        listed = [*names]
+        for at in range(0, len(listed), 2):
+            probes.append(f"{place} 0x{listed[at]:02X} 0x{listed[at : at + 2][-1]:02X} {str(at > 0 or place in own).lower()} {names[listed[at]]}")
+    return f" [{', '.join(probes)};{''.join(f' {it}' for it in found[1])}]"
+
+
+def lines(names, constants):
+    """The guards of each row."""
+    known = list(signatures_of(names))
+    for row, (name, _, alternatives) in enumerate(known):
+        owns = [*map(held, alternatives)]
+        guards = [guard(row, own, [(constants[it[0]], *it[1:]) for it in known]) for own in owns]
+        yield f"    {name}{''.join(map(text_of_guard, guards, owns)) if any(guards) else ''};"
+
+
+def made(code, names, constants):
+    """The text of guards.rt with the guards, sixteen rows a list."""
+    return in_sixteens(code, list(lines(names, dict(zip(names, constants)))), "static GUARDS_FROM_{}: [&[Option<Guard>]; {}] = guards! {{\n".format)
