@@ -106,6 +106,11 @@ static void ask_mime(const char *buf, size_t len) {
 typedef int32_t position_of(const void *buf, size_t len);
 typedef int32_t evidence_of(const void *buf, size_t len, infer_range *ranges, size_t room, infer_needs *needs);
 
+/* The place behind the last byte of a range, which has some. */
+static size_t behind_range(const infer_range *range) {
+    return range->place + (range->len - 1) * range->step + 1;
+}
+
 /* Another buffer with the same bytes in the ranges, of a length that the needs allow: its answer has to be the same. */
 static void ask_alike(position_of *position, int32_t row, const unsigned char *buf, size_t len, const infer_range *ranges, const infer_needs *needs) {
     static unsigned char changed[ROOM + 64];
@@ -113,8 +118,9 @@ static void ask_alike(position_of *position, int32_t row, const unsigned char *b
     for (size_t i = 0; i < sizeof changed; i++)
         changed[i] = (unsigned char)next();
     for (size_t i = 0; i < needs->wanted; i++) {
-        const size_t behind = ranges[i].place + ranges[i].len;
-        memcpy(changed + ranges[i].place, buf + ranges[i].place, ranges[i].len);
+        const size_t behind = behind_range(ranges + i);
+        for (size_t k = ranges[i].place; k < behind; k += ranges[i].step)
+            changed[k] = buf[k];
         if (behind > least) least = behind;
     }
     wants(position(changed, needs->is_exact ? len : least + next() % (sizeof changed - least)) == row);
@@ -130,10 +136,11 @@ static void ask_evidence(evidence_of *ask, position_of *position, const void *bu
     memset(&none, 0xA5, sizeof none);
     memset(ranges - 1, 0xA5, (room + 1) * sizeof *ranges);
     wants(ask(buf, len, room ? ranges : NULL, room, &needs) == row);
-    wants(needs.least <= len && (needs.wanted <= 101 || ask == infer_more_evidence));
+    wants(needs.least <= len && (needs.wanted <= 68 || ask == infer_more_evidence));
     const size_t most = room < INFER_MOST_RANGES ? room : INFER_MOST_RANGES, written = needs.wanted < most ? needs.wanted : most;
     for (size_t i = 0; i < written; i++) {
-        wants(ranges[i].len > 0 && ranges[i].place < len && ranges[i].len <= len - ranges[i].place);
+        wants(ranges[i].len > 0 && ranges[i].len <= len && ranges[i].step > 0 && ranges[i].step <= 65536);
+        wants(ranges[i].place < len && behind_range(ranges + i) <= len);
         wants(ranges[i].row >= -1 && ranges[i].row < (int32_t)rows);
     }
     wants(memcmp(ranges - 1, &none, sizeof none) == 0);

@@ -364,8 +364,8 @@ static void widers(void) {
 
 typedef int32_t evidence_of(const void *buf, size_t len, infer_range *ranges, size_t room, infer_needs *needs);
 
-/* What decides, as a text: each range with the extension of its row, and the length that is needed, with a plus behind it if
- * a greater one is enough. With less room the first ranges are written, and nothing behind them. */
+/* What decides, as a text: each range, with its step unless that is 1, and the extension of its row; and the length that is
+ * needed, with a plus behind it if a greater one is enough. With less room the first ranges are written, and nothing behind them. */
 static void evidence(const char *wanted, evidence_of *ask, const void *buf, size_t len) {
     char text[4096];
     size_t size = 0;
@@ -374,8 +374,11 @@ static void evidence(const char *wanted, evidence_of *ask, const void *buf, size
     memset(&needs, 0xA5, sizeof needs);
     int32_t row = ask(buf, len, all, INFER_MOST_RANGES, &needs);
     same(wanted, row, ask == infer_evidence ? infer_position(buf, len) : infer_more_position(buf, len));
-    for (size_t i = 0; i < needs.wanted; i++)
-        size += (size_t)snprintf(text + size, sizeof text - size, "%zu@%zu %s, ", all[i].len, all[i].place, all[i].row < 0 ? "-" : infer_extension_text(all[i].row));
+    for (size_t i = 0; i < needs.wanted; i++) {
+        size += (size_t)snprintf(text + size, sizeof text - size, "%zu@%zu", all[i].len, all[i].place);
+        if (all[i].step != 1) size += (size_t)snprintf(text + size, sizeof text - size, "/%zu", all[i].step);
+        size += (size_t)snprintf(text + size, sizeof text - size, " %s, ", all[i].row < 0 ? "-" : infer_extension_text(all[i].row));
+    }
     snprintf(text + size, sizeof text - size, "%zu%s", needs.least, needs.is_exact ? "" : "+");
     same(text, strcmp(text, wanted), 0);
     for (size_t room = 0; room <= needs.wanted + 1; room++) {
@@ -385,7 +388,7 @@ static void evidence(const char *wanted, evidence_of *ask, const void *buf, size
         same(wanted, ask(buf, len, room ? some : NULL, room, &others), row);
         same("as many are wanted", others.wanted == needs.wanted && others.least == needs.least && others.is_exact == needs.is_exact, true);
         for (size_t i = 0; i < written; i++)
-            same("a range", some[i].place == all[i].place && some[i].len == all[i].len && some[i].row == all[i].row, true);
+            same("a range", some[i].place == all[i].place && some[i].len == all[i].len && some[i].step == all[i].step && some[i].row == all[i].row, true);
         same("the byte after them", ((const char *)(some + written))[0], '.');
     }
 }
@@ -396,15 +399,17 @@ static void evidences(void) {
     memcpy(ustar + 257, "ustar", 5);
     evidence("0", infer_evidence, NULL, 0);
     evidence("0", infer_more_evidence, NULL, 0);
-    evidence("1@0 -, 3@0 jpg, 3", infer_evidence, JPEG);
-    evidence("1@0 -, 3@0 jpg, 1@3 jls, 3", infer_more_evidence, JPEG);
+    evidence("3@0 jpg, 3", infer_evidence, JPEG);
+    evidence("3@0 jpg, 1@3 jls, 3", infer_more_evidence, JPEG);
     /* 61 bytes and more have one at 60, which is no B of BOOKMOBI. */
-    evidence("1@0 -, 4@0 png, 4", infer_evidence, png, 60);
-    evidence("1@0 -, 1@60 mobi, 4@0 png, 4+", infer_evidence, png, 61);
-    evidence("1@0 -, 1@60 mobi, 4@0 png, 4+", infer_evidence, png, sizeof png);
+    evidence("4@0 png, 4", infer_evidence, png, 60);
+    evidence("4@0 png, 1@60 mobi, 4+", infer_evidence, png, 61);
+    evidence("4@0 png, 1@60 mobi, 4+", infer_evidence, png, sizeof png);
     /* More chunks may always follow, of which one is that of an animated image. */
-    evidence("1@0 -, 1@60 mobi, 4@0 png, 300@0 apng, 4", infer_more_evidence, png, sizeof png);
-    evidence("1@0 -, 2@0 exe, 2+", infer_evidence, "MZ", 2);
+    evidence("4@0 png, 1@60 mobi, 300@0 apng, 4", infer_more_evidence, png, sizeof png);
+    evidence("2@0 exe, 2+", infer_evidence, "MZ", 2);
+    /* S and d are no bytes of "%PDF", so it stands nowhere. */
+    evidence("2@0 ps, 1@4 heif, 1@8 webp, 2@3/4 pdf, 2", infer_evidence, "%!PS-Adobe", 10);
     evidence("1@0 -, 1@60 mobi, 1@1 png, 1@8 webp, 5@0 heif, 1@12 mov, 5@257 tar, 262+", infer_evidence, ustar, sizeof ustar);
 }
 

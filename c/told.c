@@ -137,6 +137,7 @@ static void ask_evidence(evidence_of *evidence, const void *buf, size_t len) {
     for (size_t i = 0; i < needs.wanted && i < room; i++) {
         note((int64_t)ranges[i].place);
         note((int64_t)ranges[i].len);
+        note((int64_t)ranges[i].step);
         note(ranges[i].row);
     }
 }

@@ -190,7 +190,7 @@ def are_reasons(text):
     called = re.findall(r'(MatcherType::[\w |:]+) => "(.*)",', text_of("crates/infer_label/src/why_text.rt"))
     words = {it.lower(): word for names, word in called for it in re.findall(r"::(\w+)", names)}
     named = {(extension, words[it]) for _, extension, it in rows()}
-    place = r"(?:(?:[0-9A-F]{2} )+|\d+ bytes )at \d+"
+    place = r"(?:(?:[0-9A-F]{2} )+at \d+|\d+ bytes at \d+(?:, one in \d+)?)"
     found = [re.fullmatch(rf"(?:no (\w+) ([a-z ]+): |nothing that begins otherwise: )?{place}|(?:just|at least) \d+ bytes?|and more than there is room for", it) for it in text.split("; ")]
     return all(it and (not it[1] or it.groups() in named) for it in found)
 

@@ -1,6 +1,6 @@
 /* Says of each buffer of a pack, four bytes of its length and then its bytes, the lowest first, which its answers are, or what
  * decides them: a line of the built-in answer and the wider one, or for each of them a line that begins with it, how many
- * ranges are wanted, which length at least, and whether just that of the buffer; and then has each range as PLACE:LENGTH:ROW.
+ * ranges are wanted, which length at least, and whether just that of the buffer; and then has each range as PLACE:LENGTH:STEP:ROW.
  * usage: why answers < PACK, or why evidence < PACK */
 #include "infer.h"
 #include <stdio.h>
@@ -11,7 +11,7 @@ static void tell(int32_t row, const struct infer_range *ranges, const struct inf
     size_t count = needs->wanted < INFER_MOST_RANGES ? needs->wanted : INFER_MOST_RANGES;
     printf("%d %zu %zu %d", (int)row, needs->wanted, needs->least, needs->is_exact);
     for (size_t i = 0; i < count; i++)
-        printf(" %zu:%zu:%d", ranges[i].place, ranges[i].len, (int)ranges[i].row);
+        printf(" %zu:%zu:%zu:%d", ranges[i].place, ranges[i].len, ranges[i].step, (int)ranges[i].row);
     putchar('\n');
 }
 

@@ -1,6 +1,6 @@
 -- What decides an answer, as it is told to C.
 use Rattle.std.specs.Prelude.{◌≡◌, ◌++◌, ℕ, List, Option, None, Some, drop, if◌then◌else◌, length, map, nat_lt, take}
-use Rattle.infer_evidence.specs.Evidence.{IsOf, ranges_of}
+use Rattle.infer_evidence.specs.Evidence.{IsOf, ranges_of, row_of}
 use Rattle.infer_evidence.specs.declared.ranges.Evidence.{Evidence}
 use Rattle.infer_evidence.specs.declared.ranges.Range.{Range}
 use Rattle.infer_more.specs.Wider.{shown}
@@ -15,7 +15,7 @@ among_rows None = None
 
 -- a range as C has it: its row is -1 if it tells of no single one
 abbrev pub range_written : Range → WrittenRange
-range_written r = record { place = r.place; len = r.len; row = row_code (among_rows r.row) }
+range_written r = record { place = r.place; len = r.len; step = r.step; row = row_code (among_rows (row_of r)) }
 
 -- the room begins with the ranges, as many as it holds, and behind them it stays
 abbrev pub WritesRanges : List Range → List WrittenRange → List WrittenRange → Type 0

@@ -175,7 +175,7 @@ pub extern "C" fn infer_evidence(buf: &[u8], ranges: &mut [WrittenRange], needs:
     ensures first { (first : Option ℕ) × IsFirstOf (Accepts buf.now) table first
         × (result ≡ row_code first)
         × TellsWhy (λ e. Decides e buf.now first) buf.now ranges.old ranges.new needs.new }
-    ensures few { needs.new.wanted ≤ 101 }
+    ensures few { needs.new.wanted ≤ 68 }
 {
     let mut evidence = Evidence::new();
     let found = infer::evidence(buf, &mut evidence);

@@ -8,12 +8,14 @@ use infer::rows::ROW_COUNT;
 use infer_evidence::{Evidence, Range};
 use infer_more::{FURTHER_COUNT, laws};
 
-/// Bytes of a buffer: `len` of them from `place` on, and the number of the row of which they tell, or -1.
+/// Bytes of a buffer: `len` of them, the first at `place` and each other `step` behind the one before, and the number of the
+/// row of which they tell, or -1.
 #[repr(C)]
 #[derive(Clone, Copy)]
 pub struct WrittenRange {
     pub place: usize,
     pub len: usize,
+    pub step: usize,
     pub row: i32,
 }
 
@@ -55,7 +57,8 @@ fn written(range: &Range) -> WrittenRange
     WrittenRange {
         place: range.place,
         len: range.len,
-        row: number(range.row),
+        step: range.step as usize,
+        row: number(range.row()),
     }
 }
 
