@@ -1,10 +1,10 @@
 -- Why bytes have their answer: which of them tell it, and what is needed of their length.
-use Rattle.std.specs.Prelude.{◌≡◌, ◌==◌, ◌||◌, ℕ, Bool, true, false, List, Option, None, Some, MatchBool, MatchOption, drop, if◌then◌else◌, length, map, nat_le, take}
+use Rattle.std.specs.Prelude.{◌≡◌, ◌==◌, ◌||◌, ℕ, Bool, true, false, List, [], Option, None, Some, MatchBool, MatchOption, drop, if◌then◌else◌, length, map, nat_le, take}
 use Rattle.infer.specs.Evidence as built_in
 use Rattle.infer.specs.First.{IsFirstOf}
 use Rattle.infer.specs.Row.{Accepts}
 use Rattle.infer.specs.Table.{table}
-use Rattle.infer_evidence.specs.Evidence.{IsOf, ranges_of}
+use Rattle.infer_evidence.specs.Evidence.{IsOf, ranges_of, row_of}
 use Rattle.infer_evidence.specs.declared.ranges.Evidence.{Evidence}
 use Rattle.infer_evidence.specs.declared.ranges.Range.{Range}
 use Rattle.infer_evidence.specs.declared.ranges.TheConstants.{MOST_RANGES}
@@ -15,9 +15,12 @@ use Rattle.infer_label.specs.declared.options.Look.TheVariants as looks
 use Rattle.infer_label.specs.declared.why.Reason as reason_code
 use Rattle.infer_label.specs.declared.why.Why as code
 
--- bytes that tell: their place, the row of which they tell, if it is a single one, and whether it accepts by them
+-- bytes that tell: the place of the first, how many they are, how far each other stands behind the one before, the bytes if
+-- they stand side by side, the row of which they tell, if it is a single one, and whether it accepts by them
 pub record Reason : Type 0 where
   pub place : ℕ
+  pub len : ℕ
+  pub step : ℕ
   pub bytes : List ℕ
   pub row : Option ℕ
   pub accepts : Bool
@@ -40,13 +43,19 @@ abbrev pub is_accepting : (answer built_in : Option ℕ) → Option ℕ → Bool
 is_accepting answer built_in None = false
 is_accepting answer built_in (Some i) = is_that answer i || is_that built_in i
 
+-- the bytes of a range of b, if they stand side by side
+abbrev pub bytes_of : List ℕ → Range → List ℕ
+bytes_of b r = if r.step == 1 then take r.len (drop r.place b) else []
+
 -- the reason that a range of b is
 abbrev pub reason_of : List ℕ → (answer built_in : Option ℕ) → Range → Reason
 reason_of b answer built_in r = record {
   place = r.place;
-  bytes = take r.len (drop r.place b);
-  row = r.row;
-  accepts = is_accepting answer built_in r.row;
+  len = r.len;
+  step = r.step;
+  bytes = bytes_of b r;
+  row = row_of r;
+  accepts = is_accepting answer built_in (row_of r);
 }
 
 -- what evidence of b tells
@@ -94,7 +103,7 @@ IsWhy false look b why = why ≡ None
 
 -- both as the code has them
 abbrev pub reason_listed : reason_code.Reason → Reason
-reason_listed r = record { place = r.place; bytes = r.bytes.now; row = r.row; accepts = r.accepts }
+reason_listed r = record { place = r.place; len = r.len; step = r.step; bytes = r.bytes.now; row = r.row; accepts = r.accepts }
 
 abbrev pub why_listed : code.Why → Why
 why_listed w = why_by w.buf.now w.answer w.built_in w.evidence

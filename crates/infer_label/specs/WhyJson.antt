@@ -1,5 +1,5 @@
 -- Why bytes have their answer, as a member of an object of JSON.
-use Rattle.std.specs.Prelude.{ℕ, Bool, true, false, List, [], ◌++◌, Option, None, Some, codes, length, map}
+use Rattle.std.specs.Prelude.{ℕ, Bool, true, false, List, [], ◌++◌, Option, None, Some, codes, ◌==◌, if◌then◌else◌, map}
 use Rattle.std.specs.Fmt.{decimal}
 use Rattle.std.specs.List.{flat_map}
 use Rattle.infer.specs.Triple.{Triple}
@@ -17,16 +17,19 @@ abbrev pub bool_value : Bool → List ℕ
 bool_value true = codes "true"
 bool_value false = codes "false"
 
--- bytes that tell, and the row of which they do
+-- bytes that tell: null if they stand apart, and else each; and the row of which they do
+abbrev pub bytes_value : Reason → List ℕ
+bytes_value r = if r.step == 1 then codes "\"" ++ (flat_map byte_hex r.bytes ++ codes "\"") else codes "null"
+
 abbrev pub bytes_members : Reason → List ℕ
 bytes_members r =
-    codes "{\"place\":" ++ (decimal r.place ++ (codes ",\"length\":" ++ (decimal (length r.bytes) ++ (codes ",\"bytes\":\"" ++ flat_map byte_hex r.bytes))))
+    codes "{\"place\":" ++ (decimal r.place ++ (codes ",\"length\":" ++ (decimal r.len ++ (codes ",\"step\":" ++ (decimal r.step ++ (codes ",\"bytes\":" ++ bytes_value r))))))
 
 abbrev pub accepts_member : Bool → List ℕ
 accepts_member accepts = codes ",\"accepts\":" ++ (bool_value accepts ++ codes "}")
 
 abbrev pub row_members : Reason → List ℕ
-row_members r = codes "\",\"extension\":" ++ (extension_value (shown_at r.row) ++ accepts_member r.accepts)
+row_members r = codes ",\"extension\":" ++ (extension_value (shown_at r.row) ++ accepts_member r.accepts)
 
 abbrev pub range_object : Reason → List ℕ
 range_object r = bytes_members r ++ row_members r

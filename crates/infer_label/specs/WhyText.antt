@@ -1,5 +1,5 @@
 -- Why bytes have their answer, in words.
-use Rattle.std.specs.Prelude.{◌+◌, ◌/◌, ◌%◌, ◌==◌, ◌&&◌, ◌||◌, ℕ, Bool, true, false, List, [], ◌∷◌, ◌++◌, Option, None, Some, codes, if◌then◌else◌, is_some, length, nat_le, nat_lt, not}
+use Rattle.std.specs.Prelude.{◌+◌, ◌-◌, ◌*◌, ◌/◌, ◌%◌, ◌==◌, ◌&&◌, ◌||◌, ℕ, Bool, true, false, List, [], ◌∷◌, ◌++◌, Option, None, Some, codes, if◌then◌else◌, is_some, length, nat_le, nat_lt, not}
 use Rattle.std.specs.Fmt.{decimal}
 use Rattle.std.specs.List.{flat_map, list_any}
 use Rattle.infer.specs.Triple.{Triple}
@@ -40,7 +40,7 @@ abbrev pub row_words : Option Triple → List ℕ
 row_words (Some t) = t.extension ++ (codes " " ++ class_word t.class)
 row_words None = codes "other type"
 
--- bytes: one by one if they are few, and else how many they are
+-- bytes: one by one if they are few and stand side by side, and else how many they are
 abbrev pub large_digit : ℕ → ℕ
 large_digit n = if nat_lt n 10 then 0x30 + n else 0x37 + n
 
@@ -50,8 +50,18 @@ byte_shown x = large_digit (x / 16 % 16) ∷ large_digit (x % 16) ∷ 0x20 ∷ [
 abbrev pub counted : ℕ → List ℕ
 counted n = decimal n ++ (if n == 1 then codes " byte" else codes " bytes")
 
-abbrev pub bytes_shown : List ℕ → List ℕ
-bytes_shown bytes = if nat_le (length bytes) MOST_SHOWN then flat_map byte_shown bytes else counted (length bytes) ++ codes " "
+abbrev pub are_shown : Reason → Bool
+are_shown r = r.step == 1 && nat_le r.len MOST_SHOWN
+
+abbrev pub bytes_text : Reason → List ℕ
+bytes_text r = if are_shown r then flat_map byte_shown r.bytes else counted r.len ++ codes " "
+
+-- where the first of them stands, and if they stand apart, one in how many they are
+abbrev pub step_text : ℕ → List ℕ
+step_text step = if step == 1 then [] else codes ", one in " ++ decimal step
+
+abbrev pub place_text : Reason → List ℕ
+place_text r = codes "at " ++ (decimal r.place ++ step_text r.step)
 
 -- what is ruled out. Bytes by which a row accepts stand alone
 abbrev pub ruled_out : Bool → Option ℕ → List ℕ
@@ -60,7 +70,7 @@ ruled_out false None = codes "nothing that begins otherwise: "
 ruled_out false (Some i) = codes "no " ++ (row_words (shown_at (Some i)) ++ codes ": ")
 
 abbrev pub reason_text : Reason → List ℕ
-reason_text r = ruled_out r.accepts r.row ++ (bytes_shown r.bytes ++ (codes "at " ++ decimal r.place))
+reason_text r = ruled_out r.accepts r.row ++ (bytes_text r ++ place_text r)
 
 abbrev pub text_if : Bool → Reason → List (List ℕ)
 text_if is_told r = if is_told then reason_text r ∷ [] else []
@@ -71,7 +81,7 @@ own_texts reasons = flat_map (λ r. text_if r.accepts r) reasons
 
 -- then what they rule out. The first byte, which tells of no single row, is left out where a row's bytes begin with it
 abbrev pub has_first : Reason → Bool
-has_first r = is_some r.row && (r.place == 0 && nat_lt 0 (length r.bytes))
+has_first r = is_some r.row && (r.place == 0 && nat_lt 0 r.len)
 
 abbrev pub is_other : Bool → Reason → Bool
 is_other first_is_told r = not r.accepts && (is_some r.row || not first_is_told)
@@ -80,8 +90,11 @@ abbrev pub other_texts : List Reason → List (List ℕ)
 other_texts reasons = flat_map (λ r. text_if (is_other (list_any has_first reasons) r) r) reasons
 
 -- then what is needed of the length, unless some bytes end there or behind; and that these are not all reasons
+abbrev pub end_of : Reason → ℕ
+end_of r = if r.len == 0 then r.place else r.place + (r.len - 1) * r.step + 1
+
 abbrev pub reaches : ℕ → Reason → Bool
-reaches n r = nat_le n (r.place + length r.bytes)
+reaches n r = nat_le n (end_of r)
 
 abbrev pub least_texts : Bool → ℕ → List (List ℕ)
 least_texts true n = []

@@ -4,7 +4,7 @@ ghost use Rattle.infer.specs.Triple.{triple_of};
 ghost use Rattle.infer_evidence.specs.Evidence.{ranges_of};
 ghost use Rattle.infer_more.specs.Wider.{shown_at};
 ghost use Rattle.infer_label.specs.Options.{options_listed};
-ghost use Rattle.infer_label.specs.Why.{IsBuiltInWhy, IsWhy, IsWhyBy, IsWiderWhy, is_accepting, is_that, reason_listed, reason_of, why_listed};
+ghost use Rattle.infer_label.specs.Why.{IsBuiltInWhy, IsWhy, IsWhyBy, IsWiderWhy, bytes_of, is_accepting, is_that, reason_listed, reason_of, why_listed};
 
 use crate::options::{Look, Options};
 use infer::Type;
@@ -22,9 +22,13 @@ pub struct Why<'a> {
 /// Bytes that tell.
 #[derive(Clone, Copy)]
 pub struct Reason<'a> {
-    /// Where they stand.
+    /// Where the first stands.
     pub place: usize,
-    /// The bytes.
+    /// How many they are.
+    pub len: usize,
+    /// How far each other stands behind the one before.
+    pub step: u32,
+    /// The bytes, if they stand side by side.
     pub bytes: &'a [u8],
     /// The row of which they tell, if it is a single one.
     pub row: Option<usize>,
@@ -104,9 +108,11 @@ impl<'a> Why<'a> {
     {
         Reason {
             place: range.place,
-            bytes: bytes_at(self.buf, range.place, range.len),
-            row: range.row,
-            accepts: self.is_accepting(range.row),
+            len: range.len,
+            step: range.step,
+            bytes: bytes_of(self.buf, range),
+            row: range.row(),
+            accepts: self.is_accepting(range.row()),
         }
     }
 
@@ -152,6 +158,17 @@ fn is_that(row: Option<usize>, i: usize) -> bool
     match row {
         Some(j) => j == i,
         None => false,
+    }
+}
+
+/// The bytes of a range, if they stand side by side.
+fn bytes_of<'a>(buf: &'a [u8], range: &Range) -> &'a [u8]
+    ensures { result.now ≡ bytes_of buf.entry.now range.now }
+{
+    if range.step == 1 {
+        bytes_at(buf, range.place, range.len)
+    } else {
+        &[]
     }
 }
 

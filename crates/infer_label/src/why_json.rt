@@ -3,7 +3,7 @@ ghost use Rattle.std.specs.Prelude.{◌≡◌, ◌∷◌, [], false, map, option
 ghost use Rattle.infer.specs.Triple.{triple_of};
 ghost use Rattle.infer_more.specs.Wider.{shown_at};
 ghost use Rattle.infer_label.specs.Why.{reason_listed, why_listed};
-ghost use Rattle.infer_label.specs.WhyJson.{accepts_member, answer_member, bool_value, bytes_members, extension_value, length_members, range_object, ranges_member, row_members, why_member, why_object};
+ghost use Rattle.infer_label.specs.WhyJson.{accepts_member, answer_member, bool_value, bytes_members, bytes_value, extension_value, length_members, range_object, ranges_member, row_members, why_member, why_object};
 ghost use Rattle.infer_label.specs.WhyText.{in_row, mark_if};
 ghost use Rattle.infer_label.specs.Writes.{Writes};
 
@@ -83,15 +83,30 @@ fn write_object<W: Write>(reason: &Reason<'_>, out: &mut WatchedWriter<'_, W>)
 fn write_bytes_members<W: Write>(reason: &Reason<'_>, out: &mut WatchedWriter<'_, W>)
     ensures { Writes W.contents out.old out.new (bytes_members (reason_listed reason.now)) }
 {
-    let (place, length) = (reason.place, reason.bytes.len());
-    write!(out, "{{\"place\":{place},\"length\":{length},\"bytes\":\"");
+    let (place, length, step) = (reason.place, reason.len, reason.step);
+    write!(
+        out,
+        "{{\"place\":{place},\"length\":{length},\"step\":{step},\"bytes\":"
+    );
+    write_bytes_value(reason, out);
+}
+
+/// Writes the bytes if they stand side by side, and else null.
+fn write_bytes_value<W: Write>(reason: &Reason<'_>, out: &mut WatchedWriter<'_, W>)
+    ensures { Writes W.contents out.old out.new (bytes_value (reason_listed reason.now)) }
+{
+    if reason.step != 1 {
+        return out.write_all(b"null");
+    }
+    out.write_all(b"\"");
     write_hex(reason.bytes, out);
+    out.write_all(b"\"");
 }
 
 fn write_row_members<W: Write>(reason: &Reason<'_>, out: &mut WatchedWriter<'_, W>)
     ensures { Writes W.contents out.old out.new (row_members (reason_listed reason.now)) }
 {
-    out.write_all(b"\",\"extension\":");
+    out.write_all(b",\"extension\":");
     write_extension_of(reason.row, out);
     write_accepts_member(reason.accepts, out);
 }

@@ -4,7 +4,7 @@ ghost use Rattle.std.specs.Fmt.{decimal};
 ghost use Rattle.std.specs.List.{flat_map, list_any};
 ghost use Rattle.infer.specs.Triple.{triple_of};
 ghost use Rattle.infer_label.specs.Why.{reason_listed, why_listed};
-ghost use Rattle.infer_label.specs.WhyText.{byte_shown, bytes_shown, class_word, counted, has_first, in_row, is_other, large_digit, length_texts, mark_if, other_texts, own_texts, reaches, reason_text, reasons_text, room_texts, row_words, ruled_out, stands_before, text_if, why_text};
+ghost use Rattle.infer_label.specs.WhyText.{are_shown, byte_shown, bytes_text, class_word, counted, has_first, in_row, is_other, large_digit, length_texts, mark_if, other_texts, own_texts, place_text, reaches, reason_text, reasons_text, room_texts, row_words, ruled_out, stands_before, step_text, text_if, why_text};
 ghost use Rattle.infer_label.specs.Writes.{Writes};
 
 use crate::why::{Reason, Why, type_of};
@@ -115,7 +115,7 @@ fn tells_first(why: &Why<'_>) -> bool
 fn has_first(reason: &Reason<'_>) -> bool
     ensures { result ≡ has_first (reason_listed reason.now) }
 {
-    reason.row.is_some() && reason.place == 0 && !reason.bytes.is_empty()
+    reason.row.is_some() && reason.place == 0 && reason.len > 0
 }
 
 /// Whether some bytes end there, or behind, where the least length does.
@@ -134,7 +134,11 @@ fn reaches_least(why: &Why<'_>) -> bool
 fn reaches(n: usize, reason: &Reason<'_>) -> bool
     ensures { result ≡ reaches n (reason_listed reason.now) }
 {
-    n.saturating_sub(reason.bytes.len()) <= reason.place
+    if reason.len == 0 {
+        return n <= reason.place;
+    }
+    let extent = (reason.len - 1).saturating_mul(reason.step as usize);
+    n <= reason.place.saturating_add(extent).saturating_add(1)
 }
 
 /// Whether the reason rules out, and that is to be told.
@@ -174,9 +178,8 @@ fn write_reason<W: Write>(reason: &Reason<'_>, out: &mut WatchedWriter<'_, W>)
     ensures { Writes W.contents out.old out.new (reason_text (reason_listed reason.now)) }
 {
     write_ruled_out(reason.accepts, reason.row, out);
-    write_bytes(reason.bytes, out);
-    let place = reason.place;
-    write!(out, "at {place}");
+    write_bytes(reason, out);
+    write_place(reason, out);
 }
 
 /// Writes what is ruled out.
@@ -224,15 +227,39 @@ fn class_word(class: MatcherType) -> &'static str
     }
 }
 
-/// Writes bytes one by one if they are few, and else how many they are.
-fn write_bytes<W: Write>(bytes: &[u8], out: &mut WatchedWriter<'_, W>)
-    ensures { Writes W.contents out.old out.new (bytes_shown bytes.now) }
+/// Writes bytes one by one if they are few and stand side by side, and else how many they are.
+fn write_bytes<W: Write>(reason: &Reason<'_>, out: &mut WatchedWriter<'_, W>)
+    ensures { Writes W.contents out.old out.new (bytes_text (reason_listed reason.now)) }
 {
-    if bytes.len() <= MOST_SHOWN {
-        return write_each(bytes, out);
+    if are_shown(reason) {
+        return write_each(reason.bytes, out);
     }
-    write_count(bytes.len(), out);
+    write_count(reason.len, out);
     out.write_all(b" ");
+}
+
+fn are_shown(reason: &Reason<'_>) -> bool
+    ensures { result ≡ are_shown (reason_listed reason.now) }
+{
+    reason.step == 1 && reason.len <= MOST_SHOWN
+}
+
+/// Writes where they stand.
+fn write_place<W: Write>(reason: &Reason<'_>, out: &mut WatchedWriter<'_, W>)
+    ensures { Writes W.contents out.old out.new (place_text (reason_listed reason.now)) }
+{
+    let place = reason.place;
+    write!(out, "at {place}");
+    write_step(reason.step, out);
+}
+
+/// Writes one in how many bytes they are, if they stand apart.
+fn write_step<W: Write>(step: u32, out: &mut WatchedWriter<'_, W>)
+    ensures { Writes W.contents out.old out.new (step_text step) }
+{
+    if step != 1 {
+        write!(out, ", one in {step}");
+    }
 }
 
 fn write_each<W: Write>(bytes: &[u8], out: &mut WatchedWriter<'_, W>)

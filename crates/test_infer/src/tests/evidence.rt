@@ -27,9 +27,25 @@ const NONE_BEFORE_TAR: [Bytes; 4] = [(4, 8), (8, 12), (12, 16), (60, 68)];
 
 const NONE_BEFORE_PDF: [Bytes; 5] = [(4, 8), (8, 12), (12, 16), (60, 68), (257, 262)];
 
+/// Whether a byte of the range stands there.
+fn has(range: &Range, place: usize) -> bool {
+    for k in 0..range.len {
+        if place_in(range, k) == place {
+            return true;
+        }
+    }
+    false
+}
+
+/// Where a byte of the range stands.
+fn place_in(range: &Range, k: usize) -> usize {
+    let behind = k.saturating_mul(range.step as usize);
+    range.place.saturating_add(behind)
+}
+
 fn is_named(evidence: &Evidence, place: usize) -> bool {
     for range in evidence.ranges() {
-        if range.place <= place && place - range.place < range.len {
+        if has(range, place) {
             return true;
         }
     }
@@ -51,7 +67,9 @@ fn named(evidence: &Evidence, bytes: &Bytes) -> usize {
 fn needed(evidence: &Evidence) -> usize {
     let mut needed = evidence.least();
     for range in evidence.ranges() {
-        needed = needed.max(range.place.saturating_add(range.len));
+        if range.len > 0 {
+            needed = needed.max(place_in(range, range.len - 1).saturating_add(1));
+        }
     }
     needed
 }
@@ -274,6 +292,119 @@ fn no_row(rt: HostRuntime) -> Result<(), Fail> {
     Ok(())
 }
 
+/// The place of the first byte, how many they are, and how far each other stands behind the one before.
+type Places = (usize, usize, u32);
+
+fn is_of(range: &Range, places: Places) -> bool {
+    (range.place, range.len, range.step) == places
+}
+
+/// Zeros but for the texts, and the ranges by which "%PDF" stands nowhere in the first 1024 bytes. The byte at 3 tells it of
+/// the places 0 to 3 if it is none of "%PDF". Otherwise the one before tells it of fewer places, and so on, from each place of
+/// which it is not told yet.
+#[derive(Clone, Copy)]
+struct Searched<'a> {
+    texts: &'a [(usize, &'a [u8])],
+    len: usize,
+    ranges: &'a [Places],
+}
+
+const SEARCHES: [Searched; 9] = [
+    Searched {
+        texts: &[],
+        len: 3,
+        ranges: &[],
+    },
+    Searched {
+        texts: &[],
+        len: 10,
+        ranges: &[(3, 2, 4)],
+    },
+    Searched {
+        texts: &[],
+        len: 300,
+        ranges: &[(3, 75, 4)],
+    },
+    Searched {
+        texts: &[],
+        len: 3000,
+        ranges: &[(3, 256, 4)],
+    },
+    // The byte at 103 may be that of a text at 100. The one before tells it of 100 to 102.
+    Searched {
+        texts: &[(103, b"F")],
+        len: 300,
+        ranges: &[(3, 25, 4), (102, 50, 4)],
+    },
+    // Of place 100 the byte at 101 tells it alone.
+    Searched {
+        texts: &[(100, b"%%%%")],
+        len: 300,
+        ranges: &[(3, 25, 4), (101, 2, 3), (108, 48, 4)],
+    },
+    // It would end behind the first 1024 bytes.
+    Searched {
+        texts: &[(1022, b"%PDF")],
+        len: 3000,
+        ranges: &[(3, 255, 4), (1021, 1, 1)],
+    },
+    Searched {
+        texts: &[(0, b"%%%%%%%%%%%%")],
+        len: 12,
+        ranges: &[(1, 9, 1)],
+    },
+    // D at 1, F at 4, D at 5, F at 8.
+    Searched {
+        texts: &[(0, b"FDP%FDP%FDP%")],
+        len: 12,
+        ranges: &[(1, 2, 3), (5, 2, 3)],
+    },
+];
+
+/// How many ranges the row has, or none if they are others than these.
+fn are_of(evidence: &Evidence, row: usize, wanted: &[Places]) -> Option<usize> {
+    let mut count = 0;
+    for range in evidence.ranges() {
+        if range.row() == Some(row) {
+            if count >= wanted.len() || !is_of(range, wanted[count]) {
+                return None;
+            }
+            count += 1;
+        }
+    }
+    Some(count)
+}
+
+/// The ranges of a search that finds nothing.
+#[test]
+fn searches(rt: HostRuntime) -> Result<(), Fail> {
+    for (i, case) in SEARCHES.iter().enumerate() {
+        let buf = filled_but(rt.alloc(), 0, case.len, case.texts)?;
+        let mut evidence = Evidence::new();
+        assert!(rt;
+            infer::evidence(buf.as_slice(), &mut evidence).is_none(),
+            "case {i}"
+        );
+        assert!(rt;
+            are_of(&evidence, rows::PDF, case.ranges) == Some(case.ranges.len()),
+            "case {i}"
+        );
+        assert!(rt; evidence.is_exact() == (case.len < 1024), "case {i}");
+    }
+    Ok(())
+}
+
+/// A text that is found is told by its first place, and the length by its end.
+#[test]
+fn found(rt: HostRuntime) -> Result<(), Fail> {
+    let buf = filled_but(rt.alloc(), 0, 2000, &[(700, b"%PDF"), (800, b"%PDF")])?;
+    let mut evidence = Evidence::new();
+    assert!(rt; infer::evidence(buf.as_slice(), &mut evidence) == Some(rows::PDF));
+    assert!(rt; are_of(&evidence, rows::PDF, &[(700, 4, 1)]) == Some(1));
+    assert!(rt; evidence.least() == 704 && !evidence.is_exact());
+    Ok(())
+}
+
 /// The ranges of a PNG image, each with its row: its own, that of the book, and the first byte.
 #[test]
 fn rows_of_ranges(rt: HostRuntime) -> Result<(), Fail> {
@@ -282,12 +413,12 @@ fn rows_of_ranges(rt: HostRuntime) -> Result<(), Fail> {
     infer::evidence(buf.as_slice(), &mut evidence);
     let mut own = false;
     let mut book = false;
-    for Range { place, len, row } in evidence.ranges() {
-        match *row {
-            None => assert!(rt; *place == 0 && *len == 1),
-            Some(rows::PNG) => own = *place == 0 && *len == 4,
-            Some(rows::MOBI) => book = 60 <= *place && *place + *len <= 68,
-            _ => assert!(rt; false, "{place}"),
+    for range in evidence.ranges() {
+        match range.row() {
+            None => assert!(rt; is_of(range, (0, 1, 1))),
+            Some(rows::PNG) => own = is_of(range, (0, 4, 1)),
+            Some(rows::MOBI) => book = is_of(range, (60, 1, 1)),
+            _ => assert!(rt; false, "another row"),
         }
     }
     assert!(rt; own && book);
@@ -359,9 +490,9 @@ fn further_rows_of_ranges(rt: HostRuntime) -> Result<(), Fail> {
     let found = infer_more::evidence(text, &mut evidence);
     let mut own = false;
     let mut message = false;
-    for Range { place, len, row } in evidence.ranges() {
-        own = own || *row == found && *place == 0 && *len == 36;
-        message = message || *row == further("pgp") && 15 <= *place && *place + *len <= 27;
+    for range in evidence.ranges() {
+        own = own || range.row() == found && is_of(range, (0, 36, 1));
+        message = message || range.row() == further("pgp") && is_of(range, (15, 1, 1));
     }
     assert!(rt; found.is_some() && own && message);
     Ok(())
