@@ -161,7 +161,8 @@ static void tell(const struct trial *trials, size_t count, bool is_wider, int32_
     it.named = wanted(calloc(len + 1, sizeof *it.named));
     it.is_forced = wanted(calloc(len + 1, sizeof *it.is_forced));
     for (size_t i = 0; i < needs.wanted && i < INFER_MOST_RANGES; i++) {
-        memset(it.named + ranges[i].place, true, ranges[i].len);
+        for (size_t k = 0; k < ranges[i].len; k++)
+            it.named[ranges[i].place + k * ranges[i].step] = true;
         has_row |= ranges[i].row == row;
     }
     for (size_t place = 0; place < len; place++)

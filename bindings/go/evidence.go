@@ -22,13 +22,14 @@ static struct evidence more_evidence(const uint8_t *buf, size_t len) {
 */
 import "C"
 
-// Range is bytes that decide an answer: where the first of them stands, how many they are, the type of which they tell, and
-// whether it accepts by them: this is the answer, or the built-in one that it makes more exact. Otherwise they rule it out.
-// The type of the first byte is empty: it rules out all types that begin with another.
+// Range is bytes that decide an answer: where the first of them stands, how many they are, how far each other is behind the
+// one before, which is 1 but for a search, the type of which they tell, and whether it accepts by them: this is the answer,
+// or the built-in one that it makes more exact. Otherwise they rule it out. The type of the first byte is empty: it rules out
+// all types that begin with another.
 type Range struct {
-	Place, Len int
-	Type       Type
-	Accepts    bool
+	Place, Len, Step int
+	Type             Type
+	Accepts          bool
 }
 
 // Evidence is what decides an answer: the answer, which is empty if there is none, bytes, how many ranges of them are wanted,
@@ -61,7 +62,7 @@ func evidenceOf(found *C.struct_evidence) Evidence {
 	for i := 0; i < evidence.Wanted && i < len(found.ranges); i++ {
 		it := &found.ranges[i]
 		of, isOne := typeOf(int(it.row))
-		evidence.Ranges = append(evidence.Ranges, Range{int(it.place), int(it.len), of, isOne && (it.row == found.row || it.row == found.built_in)})
+		evidence.Ranges = append(evidence.Ranges, Range{int(it.place), int(it.len), int(it.step), of, isOne && (it.row == found.row || it.row == found.built_in)})
 	}
 	return evidence
 }

@@ -534,14 +534,14 @@ func TestEvidence(t *testing.T) {
 		isExact bool
 	}{
 		{nil, DetectEvidence, nil, 0, true},
-		{[]byte("MZ"), DetectEvidence, []toldRange{byFirst, {2, 0, "exe"}}, 2, false},
-		{jpeg, DetectEvidence, []toldRange{byFirst, {3, 0, "jpg"}}, 3, true},
-		{jpeg, DetectMoreEvidence, []toldRange{byFirst, {3, 0, "jpg"}, {1, 3, "jls"}}, 3, true},
+		{[]byte("MZ"), DetectEvidence, []toldRange{{2, 0, "exe"}}, 2, false},
+		{jpeg, DetectEvidence, []toldRange{{3, 0, "jpg"}}, 3, true},
+		{jpeg, DetectMoreEvidence, []toldRange{{3, 0, "jpg"}, {1, 3, "jls"}}, 3, true},
 		// From 61 bytes on there is one at 60, which is no B of BOOKMOBI.
-		{png[:60], DetectEvidence, []toldRange{byFirst, byPNG}, 4, true},
-		{png[:61], DetectEvidence, []toldRange{byFirst, byMobi, byPNG}, 4, false},
-		{png, DetectEvidence, []toldRange{byFirst, byMobi, byPNG}, 4, false},
-		{png, DetectMoreEvidence, []toldRange{byFirst, byMobi, byPNG, {300, 0, "apng"}}, 4, true},
+		{png[:60], DetectEvidence, []toldRange{byPNG}, 4, true},
+		{png[:61], DetectEvidence, []toldRange{byPNG, byMobi}, 4, false},
+		{png, DetectEvidence, []toldRange{byPNG, byMobi}, 4, false},
+		{png, DetectMoreEvidence, []toldRange{byPNG, byMobi, {300, 0, "apng"}}, 4, true},
 		{tar, DetectEvidence, []toldRange{byFirst, byMobi, {1, 1, "png"}, {1, 8, "webp"}, {5, 0, "heif"}, {1, 12, "mov"}, {5, 257, "tar"}}, 262, false},
 	} {
 		found := it.tell(it.b)
@@ -569,9 +569,9 @@ func TestWhatIsNoEvidence(t *testing.T) {
 			if of, _ := ask.detect(b); of != found.Type || found.Wanted != len(found.Ranges) {
 				t.Errorf("%q: %v", b, found)
 			}
-			for _, it := range append(found.Ranges, Range{Len: found.Least}) {
-				if it.Place+it.Len > needed {
-					needed = it.Place + it.Len
+			for _, it := range append(found.Ranges, Range{Len: found.Least, Step: 1}) {
+				if behind := it.Place + (it.Len-1)*it.Step + 1; behind > needed {
+					needed = behind
 				}
 			}
 			for round := 0; round < 8; round++ {
@@ -582,7 +582,9 @@ func TestWhatIsNoEvidence(t *testing.T) {
 				other := make([]byte, size)
 				chance.Read(other)
 				for _, it := range found.Ranges {
-					copy(other[it.Place:it.Place+it.Len], b[it.Place:])
+					for k, place := 0, it.Place; k < it.Len; k, place = k+1, place+it.Step {
+						other[place] = b[place]
+					}
 				}
 				if of, _ := ask.detect(other); of != found.Type {
 					t.Errorf("%q beside %q: %v", other, b, of)

@@ -52,6 +52,8 @@ export interface EvidenceRange {
     readonly place: number;
     /** How many they are. */
     readonly length: number;
+    /** How far each other is behind the one before: 1 but for a search. */
+    readonly step: number;
     /** The type of which they tell. It is undefined of the first byte, which rules out all types that begin with another. */
     readonly type: KnownType | undefined;
     /** Whether it accepts by these bytes: this is the answer, or the built-in one that it makes more exact. Otherwise they rule it out. */

@@ -14,8 +14,8 @@ const TEXT = 256;
 const NUMBERS = FRONT + 2 * TEXT;
 const NEEDS = NUMBERS + 16;
 const RANGES = NEEDS + 24;
-const RANGE = 24;
-const MOST_RANGES = 128;
+const RANGE = 32;
+const MOST_RANGES = 80;
 const TYPES = RANGES + MOST_RANGES * RANGE;
 /** The smallest module with a 64-bit memory. */
 const WIDE = new Uint8Array([0, 97, 115, 109, 1, 0, 0, 0, 5, 3, 1, 4, 1]);
@@ -185,8 +185,8 @@ const evidenceOf = (question, input) => {
     const wanted = numberAt(NEEDS);
     const ranges = Array.from({ length: Math.min(wanted, MOST_RANGES) }, (_, index) => {
         const from = RANGES + index * RANGE;
-        const of = numbers.getInt32(from + 16, true);
-        return { place: numberAt(from), length: numberAt(from + 8), type: knownTypes[of], accepts: of >= 0 && accepting.includes(of) };
+        const of = numbers.getInt32(from + 24, true);
+        return { place: numberAt(from), length: numberAt(from + 8), step: numberAt(from + 16), type: knownTypes[of], accepts: of >= 0 && accepting.includes(of) };
     });
     return { type: answerOf(row), ranges, wanted, least: numberAt(NEEDS + 8), isExact: room[NEEDS + 16] !== 0 };
 };

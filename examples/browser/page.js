@@ -106,27 +106,27 @@ const afterText = ({ after, size }) => {
     return size <= FRONT ? `the end, ${counted(size, "byte")}` : `not by ${counted(FRONT, "byte")}`;
 };
 
-const isShown = ({ length }) => length <= LONGEST_SHOWN;
+const isShown = ({ length, step }) => step === 1 && length <= LONGEST_SHOWN;
 const hexOf = (byte) => byte.toString(16).padStart(2, "0").toUpperCase();
 
-/** A range in words: "89 50 4E 47 at 0", or "1,021 bytes at 0" of a longer one. */
+/** A range in words: "89 50 4E 47 at 0", "22 bytes at 0" of a longer one, or "256 bytes at 3, one in 4" of a search. */
 const rangeText = (front, range) => {
-    const { place, length } = range;
+    const { place, length, step } = range;
     const bytes = isShown(range) ? [...front.subarray(place, place + length)].map(hexOf).join(" ") : counted(length, "byte");
-    return `${bytes} at ${place.toLocaleString("en")}`;
+    return `${bytes} at ${place.toLocaleString("en")}${step > 1 ? `, one in ${step}` : ""}`;
 };
 
 /** The lines of a dump: the first, and those with a byte of a range that is shown. */
 const linesOf = (front, ranges) => {
     const last = Math.min(FIRST_LINES, Math.ceil(front.length / BYTES_IN_A_LINE));
-    const places = ranges.filter(isShown).flatMap(({ place, length }) => [...Array(length).keys()].map((at) => place + at));
+    const places = ranges.filter(isShown).flatMap(({ place, length, step }) => [...Array(length).keys()].map((at) => place + at * step));
     const shown = new Set([...Array(last).keys(), ...places.map((place) => Math.floor(place / BYTES_IN_A_LINE))]);
     return [...shown].sort((one, other) => one - other);
 };
 
 /** How a byte is marked: as one by which the row of the answer accepts, as one that rules another out, or not at all. */
 const markOf = (ranges, at) => {
-    const around = ranges.filter(({ place, length }) => place <= at && at < place + length);
+    const around = ranges.filter(({ place, length, step }) => place <= at && at < place + length * step && (at - place) % step === 0);
     if (around.some(({ accepts }) => accepts)) return "accepts";
     return around.length > 0 ? "rules-out" : undefined;
 };
@@ -164,7 +164,7 @@ const reasonsOf = (front, { ranges, wanted, least, isExact }) => {
     const sorted = [...shown.filter(({ accepts }) => accepts), ...shown.filter(({ accepts }) => !accepts)];
     const reasons = sorted.map((range) => [headOf(range), rangeText(front, range)]);
     if (isExact) reasons.push(["Of its length", `just ${counted(front.length, "byte")}`]);
-    else if (least > Math.max(0, ...ranges.map(({ place, length }) => place + length))) reasons.push(["Of its length", `at least ${counted(least, "byte")}`]);
+    else if (least > Math.max(0, ...ranges.map(({ place, length, step }) => place + (length - 1) * step + 1))) reasons.push(["Of its length", `at least ${counted(least, "byte")}`]);
     if (wanted > ranges.length) reasons.push(["And", "more than there is room for"]);
     return reasons;
 };

@@ -44,12 +44,14 @@ def hides_archive(path: str) -> bool:
 
 
 def told(file: BinaryIO, it: infer.Range) -> str:
-    """A range in words: "89 50 4E 47 at 0", or "no tar archive: 00 at 257" if it rules a type out."""
+    """A range in words: "89 50 4E 47 at 0", or "no pdf archive: 256 bytes at 3, one in 4" if it rules a type out."""
     file.seek(it.place)
-    data = file.read(it.length).hex(" ").upper() if it.length <= LONGEST_SHOWN else f"{it.length} bytes"
+    is_shown = it.step == 1 and it.length <= LONGEST_SHOWN
+    data = file.read(it.length).hex(" ").upper() if is_shown else f"{it.length} bytes"
+    words = f"{data} at {it.place}" + (f", one in {it.step}" if it.step > 1 else "")
     if it.type is None:
-        return f"nothing that begins otherwise: {data} at {it.place}"
-    return f"{data} at {it.place}" if it.accepts else f"no {it.type.extension} {WORDS.get(it.type.group, it.type.group)}: {data} at {it.place}"
+        return f"nothing that begins otherwise: {words}"
+    return words if it.accepts else f"no {it.type.extension} {WORDS.get(it.type.group, it.type.group)}: {words}"
 
 
 def reasons(path: str) -> str:
@@ -64,7 +66,7 @@ def reasons(path: str) -> str:
     # A range that reaches so far says so already.
     if found.is_exact:
         words.append(f"just {len(whole)} bytes")
-    elif found.least > max((it.place + it.length for it in found.ranges), default=0):
+    elif found.least > max((it.place + (it.length - 1) * it.step + 1 for it in found.ranges), default=0):
         words.append(f"at least {found.least} bytes")
     return "; ".join(words + ["and more than there is room for"] * (found.wanted > len(found.ranges)))
 

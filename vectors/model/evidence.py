@@ -36,7 +36,13 @@ NO_ROW = -1
 class Range(NamedTuple):
     place: int
     length: int
+    step: int
     row: int
+
+    @property
+    def places(self) -> range:
+        """The places of its bytes."""
+        return range(self.place, self.place + self.length * self.step, self.step)
 
 
 class Evidence(NamedTuple):
@@ -51,7 +57,7 @@ class Evidence(NamedTuple):
     @property
     def needed(self) -> int:
         """The least length that has all that is asked for."""
-        return max([self.least, *(it.place + it.length for it in self.ranges)])
+        return max([self.least, *(it.places[-1] + 1 for it in self.ranges)])
 
 
 def read(buf: bytes, line: str) -> Evidence | None:
@@ -163,13 +169,14 @@ class Changer:
         made = self.filled(evidence.buf, length)
         for place, text in texts:
             made[place : place + len(text)] = text[: max(length - place, 0)]
-        for place, size, _ in evidence.ranges:
-            made[place : place + size] = evidence.buf[place : place + size]
+        for it in evidence.ranges:
+            held = slice(it.place, it.places[-1] + 1, it.step)
+            made[held] = evidence.buf[held]
         return bytes(made)
 
     def without(self, evidence: Evidence, lacking: Range, place: int, byte: int) -> bytes:
         """One with that byte there, and any in the range and all that it shares bytes with."""
-        others = [it for it in evidence.ranges if it.place + it.length <= lacking.place or lacking.place + lacking.length <= it.place]
+        others = [it for it in evidence.ranges if not set(it.places) & set(lacking.places)]
         made = bytearray(self.changed(evidence._replace(ranges=others, least=evidence.needed)))
         made[place] = byte
         return bytes(made)
@@ -178,7 +185,7 @@ class Changer:
 def matters(changer: Changer, evidence: Evidence, lacking: Range) -> bool:
     """Whether the row refuses some buffer that has other bytes in the range."""
     alternatives = answers.fixed_of(evidence.row)
-    trials = itertools.product(range(ROUNDS), range(lacking.place, lacking.place + lacking.length), range(256))
+    trials = itertools.product(range(ROUNDS), lacking.places, range(256))
     return any(not answers.fits(alternatives, changer.without(evidence, lacking, place, byte)) for _, place, byte in trials)
 
 
@@ -197,7 +204,7 @@ class Tried:
     def fail(self, words: str, evidence: Evidence, buf: bytes) -> None:
         self.failed += 1
         if self.failed <= 10:
-            ranges = " ".join(f"{place}:{length}:{row}" for place, length, row in evidence.ranges[:20])
+            ranges = " ".join(":".join(map(str, it)) for it in evidence.ranges[:20])
             print(f"evidence.py: {words}: row {evidence.row} of {shown(evidence.buf)} by {ranges}, and {shown(buf)}")
 
     def evidences(self) -> Iterator[tuple[int, Evidence]]:
@@ -232,7 +239,7 @@ class Tried:
             if it.row == evidence.row:
                 self.counts["ranges by which a row accepts"] += 1
                 if not matters(self.changer, evidence, it):
-                    self.fail("the row accepts whatever the range has", evidence, evidence.buf[it.place : it.place + it.length])
+                    self.fail("the row accepts whatever the range has", evidence, evidence.buf[it.place : it.places[-1] + 1])
 
     def try_all(self, count: int) -> None:
         evidences = [*self.evidences()]

@@ -218,16 +218,17 @@ test("evidence names the bytes that decide", () => {
     tar.set(new TextEncoder().encode("ustar"), 257);
     const first = [1, 0, undefined];
     const byMobi = [1, 60, "mobi"];
+    const byPNG = [4, 0, "png"];
     const told = [
         [infer.evidence, new Uint8Array(), [], 0, true],
-        [infer.evidence, new TextEncoder().encode("MZ"), [first, [2, 0, "exe"]], 2, false],
-        [infer.evidence, jpeg, [first, [3, 0, "jpg"]], 3, true],
-        [infer.widerEvidence, jpeg, [first, [3, 0, "jpg"], [1, 3, "jls"]], 3, true],
+        [infer.evidence, new TextEncoder().encode("MZ"), [[2, 0, "exe"]], 2, false],
+        [infer.evidence, jpeg, [[3, 0, "jpg"]], 3, true],
+        [infer.widerEvidence, jpeg, [[3, 0, "jpg"], [1, 3, "jls"]], 3, true],
         // From 61 bytes on there is one at 60, which is no B of BOOKMOBI.
-        [infer.evidence, png.subarray(0, 60), [first, [4, 0, "png"]], 4, true],
-        [infer.evidence, png.subarray(0, 61), [first, byMobi, [4, 0, "png"]], 4, false],
-        [infer.evidence, png, [first, byMobi, [4, 0, "png"]], 4, false],
-        [infer.widerEvidence, png, [first, byMobi, [4, 0, "png"], [300, 0, "apng"]], 4, true],
+        [infer.evidence, png.subarray(0, 60), [byPNG], 4, true],
+        [infer.evidence, png.subarray(0, 61), [byPNG, byMobi], 4, false],
+        [infer.evidence, png, [byPNG, byMobi], 4, false],
+        [infer.widerEvidence, png, [byPNG, byMobi, [300, 0, "apng"]], 4, true],
         [infer.evidence, tar, [first, byMobi, [1, 1, "png"], [1, 8, "webp"], [5, 0, "heif"], [1, 12, "mov"], [5, 257, "tar"]], 262, false],
     ];
     for (const [tell, data, ranges, least, isExact] of told) {
@@ -236,13 +237,15 @@ test("evidence names the bytes that decide", () => {
         assert.deepEqual([found.wanted, found.least, found.isExact], [ranges.length, least, isExact]);
         for (const it of found.ranges) assert.equal(it.accepts, it.type !== undefined && it.type.ext === found.type.ext);
     }
-    assert.equal(infer.evidence(jpeg).ranges[1].type, infer.knownTypes.find((it) => it.ext === "jpg"));
+    assert.equal(infer.evidence(jpeg).ranges[0].type, infer.knownTypes.find((it) => it.ext === "jpg"));
     assert.throws(() => infer.evidence("text"), TypeError);
     // A text of types that was asked before is asked again.
     const types = new infer.Types('own own/own app - 1: @0 "o"');
     infer.evidence(png);
     assert.deepEqual(types.wider(new TextEncoder().encode("o")), { ext: "own", mime: "own/own" });
 });
+
+const placesOf = ({ place, length, step }) => Array.from({ length }, (_, at) => place + at * step);
 
 test("what is no evidence changes no answer", async () => {
     const next = generator(68);
@@ -251,10 +254,10 @@ test("what is no evidence changes no answer", async () => {
         for (const [ask, tell] of [[fileTypeFromBuffer, infer.evidence], [wider, infer.widerEvidence]]) {
             const found = tell(data);
             assert.deepEqual([found.type, found.wanted], [await ask(data), found.ranges.length]);
-            const needed = Math.max(found.least, ...found.ranges.map((it) => it.place + it.length));
+            const needed = Math.max(found.least, ...found.ranges.map((it) => placesOf(it).at(-1) + 1));
             for (let round = 0; round < 8; round += 1) {
                 const other = Uint8Array.from({ length: found.isExact ? data.length : needed + next(400) }, () => next(256));
-                for (const it of found.ranges) other.set(data.subarray(it.place, it.place + it.length), it.place);
+                for (const it of found.ranges.flatMap(placesOf)) other[it] = data[it];
                 assert.deepEqual(await ask(other), found.type, `${other} beside ${data}`);
             }
         }

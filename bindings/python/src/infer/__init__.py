@@ -209,6 +209,8 @@ class Range(NamedTuple):
     """Where the first of them stands."""
     length: int
     """How many they are."""
+    step: int
+    """How far each other is behind the one before: 1 but for a search."""
     type: Type | None
     """The type of which they tell. None is that of the first byte, which rules out all types that begin with another."""
     accepts: bool
@@ -240,7 +242,7 @@ def evidence(obj: Source, more: bool = False) -> Evidence:
     front = get_front(obj)
     row, ranges, wanted, least, is_exact = _library.evidence(front, more)
     accepting = {row, _library.position(front, len(front))} - {-1}
-    told = tuple(Range(place, length, _all_rows[of] if of >= 0 else None, of in accepting) for place, length, of in ranges)
+    told = tuple(Range(place, length, step, _all_rows[of] if of >= 0 else None, of in accepting) for place, length, step, of in ranges)
     return Evidence(_all_rows[row] if row >= 0 else None, told, wanted, least, is_exact)
 
 

@@ -135,11 +135,11 @@ def named(name: bytes, front: Sized) -> tuple[int, int, NamedTexts | None, Named
     return found.standing, found.row, _texts_of(found.told), _texts_of(found.name)
 
 
-_MOST_RANGES = 128
+_MOST_RANGES = 80
 
 
 class _Range(ctypes.Structure):
-    _fields_ = [("place", _SIZE), ("len", _SIZE), ("row", _ROW)]
+    _fields_ = [("place", _SIZE), ("len", _SIZE), ("step", _SIZE), ("row", _ROW)]
 
 
 class _Needs(ctypes.Structure):
@@ -151,12 +151,12 @@ _evidence, _more_evidence = (
 )
 
 
-def evidence(front: Sized, more: bool) -> tuple[int, list[tuple[int, int, int]], int, int, bool]:
-    """The number of the answer's row or -1, the place, the length and the row of each range, how many are wanted, and the
+def evidence(front: Sized, more: bool) -> tuple[int, list[tuple[int, int, int, int]], int, int, bool]:
+    """The number of the answer's row or -1, the place, the length, the step and the row of each range, how many are wanted, and the
     least length that is needed and whether just that of these bytes is."""
     ranges, needs = (_Range * _MOST_RANGES)(), _Needs()
     row = (_more_evidence if more else _evidence)(front, len(front), ranges, _MOST_RANGES, ctypes.byref(needs))
-    return row, [(it.place, it.len, it.row) for it in ranges[: needs.wanted]], needs.wanted, needs.least, needs.is_exact
+    return row, [(it.place, it.len, it.step, it.row) for it in ranges[: needs.wanted]], needs.wanted, needs.least, needs.is_exact
 
 
 oddities: Callable[[bytes, int], int] = _declare("infer_oddities", ctypes.c_uint32, _BUFFER, _SIZE)

@@ -9,6 +9,8 @@ pub struct Range {
     pub place: usize,
     /// How many they are.
     pub len: usize,
+    /// How far each other is behind the one before: 1 but for a search.
+    pub step: usize,
     /// The type of which they tell. `None` is that of the first byte, which rules out all types that begin with another.
     pub of: Option<Type>,
     /// Whether it accepts by these bytes: this is the answer, or the built-in one that it makes more exact. Otherwise they
@@ -35,7 +37,7 @@ impl Evidence {
     pub(crate) fn of(why: &Why) -> Evidence {
         let of_row = |row: i32| usize::try_from(row).ok().map(|row| ffi::all_rows()[row]);
         let accepts = |row: i32| row >= 0 && (row == why.row || row == why.built_in);
-        let range = |it: &ffi::Range| Range { place: it.place, len: it.len, of: of_row(it.row), accepts: accepts(it.row) };
+        let range = |it: &ffi::Range| Range { place: it.place, len: it.len, step: it.step, of: of_row(it.row), accepts: accepts(it.row) };
         Evidence {
             told: of_row(why.row),
             ranges: why.ranges().iter().map(range).collect(),

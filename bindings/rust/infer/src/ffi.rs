@@ -166,6 +166,7 @@ pub fn more_may_become(buf: &[u8], row: usize) -> bool {
 pub struct Range {
     pub place: usize,
     pub len: usize,
+    pub step: usize,
     pub row: i32,
 }
 
@@ -178,7 +179,7 @@ pub struct Needs {
 }
 
 /// Room for all ranges, `INFER_MOST_RANGES` of `infer.h`.
-const MOST_RANGES: usize = 128;
+const MOST_RANGES: usize = 80;
 
 /// The number of an answer's row, or -1, and what decides it.
 pub struct Why {
@@ -191,7 +192,7 @@ pub struct Why {
 impl Why {
     fn new() -> Why {
         let needs = Needs { wanted: 0, least: 0, is_exact: false };
-        Why { row: -1, built_in: -1, needs, room: [Range { place: 0, len: 0, row: -1 }; MOST_RANGES] }
+        Why { row: -1, built_in: -1, needs, room: [Range { place: 0, len: 0, step: 1, row: -1 }; MOST_RANGES] }
     }
 
     pub fn ranges(&self) -> &[Range] {

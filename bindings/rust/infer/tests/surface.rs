@@ -204,13 +204,13 @@ fn evidence_names_the_bytes_that_decide() {
     let png = placed(300, &[(0, b"\x89PNG\r\n\x1A\n")]);
     let tar = placed(300, &[(0, b"\x89"), (257, b"ustar")]);
     // From 61 bytes on there is one at 60, which is no B of BOOKMOBI.
-    let png_told = [(1, 0, ""), (1, 60, "mobi"), (4, 0, "png")];
+    let png_told = [(4, 0, "png"), (1, 60, "mobi")];
     let tar_told = [(1, 0, ""), (1, 60, "mobi"), (1, 1, "png"), (1, 8, "webp"), (5, 0, "heif"), (1, 12, "mov"), (5, 257, "tar")];
     let told: [Told; 7] = [
         (b"", &[], 0, true),
-        (b"MZ", &[(1, 0, ""), (2, 0, "exe")], 2, false),
-        (JPEG, &[(1, 0, ""), (3, 0, "jpg")], 3, true),
-        (&png[..60], &[(1, 0, ""), (4, 0, "png")], 4, true),
+        (b"MZ", &[(2, 0, "exe")], 2, false),
+        (JPEG, &[(3, 0, "jpg")], 3, true),
+        (&png[..60], &[(4, 0, "png")], 4, true),
         (&png[..61], &png_told, 4, false),
         (&png, &png_told, 4, false),
         (&tar, &tar_told, 262, false),
@@ -222,15 +222,23 @@ fn evidence_names_the_bytes_that_decide() {
         assert_eq!(found.ranges.iter().filter(|it| it.accepts).map(|it| it.of).collect::<Vec<_>>(), Vec::from_iter(found.told.map(Some)));
     }
     let found = infer::more::evidence(JPEG);
-    assert_eq!(told_of(&found), (vec![(1, 0, ""), (3, 0, "jpg"), (1, 3, "jls")], 3, true));
-    assert_eq!(told_of(&infer::more::evidence(&png)).0[3], (300, 0, "apng"));
+    assert_eq!(told_of(&found), (vec![(3, 0, "jpg"), (1, 3, "jls")], 3, true));
+    assert_eq!(told_of(&infer::more::evidence(&png)).0[2], (300, 0, "apng"));
     assert!(told_of(&infer::evidence(&[0; 300])).0.contains(&(1, 257, "tar")));
+    // No "%PDF" begins before the place 1021 where one byte in four is none of its letters.
+    let search = infer::evidence(&[0; 1100]).ranges.into_iter().find(|it| it.of.is_some_and(|kind| kind.extension() == "pdf"));
+    assert_eq!(search.map(|it| (it.len, it.place, it.step, it.accepts)), Some((256, 3, 4, false)));
 }
 
 /// A number that looks like one by chance: the next of a linear congruential generator.
 fn next(state: &mut u64) -> usize {
     *state = state.wrapping_mul(6364136223846793005).wrapping_add(1442695040888963407);
     (*state >> 33) as usize
+}
+
+/// The places of a range's bytes.
+fn places(range: &infer::Range) -> impl Iterator<Item = usize> {
+    (range.place..).step_by(range.step).take(range.len)
 }
 
 #[test]
@@ -243,12 +251,12 @@ fn what_is_no_evidence_changes_no_answer() {
         for (get, evidence) in asks {
             let found = evidence(&buf);
             assert_eq!((found.told, found.wanted), (get(&buf), found.ranges.len()));
-            let needed = found.ranges.iter().map(|it| it.place + it.len).fold(found.least, usize::max);
+            let needed = found.ranges.iter().flat_map(places).map(|place| place + 1).fold(found.least, usize::max);
             assert!(needed <= buf.len());
             for _ in 0..8 {
                 let len = if found.is_exact { buf.len() } else { needed + next(&mut state) % 400 };
                 let mut other: Vec<u8> = (0..len).map(|_| next(&mut state) as u8).collect();
-                found.ranges.iter().for_each(|it| other[it.place..it.place + it.len].copy_from_slice(&buf[it.place..it.place + it.len]));
+                found.ranges.iter().flat_map(places).for_each(|place| other[place] = buf[place]);
                 assert_eq!(get(&other), found.told, "{other:?} beside {buf:?}");
             }
         }
