@@ -1,9 +1,12 @@
 """Makes the index of the further rows from their signatures: which rows are tried below each built-in row, by the first
-byte, and behind a guard, a byte elsewhere in the buffer. One gate, a byte too, has guards of its own. An entry names a row
-and one more byte that it asks, so that few rows are tried whole. Rows that ask for a program, a root or a package are told
-by a name, and the texts last. The check refuses an index that leaves a row out; here only what is cheap is chosen."""
+byte and a second one, and behind a guard, a byte elsewhere in the buffer. One gate, a byte too, has guards of its own. An
+entry names a row and one more byte that it asks, so that few rows are tried whole. Rows that ask for a program, a root or a
+package are told by a name, and the texts last. The check refuses an index that leaves a row out; here only what is cheap is
+chosen."""
 import ast
+import itertools
 import re
+import textwrap
 from typing import NamedTuple
 
 from terms import Unread, term_of
@@ -17,14 +20,15 @@ BEHIND = 12
 HEAD = """//! Made by `tools/tables` from the further rows, the lists of the index: a place, a byte there, and a row, or a name and a
 //! row. Those below each built-in row stand in its order, but for those that are told by names, which have lists of their
 //! own; and those by the first byte eight a line.
-ghost use Rattle.std.specs.Prelude.{{Some, List, [], ◌∷◌}};
+ghost use Rattle.std.specs.Prelude.{{◌↔◌, IsTrue, Some, List, [], ◌∷◌}};
 ghost use Rattle.infer_more.specs.Index.{{AreWaysBelow, IsWayBelow}};
+ghost use Rattle.infer_more.specs.Parents.{{has_row_below}};
 ghost use Rattle.infer_more.specs.Wider.{{IsWidened}};
 
 use crate::index::Below::{{ClassIds, Entries, Nothing, Packages, Programs, Roots}};
-use crate::index::asked::{{below_at, found_row_apart}};
+use crate::index::asked::{{below_at, found_row_apart, is_marked}};
 use crate::index::{{
-    Begun, Below, Entry, Except, Gate, Guard, Named, Parentless, Range, Rooted, Span, Texts,
+    Begun, Below, Entry, Except, Gate, Guard, Named, Parentless, Range, Rooted, Second, Span, Texts,
 }};
 
 /// How many further rows there are.
@@ -61,12 +65,28 @@ pub(super) fn told_below(parent: usize) -> &'static Below
 }}
 """
 BY_PARENT = """
+/// For each built-in row, whether further rows stand below it.
+static ARE_PARENTS: &[bool] = &[
+{}
+];
+
+/// Whether further rows stand below this built-in row: by one look, as below most there are none.
+#[inline(always)]
+fn is_parent(row: usize) -> bool
+    ensures {{ IsTrue result ↔ IsTrue (has_row_below row) }}
+{{
+    is_marked(ARE_PARENTS, row)
+}}
+
 /// The number of the wider answer of a buffer whose built-in answer is this row, which no further row widens that is not
 /// named here. The buffer comes first, as in what this calls, so that it is passed on as it came.
 #[inline(always)]
 pub(crate) fn found_below(buf: &[u8], row: usize) -> usize
     ensures {{ IsWidened (Some row) buf.now (Some result) }}
 {{
+    if !is_parent(row) {{
+        return row;
+    }}
     match row {{
 {}
         _ => row,
@@ -131,13 +151,31 @@ BLOCK_SIZE = 256
 NO_OTHER_PARENT = """-- Made by `tools/tables` from the further rows: no row that the code does not name is the parent of one.
 use Rattle.infer_more.proofs.Common.{{◌∷◌, [], None, arith, refl}}
 use Rattle.infer_more.proofs.Common.{{{names}}}
-use Rattle.infer_more.proofs.BelowLemmas.{{none_below_others}}
+use Rattle.infer_more.proofs.BelowLemmas.{{none_below, none_below_others}}
 use Rattle.infer_more.proofs.index.generated.found_below.Goals as goal
+
+pub returns-then-not-is_parent : goal.returns-then-not-is_parent
+returns-then-not-is_parent c =
+    let none = none_below c.args.row (λ has. let is = c.is_parent.ensures.1 has in let not = c.if-not-is_parent.true in absurd (cc)) in
+    (None, none c.args.buf.now, refl)
 
 pub returns-in_default : goal.returns-in_default
 unfolding {unfolded}
 returns-in_default c =
-    (None, none_below_others ({parents} ∷ []) refl c.args.row {differ} c.args.buf.now, refl)
+    (None, none_below_others ({parents}) refl c.args.row {differ} c.args.buf.now, refl)
+"""
+IS_PARENT = """-- Made by `tools/tables` from the further rows: computed of each built-in row.
+use Rattle.infer_more.proofs.Common.{{◌↔◌, ◌∷◌, [], IsTrue, false, refl, subst, sym, true}}
+use Rattle.infer_more.proofs.Common.{{{names}}}
+use Rattle.infer_more.specs.Parents.{{has_row_below}}
+use Rattle.infer_more.proofs.BelowLemmas.{{marks_tell}}
+use Rattle.infer_more.proofs.index.generated.is_parent.Goals as goal
+
+pub returns : goal.returns
+unfolding {unfolded}
+returns c =
+    subst (λ t. IsTrue t ↔ IsTrue (has_row_below c.args.row)) (sym c.is_marked.ensures)
+    (marks_tell ({marks}) refl refl c.args.row)
 """
 # What is computed of each row, sixteen rows a step, with room for 1024: a refusal shows the rows that fail.
 EACH_ROW = "(\n" + 4 * f"      {16 * '(refl, '}tt{16 * ')'},\n" + "    )"
@@ -173,6 +211,9 @@ TEXT_OF_BYTES = rf"b{TEXT}"
 WIDTH = 100
 # How many buckets of programs there are.
 BUCKETS = 32
+# Of how many spans a second byte picks one, and how many entries less a look at it is worth.
+PICKS = 16
+LOOK = 1
 # The kinds of ways below a parent that stand in one list: they have no list inside a list.
 LISTED = {"Nothing", "Entries"}
 # What is told last, without being tried.
@@ -536,6 +577,51 @@ def listed(some):
     return "(" + ", ".join(" ".join(in_words(it)) for it in some) + ")"
 
 
+def picking(place, alternatives):
+    """Of these alternatives, each with its number, those that a byte at the place picks, by its low four bits, and the others."""
+    picked = [(number, it) for number, it in alternatives if len(it.get(place, ALL)) <= MOST_BYTES]
+    by_bits = [[(number, it) for number, it in picked if any(byte % PICKS == bits for byte in it[place])] for bits in range(PICKS)]
+    return by_bits, [it for it in alternatives if it not in picked]
+
+
+def looks(place, alternatives):
+    """How many entries are looked at in all, if each of the alternatives is asked for, where a byte at the place picks."""
+    by_bits, rest = picking(place, alternatives)
+    return len(alternatives) * (LOOK + len(rest)) + sum(len(it) ** 2 for it in by_bits)
+
+
+def second(alternatives):
+    """The place of the byte that leaves the fewest entries to look at, or None if no byte does better than none."""
+    places = sorted({place for _, it in alternatives for place in it if place})
+    best = min(places, key=lambda place: looks(place, alternatives), default=None)
+    return None if best is None or looks(best, alternatives) >= len(alternatives) ** 2 else best
+
+
+def of_each_row(alternatives):
+    """The alternatives by their rows."""
+    return [(number, [it for _, it in some]) for number, some in itertools.groupby(alternatives, key=lambda it: it[0])]
+
+
+def seconds(led):
+    """For each first byte, of the alternatives that it leads to: the entries for all buffers with it, the place of the byte
+    that picks, and the number of its first span, and after these the entries of each span."""
+    every, places, picked = [], [], [[]] * PICKS
+    for byte, alternatives in enumerate(led):
+        place = second(alternatives)
+        if place is None:
+            every.append(list(entries(of_each_row(alternatives), (0, byte))))
+            places.append((0, len(led)))
+            continue
+        by_bits, rest = picking(place, alternatives)
+        every.append(list(entries(of_each_row(rest), (0, byte))))
+        places.append((place, len(led) + len(picked)))
+        for bits, some in enumerate(by_bits):
+            # The first byte is known there, and of the second the low bits.
+            own = [(number, {at: its for at, its in it.items() if at} | {place: {its for its in it[place] if its % PICKS == bits}}) for number, it in some]
+            picked = [*picked, list(entries(of_each_row(own)))]
+    return every, places, picked
+
+
 def spans(lists):
     """Where each list begins and ends among all their entries."""
     end = 0
@@ -645,14 +731,17 @@ def lists(rows, parents):
     yield BELOW_OTHERS.format(in_list_of(apart(ways)), arms(apart(ways), "below_{}()"))
     yield "pub(super) static PARENTLESS: Parentless = Parentless {"
     zeros, ((place, first), outside, inside) = with_zeros(rows)
-    led = [[(k, [it for it in row.outlines(TOLD) if is_listed(k, it, zeros) and byte in it[0]]) for k, row in numbered if not row.parent] for byte in range(256)]
-    by_byte = [list(entries([it for it in some if it[1]], (0, byte))) for byte, some in enumerate(led)]
+    led = [[(k, it) for k, row in numbered if not row.parent for it in row.outlines(TOLD) if is_listed(k, it, zeros) and byte in it[0]] for byte in range(256)]
+    every, places, picked = seconds(led)
     yield "    first: Begun {"
     yield "        spans: spans!["
-    yield from in_lines(list(spans(by_byte)))
+    yield from in_lines(list(spans(every + picked)))
+    yield "        ],"
+    yield "        seconds: seconds!["
+    yield from in_lines([f"{place} {first}" for place, first in places])
     yield "        ],"
     yield "        entries: entries!["
-    yield from in_lines([" ".join(in_words(it)) for some in by_byte for it in some])
+    yield from in_lines([" ".join(in_words(it)) for some in every + picked for it in some])
     yield "        ],"
     yield "    },"
     yield "    guards: guards!["
@@ -682,16 +771,30 @@ def arms(numbers, call):
     return "\n".join(f"        {it} => {call.format(it)}," for it in numbers)
 
 
+def marks(rows, parents):
+    """For each built-in row whether further rows stand below it, as code and definitions have it."""
+    listed = with_rows_below(rows, parents)
+    return ["true" if k in listed else "false" for k in range(len(parents))]
+
+
 def by_parent(rows, parents):
     """The function with code of its own for each parent."""
-    return BY_PARENT.format(arms(with_rows_below(rows, parents), "found_row_apart::<{}>(buf)"))
+    listed = with_rows_below(rows, parents)
+    lines = textwrap.indent(textwrap.fill(f"{', '.join(marks(rows, parents))},", WIDTH - 5), "    ")
+    return BY_PARENT.format(lines, arms(listed, "found_row_apart::<{}>(buf)"))
 
 
 def no_other_parent(rows, parents):
     """The proof that these are all."""
     listed = with_rows_below(rows, parents)
     names = lists_of_rows()
-    return NO_OTHER_PARENT.format(parents=" ∷ ".join(map(str, listed)), differ=differing(listed), names=", ".join(names), unfolded=" ".join(names))
+    return NO_OTHER_PARENT.format(parents=in_list_of(listed), differ=differing(listed), names=", ".join(names), unfolded=" ".join(names))
+
+
+def is_parent(rows, parents):
+    """The proof that the marks are theirs."""
+    names = lists_of_rows()
+    return IS_PARENT.format(names=", ".join(names), unfolded=" ".join(names), marks=in_list_of(marks(rows, parents)))
 
 
 def lists_of_rows():

@@ -1,14 +1,16 @@
 -- A row of which a buffer has the bytes is tried.
 use Rattle.std.proofs.lemmas.Bool.{or_cases, or_left, or_right}
-use Rattle.infer_more.proofs.Common.{◌≡◌, ◌↔◌, ℕ, zero, suc, ◌+◌, ◌-◌, ◌<◌, ◌≤◌, ◌==◌, inl, inr, Bool, true, false, IsTrue, List, [], ◌∷◌, ◌++◌, length, ap, sym, ◌∙◌, subst, arith, refl, nat_le, nat_lt, ◌&&◌, if◌then◌else◌, slice_index, list_all, list_any, option_map_or, cases_lt, eq-eqb, eqb-true, leb-true, lt-ltb, get_or_from_slice_get, slice_get_cases, at_least, Bytes, any_of, between, all_but, Part, any_text, allows, fits, has_part, stands, StandsByPlace, is_listed, tried_parentless, candidate, candidates, excepted, guarded, has_byte, is_excepted, is_tried_parentless, is_covered, is_settled, ranged, unless, within, Except, Parentless, and_from, and_parts}
+use Rattle.infer_more.proofs.Common.{◌≡◌, ◌↔◌, ℕ, zero, suc, ◌+◌, ◌-◌, ◌<◌, ◌≤◌, ◌==◌, ◌⊎◌, inl, inr, Bool, true, false, IsTrue, List, [], ◌∷◌, ◌++◌, Option, None, Some, length, ap, sym, ◌∙◌, subst, arith, refl, nat_le, nat_lt, ◌&&◌, if◌then◌else◌, slice_index, list_all, list_any, option_map_or, cases_lt, eq-eqb, eqb-true, leb-true, lt-ltb, get_or_from_slice_get, slice_get_cases, at_least, Bytes, any_of, between, all_but, Part, any_text, allows, fits, has_part, stands, StandsByPlace, is_listed, tried_parentless, candidate, candidates, excepted, guarded, has_byte, is_excepted, is_tried_parentless, is_covered, is_settled, ranged, unless, within, Except, Parentless, and_from, and_parts}
 use Rattle.std.specs.List.{range_with_len}
 use Rattle.std.proofs.lemmas.Bool.{ltb-true}
 use Rattle.infer_sig.specs.Signature.{Alternative, text, byte}
-use Rattle.infer_more.specs.Index.{begun, behind, entries_at, gated, has_between, has_entry, has_guard, has_other, is_but, is_other, is_gated, is_guarded, is_met, is_tested, is_ranged, is_within}
+use Rattle.std.specs.Prelude.{slice_get}
+use Rattle.infer_more.specs.Index.{begun, behind, bucket, entries_at, gated, has_between, has_entry, has_guard, has_other, is_begun, is_but, is_other, is_gated, is_guarded, is_met, is_picked, is_tested, is_ranged, is_within, picked, seconded}
 use Rattle.infer_more.specs.declared.index.Entry.{Entry}
 use Rattle.infer_more.specs.declared.index.Gate.{Gate}
 use Rattle.infer_more.specs.declared.index.Guard.{Guard}
 use Rattle.infer_more.specs.declared.index.Range.{Range}
+use Rattle.infer_more.specs.declared.index.Second.{Second}
 
 -- both of two tests pass
 pub both_left : (a b : Bool) → IsTrue (a && b) → IsTrue a
@@ -221,23 +223,57 @@ begun_by : (index : Parentless) (b : List ℕ) → 0 < length b → begun index 
 begun_by index [] lt = absurd (omega arith)
 begun_by index (x ∷ rest) lt = refl
 
+seconded_by : (index : Parentless) (b : List ℕ) (s : Second) → 0 < length b → slice_get index.first.seconds.now (slice_index b 0) ≡ Some s → s.place < length b
+    → seconded index b ≡ bucket index.first s (slice_index b s.place)
+seconded_by index [] s lt found within = absurd (omega arith)
+seconded_by index (x ∷ rest) s lt found within =
+    let own : seconded index (x ∷ rest) ≡ picked index.first s (x ∷ rest) = ap (λ o. option_map_or (λ t. picked index.first t (x ∷ rest)) o []) found in
+    own ∙ ap (λ t. if t then bucket index.first s (slice_index (x ∷ rest) s.place) else []) (lt-ltb s.place (length (x ∷ rest)) within)
+
+-- a row is listed by the first byte or by the second
 module _ (by_place : (place : ℕ) (t buf : List ℕ) → IsTrue (stands place t buf) ↔ StandsByPlace place t buf) (index : Parentless) (b : List ℕ) (i : ℕ) where
-  begun_here : (a : Alternative) → IsTrue (is_tested (λ x. is_met i a (entries_at index.first x) 0 x) 0 a) → IsTrue (fits b a)
+  begun_here : (a : Alternative) → IsTrue (fits b a) → 0 < length b → IsTrue (is_met i a (entries_at index.first (slice_index b 0)) 0 (slice_index b 0))
       → IsTrue (is_listed (candidates b (begun index b)) i)
-  begun_here a h k =
-      let here = passes by_place (λ x. is_met i a (entries_at index.first x) 0 x) 0 b a h k in
+  begun_here a k lt h =
       let entries = entries_at index.first (slice_index b 0) in
-      subst (λ (l : List Entry). IsTrue (is_listed (candidates b l) i)) (sym (begun_by index b here.0))
-      (met_here by_place b i a entries 0 (slice_index b 0) k here.0 refl here.1)
+      subst (λ (l : List Entry). IsTrue (is_listed (candidates b l) i)) (sym (begun_by index b lt))
+      (met_here by_place b i a entries 0 (slice_index b 0) k lt refl h)
+
+  picked_here : (a : Alternative) (s : Second) → IsTrue (fits b a) → 0 < length b → slice_get index.first.seconds.now (slice_index b 0) ≡ Some s
+      → IsTrue (is_picked i a index.first s) → IsTrue (is_listed (candidates b (seconded index b)) i)
+  picked_here a s k lt found h =
+      let here = passes by_place (λ y. is_met i a (bucket index.first s y) s.place y) s.place b a h k in
+      let entries = bucket index.first s (slice_index b s.place) in
+      subst (λ (l : List Entry). IsTrue (is_listed (candidates b l) i)) (sym (seconded_by index b s lt found here.0))
+      (met_here by_place b i a entries s.place (slice_index b s.place) k here.0 refl here.1)
+
+  seconded_here : (a : Alternative) → IsTrue (fits b a) → 0 < length b
+      → (o : Option Second) → slice_get index.first.seconds.now (slice_index b 0) ≡ o → IsTrue (option_map_or (is_picked i a index.first) o false)
+      → IsTrue (is_listed (candidates b (seconded index b)) i)
+  seconded_here a k lt None found h = absurd (cc)
+  seconded_here a k lt (Some s) found h = picked_here a s k lt found h
+
+  led_here : (a : Alternative) → IsTrue (is_tested (is_begun index.first i a) 0 a) → IsTrue (fits b a)
+      → IsTrue (is_listed (candidates b (begun index b)) i) ⊎ IsTrue (is_listed (candidates b (seconded index b)) i)
+  led_here a h k =
+      let here = passes by_place (is_begun index.first i a) 0 b a h k in
+      let x = slice_index b 0 in
+      elim (or_cases (is_met i a (entries_at index.first x) 0 x) _ here.1) [
+        | inl e ↦ inl (begun_here a k here.0 e)
+        | inr e ↦ inr (seconded_here a k here.0 (slice_get index.first.seconds.now x) refl e)
+      ]
 
   pub parentless_here : (a : Alternative) → IsTrue (is_tried_parentless index i a) → IsTrue (fits b a) → IsTrue (is_listed (tried_parentless index b) i)
-  parentless_here a h k = elim (or_cases (is_tested (λ x. is_met i a (entries_at index.first x) 0 x) 0 a) _ h) [
-    | inl e ↦ listed_left (candidates b (begun index b)) _ i (begun_here a e k)
-    | inr e ↦ listed_right (candidates b (begun index b)) _ i (elim (or_cases (is_guarded i a index.guards.now) _ e) [
+  parentless_here a h k = elim (or_cases (is_tested (is_begun index.first i a) 0 a) _ h) [
+    | inl e ↦ elim (led_here a e k) [
+      | inl first ↦ listed_left (candidates b (begun index b)) _ i first
+      | inr second ↦ listed_right (candidates b (begun index b)) _ i (listed_left (candidates b (seconded index b)) _ i second)
+    ]
+    | inr e ↦ listed_right (candidates b (begun index b)) _ i (listed_right (candidates b (seconded index b)) _ i (elim (or_cases (is_guarded i a index.guards.now) _ e) [
       | inl beside ↦ listed_left (guarded b index.guards.now) _ i (guarded_here by_place b i a index.guards.now beside k)
       | inr other ↦ listed_right (guarded b index.guards.now) _ i (elim (or_cases (is_gated i a index.gate) _ other) [
         | inl inside ↦ listed_left (gated b index.gate) _ i (gated_here by_place b i a index.gate inside k)
         | inr wide ↦ listed_right (gated b index.gate) _ i (ranged_here by_place b i a index.ranges.now wide k)
       ])
-    ])
+    ]))
   ]

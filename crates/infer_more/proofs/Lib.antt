@@ -8,6 +8,7 @@ pub mod FitLemmas
 pub mod OutlineLemmas
 pub mod PieceLemmas
 pub mod LeastLemmas
+pub mod HalvesLemmas
 pub mod FoundLemmas
 pub mod TableLemmas
 pub mod ShownLemmas

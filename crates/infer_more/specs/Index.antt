@@ -1,5 +1,5 @@
 -- Which further rows are tried or told, and that these are all that can widen an answer.
-use Rattle.std.specs.Prelude.{◌≡◌, ◌⊎◌, ◌↔◌, ◌-◌, ◌%◌, ◌<◌, ◌≤◌, ◌==◌, ◌&&◌, ◌||◌, ℕ, suc, Bool, not, true, false, All, IsTrue, List, [], ◌∷◌, ◌++◌, Option, None, Some, if◌then◌else◌, length, nat_le, nat_lt, slice_get, slice_index}
+use Rattle.std.specs.Prelude.{◌≡◌, ◌⊎◌, ◌↔◌, ◌+◌, ◌-◌, ◌%◌, ◌<◌, ◌≤◌, ◌==◌, ◌&&◌, ◌||◌, ℕ, suc, Bool, not, true, false, All, IsTrue, List, [], ◌∷◌, ◌++◌, Option, None, Some, if◌then◌else◌, length, nat_le, nat_lt, slice_get, slice_index}
 use Rattle.std.specs.List.{list_all, list_any, range_with_len, slice_range}
 use Rattle.std.specs.Option.{option_map_or}
 use denote.Ref.{Bor}
@@ -31,6 +31,7 @@ use Rattle.infer_more.specs.declared.index.Named.{Named}
 use Rattle.infer_more.specs.declared.index.Parentless.{Parentless}
 use Rattle.infer_more.specs.declared.index.Range.{Range}
 use Rattle.infer_more.specs.declared.index.Rooted.{Rooted}
+use Rattle.infer_more.specs.declared.index.Second.{Second}
 use Rattle.infer_more.specs.declared.index.Span.{Span}
 use Rattle.infer_more.specs.declared.index.Texts.{Texts}
 
@@ -94,6 +95,14 @@ is_span many s = nat_le s.start s.end && nat_le s.end many
 abbrev pub are_spans : Begun → Bool
 are_spans lists = list_all (is_span (length lists.entries.now)) lists.spans.now
 
+-- the entries of the bucket of byte y: by its low four bits
+abbrev pub bucket : Begun → Second → ℕ → List Entry
+bucket lists s y = entries_at lists (s.first + y % 16)
+
+-- those of the bucket that the buffer's own byte picks
+abbrev pub picked : Begun → Second → List ℕ → List Entry
+picked lists s b = if nat_lt s.place (length b) then bucket lists s (slice_index b s.place) else []
+
 -- how the rows below built-in row i are told
 abbrev pub below_at : List below.Below → ℕ → below.Below
 below_at ways i = option_map_or (λ way. way) (slice_get ways i) Nothing
@@ -104,9 +113,15 @@ module _ (index : Parentless) where
   begun [] = []
   begun (x ∷ rest) = entries_at index.first x
 
+  -- the entries that a second byte picks, which the first byte names
+  abbrev pub seconded : List ℕ → List Entry
+  seconded [] = []
+  seconded (x ∷ rest) = option_map_or (λ s. picked index.first s (x ∷ rest)) (slice_get index.first.seconds.now x) []
+
   -- the rows that are tried of a buffer without a built-in answer
   abbrev pub tried_parentless : List ℕ → List ℕ
-  tried_parentless b = candidates b (begun b) ++ (guarded b index.guards.now ++ (gated b index.gate ++ ranged b index.ranges.now))
+  tried_parentless b =
+      candidates b (begun b) ++ (candidates b (seconded b) ++ (guarded b index.guards.now ++ (gated b index.gate ++ ranged b index.ranges.now)))
 
 -- `after` is the least of `before` and of the numbers that have P
 pub record IsLeast (P : ℕ → Type 0) (before after : ℕ) : Type 0 where
@@ -244,10 +259,18 @@ is_but i (at_least n parts) e = e.row == i && list_any (is_other e.place e.byte)
 abbrev pub is_excepted : ℕ → fixed.Alternative → List Except → Bool
 is_excepted i a excepts = list_any (is_but i a) excepts
 
+-- the bucket of each byte that the alternative allows second has row i
+abbrev pub is_picked : ℕ → fixed.Alternative → Begun → Second → Bool
+is_picked i a lists s = is_tested (λ y. is_met i a (bucket lists s y) s.place y) s.place a
+
+-- with that first byte row i is listed, by it or by the second byte
+abbrev pub is_begun : Begun → ℕ → fixed.Alternative → ℕ → Bool
+is_begun lists i a x = is_met i a (entries_at lists x) 0 x || option_map_or (is_picked i a lists) (slice_get lists.seconds.now x) false
+
 -- each buffer without a built-in answer that has such bytes has row i among the rows that are tried of it
 abbrev pub is_tried_parentless : Parentless → ℕ → fixed.Alternative → Bool
 is_tried_parentless index i a =
-    is_tested (λ x. is_met i a (entries_at index.first x) 0 x) 0 a
+    is_tested (is_begun index.first i a) 0 a
     || (is_guarded i a index.guards.now || (is_gated i a index.gate || is_ranged i a index.ranges.now))
 
 -- two texts have the same bytes

@@ -82,17 +82,26 @@ pub(crate) struct Span {
     pub end: u16,
 }
 
-/// The entries by their first byte: a span for each. They stand in one list, as the check of a static takes time quadratic
-/// in the lists inside it.
+/// Where a buffer with one first byte has the byte that picks among the rows of that first byte, by its low four bits, and
+/// the number of the first of the sixteen spans that it picks from.
+pub(crate) struct Second {
+    pub place: u32,
+    pub first: u16,
+}
+
+/// The entries by their first byte: a span for each, of those that all buffers with it are asked for, and behind these the
+/// spans from which a second byte picks one. They stand in one list, as the check of a static takes time quadratic in the
+/// lists inside it.
 pub(crate) struct Begun {
     pub spans: &'static [Span],
+    pub seconds: &'static [Second],
     pub entries: &'static [Entry],
 }
 
-/// The rows without a parent that are tried: by their first byte, and behind guards those that allow any first byte,
-/// or share it with the zeros of many files. Of these the rows that share another byte stand behind the gate, so that a
-/// buffer without it is told by one look. Ranges have the rows that allow many bytes. The root of markup is looked for once
-/// for all rows that ask for one. The texts come last.
+/// The rows without a parent that are tried: by their first byte and a second one, and behind guards those that allow any
+/// first byte, or share it with the zeros of many files. Of these the rows that share another byte stand behind the gate, so
+/// that a buffer without it is told by one look. Ranges have the rows that allow many bytes. The root of markup is looked
+/// for once for all rows that ask for one. The texts come last.
 pub(crate) struct Parentless {
     pub first: Begun,
     pub guards: &'static [Guard],
@@ -161,6 +170,15 @@ macro_rules! spans {
         &[$(Span {
             start: $start,
             end: $end,
+        }),*]
+    };
+}
+
+macro_rules! seconds {
+    ($($place:literal $first:literal),*) => {
+        &[$(Second {
+            place: $place,
+            first: $first,
         }),*]
     };
 }

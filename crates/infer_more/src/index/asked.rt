@@ -1,17 +1,18 @@
 //! What the index asks of a buffer: the least row that widens its answer.
-ghost use Rattle.std.specs.Prelude.{◌≡◌, ◌↔◌, IsTrue, None, Some, length, nat_le};
+ghost use Rattle.std.specs.Prelude.{◌≡◌, ◌≢◌, ◌↔◌, [], ◌∷◌, IsTrue, MatchOption, None, Some, length, nat_le};
 ghost use Rattle.std.specs.List.{list_all};
 ghost use Rattle.infer_deep.specs.ClassId.{HasClassId};
 ghost use Rattle.infer_deep.specs.Find.{OccursAt};
 ghost use Rattle.infer_formats.specs.Json.{IsJson, IsJsonLines};
 ghost use Rattle.infer_formats.specs.Zip.{IsPackageWith};
-ghost use Rattle.infer_more.specs.Index.{AllApplications, AreClassIds, HasTagText, IsFoundBelow, IsLeast, IsNamed, IsOfProgram, IsRooted, IsRootedBy, IsTextRow, IsTried, MayBeginMarkup, are_spans, are_texts, ascends, begun, behind, below_at, bucket_at, bucket_of, candidate, candidates, entries_at, excepted, gated, guarded, has_between, has_byte, has_other, is_true_below, named_row, ranged, rooted_row, tried_parentless, unless, within};
+ghost use Rattle.infer_more.specs.Index.{AllApplications, AreClassIds, HasTagText, IsFoundBelow, IsLeast, IsNamed, IsOfProgram, IsRooted, IsRootedBy, IsTextRow, IsTried, MayBeginMarkup, are_spans, are_texts, ascends, begun, behind, below_at, bucket_at, bucket_of, candidate, candidates, entries_at, excepted, gated, guarded, has_between, has_byte, has_other, is_true_below, named_row, picked, ranged, rooted_row, seconded, tried_parentless, unless, within};
+ghost use Rattle.infer_more.specs.Parents.{is_marked};
 ghost use Rattle.infer_more.specs.Wider.{IsWidened, WidensAt};
 ghost use Rattle.infer_more.specs.declared.index.generated.TheConstants.{FURTHER_COUNT};
 
 use crate::index::{
     Begun, Below, Entry, Except, FURTHER_COUNT, Gate, Guard, Named, Parentless, Range, Rooted,
-    Texts, way_below, without_parent,
+    Second, Texts, way_below, without_parent,
 };
 use crate::table::widens;
 use infer::rows::ROW_COUNT;
@@ -25,6 +26,9 @@ use infer_formats::zip::package_folder;
 
 /// How many buckets of names there are.
 const BUCKETS: usize = 32;
+
+/// Of how many spans a second byte picks one.
+const PICKS: usize = 16;
 
 /// How rows past the last are told.
 static NOTHING: Below = Below::Nothing;
@@ -92,12 +96,23 @@ fn least_among(entries: &[Entry], parent: Option<usize>, buf: &[u8], before: usi
     least
 }
 
-/// [`least_among`] entries that the compiler does not know.
-#[inline(never)]
-fn least_of(entries: &[Entry], parent: Option<usize>, buf: &[u8], before: usize) -> usize
+/// [`least_among`] entries that the compiler knows, half by half: a walk over so many it writes out, and one over all it
+/// leaves as a loop.
+#[inline(always)]
+fn least_in_halves(entries: &[Entry], parent: Option<usize>, buf: &[u8], before: usize) -> usize
     ensures { IsLeast (IsTried parent buf.now (candidates buf.now entries.now)) before result }
 {
-    least_among(entries, parent, buf, before)
+    let (first, last) = entries.split_at(entries.len() / 2);
+    let least = least_among(first, parent, buf, before);
+    least_among(last, parent, buf, least)
+}
+
+/// [`least_among`] entries that the compiler does not know, of rows without a parent.
+#[inline(never)]
+fn least_of(entries: &[Entry], buf: &[u8], before: usize) -> usize
+    ensures { IsLeast (IsTried None buf.now (candidates buf.now entries.now)) before result }
+{
+    least_among(entries, None, buf, before)
 }
 
 /// Whether this is one entry, whose row is not before that number: told without a loop, as most guards have one entry.
@@ -115,13 +130,13 @@ fn is_late(entries: &[Entry], before: usize) -> bool
 /// [`least_of`], and the number before at once if there is one entry, of no earlier row. A function of its own, so that this
 /// takes nothing of what [`least_of`] needs.
 #[inline(never)]
-fn least_after(entries: &[Entry], parent: Option<usize>, buf: &[u8], before: usize) -> usize
-    ensures { IsLeast (IsTried parent buf.now (candidates buf.now entries.now)) before result }
+fn least_after(entries: &[Entry], buf: &[u8], before: usize) -> usize
+    ensures { IsLeast (IsTried None buf.now (candidates buf.now entries.now)) before result }
 {
     if is_late(entries, before) {
         return before;
     }
-    least_of(entries, parent, buf, before)
+    least_of(entries, buf, before)
 }
 
 /// [`least_after`] that number, of the entries behind a guard: the number before if the buffer lacks the guard's byte.
@@ -133,7 +148,7 @@ fn least_behind(guard: &Guard, buf: &[u8], before: usize) -> usize
     if !has_byte(buf, guard.place, guard.byte) {
         return before;
     }
-    least_after(guard.entries, None, buf, before)
+    least_after(guard.entries, buf, before)
 }
 
 /// [`least_of`] the entries behind all guards.
@@ -244,19 +259,79 @@ fn entries_at(lists: &Begun, i: usize) -> &'static [Entry]
     }
 }
 
-/// The least of the rows that are listed by the first byte and widen the answer, or their count. Most first bytes list
-/// none, and cost no call.
+/// The entries of the bucket that the buffer's own byte picks.
+#[inline(always)]
+fn entries_picked(lists: &Begun, second: &Second, buf: &[u8]) -> &'static [Entry]
+    requires { IsTrue (are_spans lists.now) }
+    ensures { result.now ≡ picked lists.now second.now buf.now }
+{
+    match buf.get(second.place as usize) {
+        Some(byte) => entries_at(
+            lists,
+            usize::from(second.first) + usize::from(*byte) % PICKS,
+        ),
+        None => &[],
+    }
+}
+
+/// The entries that the second byte of the buffer picks, as its first byte says which that is.
+#[inline(always)]
+fn entries_seconded(index: &Parentless, buf: &[u8]) -> &'static [Entry]
+    requires { IsTrue (are_spans index.now.first) }
+    ensures { result.now ≡ seconded index.now buf.now }
+{
+    match buf.first() {
+        Some(byte) => match index.first.seconds.get(usize::from(*byte)) {
+            Some(second) => entries_picked(&index.first, second, buf),
+            None => &[],
+        },
+        None => &[],
+    }
+}
+
+/// The entry of a list that has one.
+#[inline(always)]
+fn only(entries: &[Entry]) -> Option<&Entry>
+    ensures { MatchOption result (length entries.now ≢ 1) (λ e. entries.now ≡ e.now ∷ []) }
+{
+    match entries {
+        [only] => Some(only),
+        _ => None,
+    }
+}
+
+/// [`least_of`], without a call if there are no entries, and without a loop if there is one, as mostly.
+#[inline(always)]
+fn least_listed(entries: &[Entry], buf: &[u8], before: usize) -> usize
+    ensures { IsLeast (IsTried None buf.now (candidates buf.now entries.now)) before result }
+{
+    if entries.is_empty() {
+        return before;
+    }
+    match only(entries) {
+        Some(entry) => least_at(entry, None, buf, before),
+        None => least_of(entries, buf, before),
+    }
+}
+
+/// The least of the rows that are listed by the first byte and widen the answer, or their count.
 #[inline(always)]
 fn least_begun(index: &Parentless, buf: &[u8]) -> usize
     requires { IsTrue (are_spans index.now.first) }
     ensures { IsLeast (IsTried None buf.now
         (candidates buf.now (begun index.now buf.now))) FURTHER_COUNT result }
 {
-    let entries = entries_begun(index, buf);
-    if entries.is_empty() {
-        return FURTHER_COUNT;
-    }
-    least_of(entries, None, buf, FURTHER_COUNT)
+    least_listed(entries_begun(index, buf), buf, FURTHER_COUNT)
+}
+
+/// The least of the number before and of the rows that are listed by the second byte and widen the answer.
+#[inline(always)]
+fn least_seconded(index: &Parentless, buf: &[u8], before: usize) -> usize
+    requires { IsTrue (are_spans index.now.first) }
+    ensures { IsLeast (IsTried None buf.now
+        (candidates buf.now (seconded index.now buf.now))) before result }
+{
+    least_listed(entries_seconded(index, buf), buf, before)
 }
 
 /// The least of the rows that such an index tries and that widen the answer, or their count.
@@ -267,7 +342,8 @@ fn least_tried(index: &Parentless, buf: &[u8]) -> usize
         (tried_parentless index.now buf.now)) FURTHER_COUNT result }
 {
     let begun = least_begun(index, buf);
-    let least = least_guarded(index.guards, buf, begun);
+    let seconded = least_seconded(index, buf, begun);
+    let least = least_guarded(index.guards, buf, seconded);
     let gated = least_gated(&index.gate, buf, least);
     least_ranged(index.ranges, buf, gated)
 }
@@ -502,12 +578,12 @@ fn least_found(below: &Below, row: usize, buf: &[u8]) -> usize
 {
     match below {
         Below::Nothing => FURTHER_COUNT,
-        Below::Entries(entries) => least_among(entries, Some(row), buf, FURTHER_COUNT),
+        Below::Entries(entries) => least_in_halves(entries, Some(row), buf, FURTHER_COUNT),
         Below::ClassIds(ids) => least_class(ids, buf),
         Below::Programs(buckets) => least_program(buckets, buf),
         Below::Roots(roots) => least_root(roots, buf, FURTHER_COUNT),
         Below::Packages(entries, excepts, folders) => {
-            let tried = least_among(entries, Some(row), buf, FURTHER_COUNT);
+            let tried = least_in_halves(entries, Some(row), buf, FURTHER_COUNT);
             let least = least_excepted(excepts, Some(row), buf, tried);
             least_folder(folders, buf, least)
         }
@@ -522,6 +598,17 @@ pub(super) fn below_at(ways: &'static [Below], i: usize) -> &'static Below
     match ways.get(i) {
         Some(below) => below,
         None => &NOTHING,
+    }
+}
+
+/// Whether the row of that number is marked, and none past the last is.
+#[inline(always)]
+pub(super) fn is_marked(marks: &'static [bool], i: usize) -> bool
+    ensures { result ≡ is_marked marks.now i }
+{
+    match marks.get(i) {
+        Some(mark) => *mark,
+        None => false,
     }
 }
 

@@ -34,4 +34,4 @@ returns-in-Roots c = subst (λ (way : Below). IsLeast (IsFoundBelow way c.args.r
 pub returns-in-Packages : goal.returns-in-Packages
 returns-in-Packages c =
     subst (λ (way : Below). IsLeast (IsFoundBelow way c.args.row c.args.buf.now) FURTHER_COUNT c.least_folder.result) (sym c.in-Packages.is)
-    (least_both _ _ FURTHER_COUNT _ _ (tried_more (Some c.args.row) c.args.buf.now _ _ _ _ _ c.least_among-tried.ensures c.least_excepted-least.ensures) c.least_folder.ensures)
+    (least_both _ _ FURTHER_COUNT _ _ (tried_more (Some c.args.row) c.args.buf.now _ _ _ _ _ c.least_in_halves-tried.ensures c.least_excepted-least.ensures) c.least_folder.ensures)

@@ -1,8 +1,13 @@
 -- Made by `tools/tables` from the further rows: no row that the code does not name is the parent of one.
 use Rattle.infer_more.proofs.Common.{◌∷◌, [], None, arith, refl}
 use Rattle.infer_more.proofs.Common.{archives, assorted, bitmaps, bundles, captions, chunks, code, compiled, consoles, databases, dialects, disks, documents, elements, further, games, headers, headlines, images, keyrings, kinds, late, markup, measures, media, mended, notations, office, openings, others, packages, packed, papers, pictures, prefaces, prints, rasters, records, remarks, roots, schemas, science, scripts, secrets, shallow, shapes, sounds, squeezed, stores, texts, tunes, unheaded, volumes}
-use Rattle.infer_more.proofs.BelowLemmas.{none_below_others}
+use Rattle.infer_more.proofs.BelowLemmas.{none_below, none_below_others}
 use Rattle.infer_more.proofs.index.generated.found_below.Goals as goal
+
+pub returns-then-not-is_parent : goal.returns-then-not-is_parent
+returns-then-not-is_parent c =
+    let none = none_below c.args.row (λ has. let is = c.is_parent.ensures.1 has in let not = c.if-not-is_parent.true in absurd (cc)) in
+    (None, none c.args.buf.now, refl)
 
 pub returns-in_default : goal.returns-in_default
 unfolding archives assorted bitmaps bundles captions chunks code compiled consoles databases dialects disks documents elements further games headers headlines images keyrings kinds late markup measures media mended notations office openings others packages packed papers pictures prefaces prints rasters records remarks roots schemas science scripts secrets shallow shapes sounds squeezed stores texts tunes unheaded volumes

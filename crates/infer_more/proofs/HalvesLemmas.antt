@@ -1,0 +1,15 @@
+-- Of entries that are looked at half by half.
+use Rattle.infer_more.proofs.Common.{◌≡◌, ◌∙◌, ◌++◌, ℕ, List, [], ◌∷◌, Option, ap, append_assoc, drop, refl, subst, sym, take, IsLeast, IsTried, candidate, candidates, take-append-drop}
+use Rattle.infer_more.specs.declared.index.Entry.{Entry}
+use Rattle.infer_more.proofs.LeastLemmas.{tried_more}
+
+candidates_joined : (b : List ℕ) (xs ys : List Entry) → candidates b (xs ++ ys) ≡ candidates b xs ++ candidates b ys
+candidates_joined b [] ys = refl
+candidates_joined b (x ∷ xs) ys = ap (λ l. candidate b x ++ l) (candidates_joined b xs ys) ∙ sym (append_assoc (candidate b x) (candidates b xs) (candidates b ys))
+
+pub tried_halves : (parent : Option ℕ) (b : List ℕ) (entries : List Entry) (n o p q : ℕ) → IsLeast (IsTried parent b (candidates b (take n entries))) o p
+    → IsLeast (IsTried parent b (candidates b (drop n entries))) p q → IsLeast (IsTried parent b (candidates b entries)) o q
+tried_halves parent b entries n o p q h k =
+    let whole : candidates b (take n entries) ++ candidates b (drop n entries) ≡ candidates b entries =
+    sym (candidates_joined b (take n entries) (drop n entries)) ∙ ap (candidates b) (take-append-drop n entries) in
+    subst (λ l. IsLeast (IsTried parent b l) o q) whole (tried_more parent b _ _ o p q h k)
