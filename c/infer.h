@@ -110,8 +110,8 @@ bool infer_more_may_become(const void *buf, size_t len, int32_t row);
  *         printf("%zu bytes at %zu, one in %zu: row %d\n", ranges[i].len, ranges[i].place, ranges[i].step, (int)ranges[i].row);
  *
  * The 8 bytes that begin each PNG image, and 292 zeros, are a PNG image by 4 bytes at 0, whose row is the answer. 1 byte at
- * 60 has the row of an e-book: it rules that out. 1 byte at 0 rules out all rows that begin otherwise, so its row is -1.
- * Of the length at least 4 bytes are needed.
+ * 60 has the row of an e-book: it rules that out. Of the length at least 4 bytes are needed. Where no row accepts, 1 byte at
+ * 0 rules out all that begin otherwise, so its row is -1.
  *
  * A range has `len` bytes, the first at `place`, and each other `step` behind the one before: 1 but for a search. That "%PDF"
  * stands nowhere in the first 1024 bytes may be told by one byte in 4 of them.

@@ -238,7 +238,7 @@ def evidence(obj: Source, more: bool = False) -> Evidence:
     that `add_type` took are not asked.
 
     >>> [(it.place, it.length, it.type and it.type.extension) for it in infer.evidence(b"GIF89a").ranges]
-    [(0, 1, None), (0, 3, 'gif')]"""
+    [(0, 3, 'gif')]"""
     front = get_front(obj)
     row, ranges, wanted, least, is_exact = _library.evidence(front, more)
     accepting = {row, _library.position(front, len(front))} - {-1}

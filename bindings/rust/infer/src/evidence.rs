@@ -54,7 +54,7 @@ impl Evidence {
 /// ```
 /// let found = infer::evidence(b"GIF89a");
 /// let of = |range: &infer::Range| (range.place, range.len, range.of.map(|kind| kind.extension()));
-/// assert_eq!(found.ranges.iter().map(of).collect::<Vec<_>>(), [(0, 1, None), (0, 3, Some("gif"))]);
+/// assert_eq!(found.ranges.iter().map(of).collect::<Vec<_>>(), [(0, 3, Some("gif"))]);
 /// ```
 pub fn evidence(buf: &[u8]) -> Evidence {
     Evidence::of(&ffi::evidence(buf))
