@@ -52,7 +52,7 @@ row_listed_at row first n rows le h None found = tt
 row_listed_at row first n rows le h (Some a) found =
     let place : first + (row - first) ≡ row = omega arith in
     fixed_by (signature_of row) (signature_listed a.now)
-        (subst (λ i. fixed_of (signature_of i) ≡ Some (signature_listed a.now)) place (listed_at first n rows h (row - first) (Some a) found))
+    (subst (λ i. fixed_of (signature_of i) ≡ Some (signature_listed a.now)) place (listed_at first n rows h (row - first) (Some a) found))
 
 -- a front tells of a row if it is accepted or nothing that begins so is
 module _ (lasts : (s : BuiltIn) → Lasts (IsAccepted s)) where

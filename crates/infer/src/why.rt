@@ -19,8 +19,8 @@ use crate::candidates::dispatch::{arm_of, blank, candidates_at, leads};
 use crate::decided::may_become;
 use crate::table::rows::ROW_COUNT;
 use infer_evidence::{
-    Alternative, Evidence, MOST_OF_A_SEARCH, Part, Range, Search, Told, accept, accept_search, fits,
-    refuse_search, shortest_front, weigh,
+    Alternative, Evidence, MOST_OF_A_SEARCH, Part, Range, Search, Told, accept, accept_search,
+    fits, refuse_search, shortest_front, weigh,
 };
 
 mod guards;

@@ -68,16 +68,18 @@ pub stands_by_front : (text b c : List ℕ) (n end p : ℕ) (r : Range) → n �
     → p + length text ≤ length c → r.place ≡ p → r.len ≡ length text → r.step ≡ 1 → IsSame b c r → StandsBy text end c
 stands_by_front text b c n end p r within le o long place len step same =
     let fits = o.fits in
-    let short : length (take n b) ≡ n = length-take-le n b within in
-    (p, record {
-      stands = record {
-        fits = long;
-        reads = λ j lt. (in_a_row b c r step same (p + j) (omega (arith, place)) (omega (arith, place, len, lt))).1
-            ∙ sym (get_or-take n b (p + j) 0 (omega (arith, fits, short, lt))) ∙ o.reads j lt;
-      };
-      low = omega arith;
-      high = omega (arith, fits, short, le);
-    })
+    let short : length (take n b) ≡ n = length-take-le n b within in (
+      p,
+      record {
+        stands = record {
+          fits = long;
+          reads = λ j lt. (in_a_row b c r step same (p + j) (omega (arith, place)) (omega (arith, place, len, lt))).1
+              ∙ sym (get_or-take n b (p + j) 0 (omega (arith, fits, short, lt))) ∙ o.reads j lt;
+        };
+        low = omega arith;
+        high = omega (arith, fits, short, le);
+      },
+    )
 
 -- a text that stands in b by a place stands in the front up to there
 pub front_has : (text b : List ℕ) (n p : ℕ) → n ≤ length b → p + length text ≤ n → OccursAt b text p → OccursAt (take n b) text p

@@ -8,9 +8,9 @@ ghost use Rattle.infer.specs.Table.{signature_of};
 ghost use Rattle.infer_evidence.specs.Listed.{signature_listed};
 
 use crate::table::rows::PDF;
-use infer_evidence::{Alternative, Search};
 use infer_evidence::Part::{AnyText, Byte, Text};
 use infer_evidence::Set::{AllBut, AnyOf, Between};
+use infer_evidence::{Alternative, Search};
 
 macro_rules! signatures {
     ($($row:ident $([$($alternative:tt)*])*;)*) => {
