@@ -20,12 +20,16 @@ COPIES = [b"~", b".bak", b".orig", b".old"]
 MAKERS = [b"makefile", b"gnumakefile", b"dockerfile", b"containerfile"]
 WHITE = b"\t\n\x0c\r "
 TEXTS = (
-    "afm age application/x-pem-key asc asxref atom awk bookmarks ccmx clj cmap cms csh csr dart dep5 diashape dtsi "
-    "eps escript execline exs fb2 fish fl fodt gjs gnuplot gpx groovy gtkbuilder gx hs html ics imy info it87 jad "
-    "jarmf jl jnlp js json kml lingts lisp lua lyx m m3u8 meta4 mk ml mml ndjson nft nsc nzb openssh opml owx p7c "
-    "param pem pfa pgp php pkginfo pl plist ps ps1 pubkey puml py pysu qml qti r raku raml rb rkt rq rss rtf sami "
-    "scala scc scm sed sgf sh sig srt srx ssa sshsig stp subviewer svg t2t tcl texi texlua tres tscn ttx vcf vnt vtt "
-    "xhtml xml xmp xpm yaml"
+    "3dmodel abook abw afm age amf application/x-pem-key asc asx asxref atom aup awk bdf bookmarks busconfig catmeta ccmx "
+    "clj cloudcfg cmap cml cms csh csr dae dart dbk dbusintro dep5 dia diashape dif dtsi eps escript execline exs fb2 fish "
+    "fl flatpakref flatpakrepo fodg fodp fods fodt fontconfig gcurve gff3 ggr gitpatch gjs glade gml gnucash gnumeric "
+    "gnuplot gpl gpx gresource groovy gschema gtkbuilder gx hqx hs html http ics imy info iptables it87 jad jarmf jl jnlp "
+    "js json kml ldml lingts lisp ll lua lyx m m3u8 m4u meta4 metainfo metalink microdvd mif mimeinfo minisig mk ml mml "
+    "modulefile mol2 mpd mpl2 msbuild mscx mup musicxml ncx ndjson nex nft nsc nzb openssh opf opml osm owx p7c param "
+    "pdbmol pem pfa pgp php pkginfo pkgmeta pl plist pom ppd ppk ps ps1 pubkey puml py pysu qml qti r raku raml rb rdf rkt "
+    "rng rq rss rtf sam sami sbml scala scc sch scm sdp sed sfd sgf sh sig sitemap sla smil srt srx ssa ssh2pub sshpub "
+    "sshsig stp subviewer svg t2t tcl tei texi texlua tgif tres tscn ttml ttx ui usda uu vault vcf vcfg vnt vtt wordml wreg "
+    "wsdl x3d xbel xhtml xib xkbrules xliff xmcd xmi xml xmp xpm xpm2 xsd xslt xspf yaml"
 ).split()
 
 
@@ -53,6 +57,8 @@ def table():
     """The readings of each key, and whether it is loose."""
     keys = {}
     for line in lines_of("crates/infer_named/names.txt"):
+        if line.startswith("nameless "):
+            continue
         head, _, rest = line.partition(": ")
         *loose, part, text = head.split(" ")
         keys[part, text.encode()] = bool(loose), [reading(it) for it in rest.split(" | ")]

@@ -1,5 +1,5 @@
 -- Where a text stands nowhere, and a range that grows.
-use Rattle.infer_evidence.proofs.Common.{◌≡◌, ◌+◌, ◌-◌, ◌<◌, ◌≤◌, ◌∙◌, ℕ, List, length, get_or, take, ap, subst, sym, arith, inl, inr, cases_lt, get_or-take, length-take-le, Range, IsSame, place_in, OccursAt, StandsBy, Grows, Hit, IsHit, StandsNowhereBy}
+use Rattle.infer_evidence.proofs.Common.{HasSame, ◌≡◌, ◌+◌, ◌-◌, ◌<◌, ◌≤◌, ◌∙◌, ℕ, List, length, get_or, ap, subst, sym, arith, inl, inr, cases_lt, Range, IsSame, place_in, OccursAt, StandsBy, Grows, Hit, IsHit, StandsNowhereBy}
 use Rattle.infer_evidence.proofs.RangeLemmas.{in_a_row}
 
 -- c has the byte of b at a place
@@ -63,27 +63,17 @@ some_text_of text b end none = elim (cases_lt 0 (length text)) as (λ _. 0 < len
   | inr empty ↦ absurd (none 0 (omega (arith, empty)) (record { fits = omega (arith, empty); reads = λ j lt. absurd (omega (arith, empty, lt)) }))
 ]
 
--- a text that stands in a front of b stands in b, and in whatever is as long and has the same bytes there
-pub stands_by_front : (text b c : List ℕ) (n end p : ℕ) (r : Range) → n ≤ length b → n ≤ end → OccursAt (take n b) text p
-    → p + length text ≤ length c → r.place ≡ p → r.len ≡ length text → r.step ≡ 1 → IsSame b c r → StandsBy text end c
-stands_by_front text b c n end p r within le o long place len step same =
-    let fits = o.fits in
-    let short : length (take n b) ≡ n = length-take-le n b within in (
-      p,
-      record {
-        stands = record {
-          fits = long;
-          reads = λ j lt. (in_a_row b c r step same (p + j) (omega (arith, place)) (omega (arith, place, len, lt))).1
-              ∙ sym (get_or-take n b (p + j) 0 (omega (arith, fits, short, lt))) ∙ o.reads j lt;
-        };
-        low = omega arith;
-        high = omega (arith, fits, short, le);
-      },
-    )
-
--- a text that stands in b by a place stands in the front up to there
-pub front_has : (text b : List ℕ) (n p : ℕ) → n ≤ length b → p + length text ≤ n → OccursAt b text p → OccursAt (take n b) text p
-front_has text b n p within high o = record {
-  fits = let short : length (take n b) ≡ n = length-take-le n b within in omega (arith, short, high);
-  reads = λ j lt. get_or-take n b (p + j) 0 (omega (arith, high, lt)) ∙ o.reads j lt;
-}
+-- a text that stands in b stands in whatever is as long and has the same bytes there
+pub stands_same : (text b c : List ℕ) (n end p : ℕ) → n ≤ end → OccursAt b text p × (p + length text ≤ n)
+    → p + length text ≤ length c → HasSame b c p (length text) → StandsBy text end c
+stands_same text b c n end p le (o, high) long same = (
+  p,
+  record {
+    stands = record {
+      fits = long;
+      reads = λ j lt. (same (p + j) (omega arith) (omega (arith, lt))).1 ∙ o.reads j lt;
+    };
+    low = omega arith;
+    high = omega (arith, high, le);
+  },
+)

@@ -8,7 +8,7 @@ ghost use Rattle.memchr.specs.Find.{OccursAt};
 
 use crate::ranges::{Evidence, Range};
 use crate::weighing::difference;
-use memchr::memmem;
+use infer_deep::places::stands_at;
 
 /// For how many ranges a search asks at most.
 pub const MOST_OF_A_SEARCH: usize = 24;
@@ -125,6 +125,23 @@ pub fn refuse_search(search: &Search, buf: &[u8], row: Option<usize>, evidence: 
     }
 }
 
+/// The first place at which the text stands and ends by `end`.
+fn first_place(text: &[u8], buf: &[u8], end: usize) -> Option<usize>
+    requires { end ≤ length buf.now }
+    ensures some { IfSome result (λ p. OccursAt buf.now text.now p × (p + length text.now ≤ end)) }
+    ensures none { result ≡ None → StandsNowhereBy text.now end buf.now }
+{
+    for place in 0..end + 1 {
+        if text.len() > end - place {
+            return None;
+        }
+        if stands_at(buf, text, place) {
+            return Some(place);
+        }
+    }
+    None
+}
+
 /// Asks for that by which it does: for the bytes of its first place.
 pub fn accept_search(search: &Search, buf: &[u8], row: Option<usize>, evidence: &mut Evidence)
     requires { StandsBy search.now.text.now search.now.end buf.now }
@@ -134,7 +151,7 @@ pub fn accept_search(search: &Search, buf: &[u8], row: Option<usize>, evidence: 
     ensures few { evidence.new.count ≤ evidence.old.count + 1 }
 {
     let end = search.end.min(buf.len());
-    if let Some(place) = memmem::find(&buf[..end], search.text) {
+    if let Some(place) = first_place(search.text, buf, end) {
         evidence.ask_least(place + search.text.len());
         evidence.ask_held(Range::new(place, search.text.len(), row));
     }
