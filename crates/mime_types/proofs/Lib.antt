@@ -14,3 +14,4 @@ pub mod NamedLemmas
 pub mod PiecesLemmas
 pub mod ExtractedLemmas
 pub mod TokenLemmas
+pub mod LetterLemmas

@@ -15,3 +15,7 @@ is_token x =
 -- what values are made of: a tab, and bytes from a blank on, but for 7F
 abbrev pub is_quotable : ℕ → Bool
 is_quotable x = x == 0x09 || is_in_range 0x20 0x7E x || is_in_range 0x80 0xFF x
+
+-- small letters of ASCII
+abbrev pub is_small : ℕ → Bool
+is_small x = is_in_range 0x61 0x7A x

@@ -1,9 +1,15 @@
 //! Groups of MIME types, by the standard's names. No parameter counts.
-ghost use Rattle.std.specs.Prelude.{◌≡◌, ◌↔◌, ◌++◌, ℕ, List, Any, IsTrue, map};
+ghost use Rattle.std.specs.Prelude.{◌≡◌, ◌↔◌, ◌++◌, ◌==◌, ℕ, List, Any, IsTrue, map};
+ghost use Rattle.std.specs.Char.{to_ascii_lowercase};
+ghost use Rattle.std.specs.List.{list_all};
+ghost use Rattle.mime_types.specs.Bytes.{is_small};
 ghost use Rattle.mime_types.specs.Text.{lower};
 
 use crate::mime_type::MimeType;
 use crate::text::rest_at;
+
+/// The bit that small letters of ASCII have, and capital ones lack.
+const SMALL: u8 = b'a' ^ b'A';
 
 impl<'a> MimeType<'a> {
     ghost use Rattle.std.specs.Prelude.{codes};
@@ -11,18 +17,19 @@ impl<'a> MimeType<'a> {
     ghost use Rattle.mime_types.specs.Seen.{kind_of};
 
     /// Whether it is an image.
+    #[inline]
     pub fn is_image(&self) -> bool
         ensures { IsTrue result ↔ IsImage (kind_of self.now) }
     {
-        is_same(self.type_name, b"image")
+        is_word(self.type_name, b"image")
     }
 
     /// Whether it is audio or video.
     pub fn is_audio_or_video(&self) -> bool
         ensures { IsTrue result ↔ IsAudioOrVideo (kind_of self.now) }
     {
-        is_same(self.type_name, b"audio")
-            || is_same(self.type_name, b"video")
+        is_word(self.type_name, b"audio")
+            || is_word(self.type_name, b"video")
             || self.is(b"application", b"ogg")
     }
 
@@ -39,8 +46,8 @@ impl<'a> MimeType<'a> {
             b"vnd.ms-fontobject",
             b"vnd.ms-opentype",
         ];
-        is_same(self.type_name, b"font")
-            || is_same(self.type_name, b"application") && is_one_of(self.subtype, FONTS)
+        is_word(self.type_name, b"font")
+            || is_word(self.type_name, b"application") && is_one_of(self.subtype, FONTS)
     }
 
     /// Whether it is an archive of ZIP, or by its ending based on one.
@@ -55,7 +62,7 @@ impl<'a> MimeType<'a> {
         ensures { IsTrue result ↔ IsArchive (kind_of self.now) }
     {
         const ARCHIVES: &[&[u8]] = &[b"x-rar-compressed", b"zip", b"x-gzip"];
-        is_same(self.type_name, b"application") && is_one_of(self.subtype, ARCHIVES)
+        is_word(self.type_name, b"application") && is_one_of(self.subtype, ARCHIVES)
     }
 
     /// Whether it is XML, also by its ending.
@@ -63,8 +70,8 @@ impl<'a> MimeType<'a> {
         ensures { IsTrue result ↔ IsXml (kind_of self.now) }
     {
         ends_in(self.subtype, b"+xml")
-            || is_same(self.subtype, b"xml")
-                && (is_same(self.type_name, b"text") || is_same(self.type_name, b"application"))
+            || is_word(self.subtype, b"xml")
+                && (is_word(self.type_name, b"text") || is_word(self.type_name, b"application"))
     }
 
     /// Whether it is HTML.
@@ -105,8 +112,8 @@ impl<'a> MimeType<'a> {
             b"x-ecmascript",
             b"x-javascript",
         ];
-        is_same(self.type_name, b"application") && is_one_of(self.subtype, OF_APPLICATION)
-            || is_same(self.type_name, b"text") && is_one_of(self.subtype, OF_TEXT)
+        is_word(self.type_name, b"application") && is_one_of(self.subtype, OF_APPLICATION)
+            || is_word(self.type_name, b"text") && is_one_of(self.subtype, OF_TEXT)
     }
 
     /// Whether it is JSON, also by its ending.
@@ -126,6 +133,33 @@ impl<'a> MimeType<'a> {
     {
         is_same(self.type_name, type_name) && is_same(self.subtype, subtype)
     }
+}
+
+/// Whether the text is the word of small letters, in any ASCII case. The loop does not end early: of one whose length
+/// is known the compiler makes a comparison of words.
+#[tactic(auto, using(crate::proofs::LetterLemmas::lower_is))]
+#[inline(always)]
+fn is_word<const N: usize>(text: &[u8], word: &[u8; N]) -> bool
+    requires { IsTrue (list_all is_small word.now) }
+    ensures { IsTrue result ↔ (lower text.now ≡ word.now) }
+{
+    if text.len() != N {
+        return false;
+    }
+    let mut all = true;
+    for i in 0..N {
+        all &= is_letter(text[i], word[i]);
+    }
+    all
+}
+
+/// Whether the byte is the small letter, or the capital one.
+#[inline(always)]
+fn is_letter(byte: u8, letter: u8) -> bool
+    requires { IsTrue (is_small letter) }
+    ensures { result ≡ (to_ascii_lowercase byte == letter) }
+{
+    byte | SMALL == letter
 }
 
 /// Whether the text is the word, in any ASCII case. The word is in lower case.
