@@ -15,3 +15,4 @@ pub mod PiecesLemmas
 pub mod ExtractedLemmas
 pub mod TokenLemmas
 pub mod LetterLemmas
+pub mod TrimLemmas

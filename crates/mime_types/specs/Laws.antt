@@ -1,6 +1,6 @@
 -- Laws of MIME types.
-use Rattle.std.specs.Prelude.{◌≡◌, ◌↔◌, ◌+◌, ◌++◌, ℕ, All, List, [], ◌∷◌, codes, if◌then◌else◌, length}
-use Rattle.mime_types.specs.Extracted.{said}
+use Rattle.std.specs.Prelude.{◌≡◌, ◌↔◌, ◌+◌, ◌++◌, ℕ, All, List, [], ◌∷◌, Option, codes, if◌then◌else◌, length}
+use Rattle.mime_types.specs.Extracted.{IsExtracted, said}
 use Rattle.mime_types.specs.Groups.{Is}
 use Rattle.mime_types.specs.Mime.{Mime}
 use Rattle.mime_types.specs.Nosniff.{IsNosniff, ends_piece, next_place}
@@ -8,6 +8,7 @@ use Rattle.mime_types.specs.Parse.{Parsed}
 use Rattle.mime_types.specs.Pieces.{pieces}
 use Rattle.mime_types.specs.Serialize.{serialize}
 use Rattle.mime_types.specs.Text.{lower, trim}
+use Rattle.mime_types.specs.declared.extraction.Extracted.{Extracted}
 use Rattle.mime_types.specs.declared.nosniff.Place.{Place}
 use Rattle.mime_types.specs.declared.nosniff.Place.TheVariants.{Outside}
 
@@ -45,3 +46,18 @@ LeavesLastOut = (value : List ℕ) (ps : List (List ℕ)) → pieces value ≡ p
 -- no piece says "*/*"
 abbrev pub SaysNoStars : Type 0
 SaysNoStars = (ps : List (List ℕ)) → All (λ m. ¬ Is (codes "*") (codes "*") m.kind) (said ps)
+
+-- white space at the ends of a value says nothing
+abbrev pub EndsSayNothing : Type 0
+EndsSayNothing = (value : List ℕ) (found : Option Extracted) → IsExtracted (trim value) found ↔ IsExtracted value found
+
+-- the values of several headers as one: each without white space at its ends, with ", " between them
+abbrev pub combined : List (List ℕ) → List ℕ
+combined [] = []
+combined (value ∷ []) = trim value
+combined (value ∷ next ∷ values) = trim value ++ codes ", " ++ combined (next ∷ values)
+
+-- what several values say, the one that is made of them says alone
+abbrev pub CombinesOnce : Type 0
+CombinesOnce =
+    (values : List (List ℕ)) (found : Option Extracted) → IsExtracted (combined (combined values ∷ [])) found ↔ IsExtracted (combined values) found

@@ -1,5 +1,5 @@
 //! Facts about the definitions, each the contract of a function that does nothing beside. To use a law, call it.
-ghost use Rattle.mime_types.specs.Laws.{HasPieces, IsTrimmed, LeavesLastOut, SaysItself, SaysNoStars, SaysOne};
+ghost use Rattle.mime_types.specs.Laws.{CombinesOnce, EndsSayNothing, HasPieces, IsTrimmed, LeavesLastOut, SaysItself, SaysNoStars, SaysOne};
 
 /// No text says two MIME types.
 pub fn one_mime()
@@ -29,4 +29,15 @@ pub fn last_left_out()
 /// No value says `*/*`.
 pub fn says_no_stars()
     ensures { SaysNoStars }
+{}
+
+/// White space at the ends of a value says nothing.
+pub fn ends_say_nothing()
+    ensures { EndsSayNothing }
+{}
+
+/// What several values say, the one that is made of them says alone. So whoever hands on several headers as one, with `, `
+/// between them, changes nothing.
+pub fn combines_once()
+    ensures { CombinesOnce }
 {}
