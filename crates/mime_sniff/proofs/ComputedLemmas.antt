@@ -6,7 +6,6 @@ use Rattle.std.specs.List.{list_all}
 use Rattle.std.specs.Option.{option_or}
 use Rattle.mime_types.specs.Groups.{IsAudioOrVideo, IsImage, essence}
 use Rattle.mime_types.specs.Mime.{Kind}
-use Rattle.mime_types.specs.Text.{lower}
 use Rattle.mime_sniff.specs.Computed.{Answers, IsAsked, IsAskedOf, IsComputed, IsFinal, IsOther, IsScriptableText, IsSuppliedScriptable, IsUnknown, Supply, TellsScriptable, asked_of_unknown, otherwise, rules_of}
 use Rattle.mime_sniff.specs.Laws.{MayEscalate}
 use Rattle.mime_sniff.specs.Rule.{Accepts, Rule, TellsFirst}
@@ -206,7 +205,3 @@ pub stays_of_kind : (s : Supply) (k : Kind) (q : Question) (b : List ℕ) (told 
 stays_of_kind s k q b told is known asked (r, also, h) =
     let this : IsAsked s q = inr (known, subst (λ kind. IfSome kind (λ k. IsAskedOf s k q)) (sym is) asked) in
     told_of q (header b) told (subst (λ x. Answers x (header b) told) (one_question s r q also this) h)
-
--- a word in lower case
-pub written_image : (text : List ℕ) → text ≡ codes "image" → lower text ≡ codes "image"
-written_image text e = ap lower e

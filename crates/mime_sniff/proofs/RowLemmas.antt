@@ -1,11 +1,9 @@
 -- The first row of those that are left.
-use Rattle.memchr.specs.Find.{OccursAt}
-use Rattle.std.proofs.Common.{◌≡◌, ◌∙◌, ℕ, ◌+◌, ◌<◌, ◌≤◌, List, ◌∷◌, Option, None, Some, add-one, ap, arith, drop, drop-cons, get_or, length, map, sym, subst}
+use Rattle.std.proofs.Common.{◌≡◌, ℕ, ◌+◌, ◌<◌, ◌≤◌, List, ◌∷◌, Option, None, Some, add-one, drop, drop-cons, get_or, length, map, sym, subst}
 use Rattle.mime_sniff.specs.Listed.{pattern_listed, rule_listed}
 use Rattle.mime_sniff.specs.Row.{Fits}
 use Rattle.mime_sniff.specs.Rule.{FitsRule, TellsFirst}
 use Rattle.mime_sniff.specs.declared.row.Row as code
-use Rattle.std.proofs.lemmas.Grind.{same_number_lists}
 use Rattle.std.proofs.lemmas.List.{drop_all}
 use Rattle.mime_sniff.proofs.FirstLemmas.{tells_here, tells_later, tells_none}
 
@@ -33,12 +31,3 @@ module _ (text : List ℕ) (rows : List code.Row) (i : ℕ) (d : code.Row) (with
 pub left_none : (text : List ℕ) (rows : List code.Row) (i : ℕ) → length rows ≤ i → TellsFirst (FitsRule text) (map rule_listed (drop i rows)) None
 left_none text rows i all =
     subst (λ (left : List code.Row). TellsFirst (FitsRule text) (map rule_listed left) None) (sym (drop_all i rows all)) (tells_none (FitsRule text))
-
--- a word that stands first in a text of its length is the text
-pub stands_whole : (text word : List ℕ) → length text ≡ length word → OccursAt text word 0 → text ≡ word
-stands_whole text word same o =
-    same_number_lists text word same
-    (λ k within. let none : 0 + k ≡ k = omega arith in sym (ap (λ i. get_or text i 0) none) ∙ o.reads k (omega (arith, same)))
-
-pub stands_itself : (text word : List ℕ) → text ≡ word → OccursAt text word 0
-stands_itself text word e = subst (λ w. OccursAt text w 0) e (record { fits = omega arith; reads = λ j within. let none : 0 + j ≡ j = omega arith in ap (λ i. get_or text i 0) none })

@@ -6,7 +6,6 @@ ghost use Rattle.mime_sniff.specs.Computed.{IsAsked, IsAskedIn, IsAskedOf, IsSup
 
 use crate::context::Context;
 use crate::supplied::Supplied;
-use infer_deep::places::same_at;
 use mime_types::MimeType;
 
 /// Which rules are asked.
@@ -34,32 +33,29 @@ pub(crate) enum Question {
     Manifest,
 }
 
-/// What is asked in a page, by what is supplied. An image that is written in lower case is told by whole words, as most are.
-#[tactic(auto, using(crate::proofs::ComputedLemmas::written_image))]
+/// What is asked in a page, by what is supplied.
 pub(crate) fn asked(supplied: &Supplied<'_>) -> Question
     ensures { IsAsked (supply_of supplied.now) result }
 {
     match &supplied.mime_type {
         None => asked_of_unknown(supplied.no_sniff),
         Some(found) => {
-            if is_word(found.type_name, b"image") {
+            // An image is no other kind, so most is not asked of it.
+            if found.is_image() {
                 return asked_of_image(found, supplied);
             }
-            asked_of_told(found, supplied)
+            asked_of_other(found, supplied)
         },
     }
 }
 
-/// What is asked of a type: a function of its own, so that an image saves no registers for it.
+/// What is asked of a type that is no image: a function of its own, so that an image saves no registers for it.
 #[inline(never)]
-fn asked_of_told(found: &MimeType<'_>, supplied: &Supplied<'_>) -> Question
-    requires { supplied.now.mime_type ≡ Some found.now }
+fn asked_of_other(found: &MimeType<'_>, supplied: &Supplied<'_>) -> Question
+    requires told { supplied.now.mime_type ≡ Some found.now }
+    requires other { ¬ IsImage (kind_of found.now) }
     ensures { IsAsked (supply_of supplied.now) result }
 {
-    // An image is no other kind, so most is not asked of it.
-    if found.is_image() {
-        return asked_of_image(found, supplied);
-    }
     if is_unknown(found) {
         return asked_of_unknown(supplied.no_sniff);
     }
@@ -73,14 +69,6 @@ fn asked_of_unknown(no_sniff: bool) -> Question
         return Question::Unscripted;
     }
     Question::Anything
-}
-
-/// Whether the text is the word.
-#[tactic(auto, using(crate::proofs::RowLemmas::stands_itself, crate::proofs::RowLemmas::stands_whole))]
-fn is_word<const N: usize>(text: &[u8], word: &[u8; N]) -> bool
-    ensures { IsTrue result ↔ (text.now ≡ word.now) }
-{
-    text.len() == N && same_at(text, word, 0)
 }
 
 /// Whether a supplied type tells nothing.
