@@ -20,7 +20,7 @@ const UTF8_MARKS: [u8; 24] =
 
 /// HTML: any white space (09 0A 0C 0D 20), then one of 17 tags in any ASCII case, then a space or ">".
 ///
-/// That this meets the WHATWG sniffing standard is not claimed.
+/// The 17 rows of HTML in the WHATWG's MIME Sniffing Standard accept the same buffers, as a law of `mime_sniff` says.
 pub fn is_html(buf: &[u8]) -> bool
     ensures { IsTrue result ↔ IsHtml buf.now }
 {
@@ -34,8 +34,8 @@ pub fn is_html(buf: &[u8]) -> bool
 /// XML: any white space (09 0A 0C 0D 20), then any byte order marks (EF BB BF, FE FF, FF FE), then "<?xml" in any
 /// ASCII case.
 ///
-/// The marks are only passed over, so XML in UTF-16 is not found. That this meets the WHATWG sniffing standard is
-/// not claimed.
+/// The marks are only passed over, so XML in UTF-16 is not found. The WHATWG's MIME Sniffing Standard takes small letters
+/// alone, and no marks.
 pub fn is_xml(buf: &[u8]) -> bool
     ensures { IsTrue result ↔ IsXml buf.now }
 {
