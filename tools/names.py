@@ -2,6 +2,7 @@
 Code has them as numbers and as one text, since the prover reads those at once; the definition has a key a line."""
 import ast
 import bisect
+import collections
 import re
 from typing import NamedTuple
 
@@ -9,6 +10,7 @@ from texts import kept, text_of
 
 CRATE = "crates/infer_named"
 NAMES = f"{CRATE}/names.txt"
+FURTHER = "vectors/further/rows.tsv"
 # How many slots there are, and of how many the keys are one list of the definition.
 SLOTS, GROUP = 512, 64
 LONGEST = 27
@@ -373,11 +375,36 @@ def name(line):
     return Name(text, found["part"].title(), bool(found["loose"]), readings)
 
 
+def text_named(line):
+    found = LINE.fullmatch(line)
+    return found["text"] if found else ""
+
+
+def lines_of_rows(named):
+    """A line for each further row that is not named: its extension, which says nothing of bytes that the row refuses."""
+    with_extension = collections.Counter(extension for extension, _ in all_rows())
+    for line in text_of(FURTHER).splitlines():
+        _, mime_type, extension, parent, *_ = line.split("\t")
+        if named.isdisjoint((extension, mime_type)):
+            row = extension if with_extension[extension] == 1 else mime_type
+            yield f"extension {extension}: {mime_type} (row {row}), signature; agrees {row}" + (f"; begins {parent}" if parent != "none" else "")
+
+
+@kept
+def names_lines():
+    """The lines of names.txt, and at their places those of rows that no line names."""
+    lines = text_of(NAMES).splitlines()
+    sets = [it for line in lines for it in re.findall("; (?:agrees|begins|finer) ([^;|]*)", line)]
+    for line in lines_of_rows({row for it in sets for row in rows_of(it)} | set(nameless())):
+        lines.insert(bisect.bisect(lines, text_named(line), key=text_named), line)
+    return lines
+
+
 @kept
 def listed():
     """The names in order. It ends with the first line that is wrong."""
     names = []
-    for number, line in enumerate(text_of(NAMES).splitlines(), 1):
+    for number, line in enumerate(names_lines(), 1):
         if line.startswith("#") or NAMELESS.fullmatch(line):
             continue
         try:
@@ -398,8 +425,7 @@ def nameless():
 @kept
 def all_rows():
     """The texts of each row: its extension and its MIME type, the built-in ones first."""
-    lists = ("vectors/rows.tsv", "vectors/further/rows.tsv")
-    return [(line[2], line[1]) for path in lists for line in (it.split("\t") for it in text_of(path).splitlines())]
+    return [(line[2], line[1]) for path in ("vectors/rows.tsv", FURTHER) for line in (it.split("\t") for it in text_of(path).splitlines())]
 
 
 @kept
@@ -874,6 +900,7 @@ def texts_term():
 
 
 def made():
+    yield NAMES, "".join(f"{it}\n" for it in names_lines())
     yield f"{CRATE}/src/tests/generated.rt", tests()
     for name, code in (("keys", keys_code), ("texts", texts_code), ("types", types_code), ("sets", sets_code)):
         yield f"{CRATE}/src/table/generated/{name}.rt", code()
