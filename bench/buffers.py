@@ -95,6 +95,7 @@ def told():
     return [
         ("a PNG image, told as one", "image/png", png),
         ("a PNG image, told as a JPEG image", "image/jpeg", png),
+        ("a PNG image, told so in capitals", "IMAGE/JPEG", png),
         ("a WebP image, told as a PNG image", "image/png", (b"RIFF\0\0\0\0WEBPVP8 " + bytes(512))[:512]),
         ("a text, told as an image", "image/png", text),
         ("a text, told as HTML", "text/html", text),
