@@ -1,5 +1,5 @@
 -- When more bytes leave the computed type as it is.
-use Rattle.std.proofs.Common.{◌≡◌, ◌∙◌, inl, inr, ℕ, ◌+◌, ◌-◌, ◌≤◌, List, [], ◌++◌, Any, None, Option, ap, append_assoc, arith, length, subst, sym, take}
+use Rattle.std.proofs.Common.{◌≡◌, ◌∙◌, inl, inr, ℕ, suc, ◌+◌, ◌-◌, ◌≤◌, List, [], ◌∷◌, ◌++◌, Any, None, Option, Some, ap, append_assoc, arith, length, refl, subst, sym, take}
 use Rattle.std.proofs.Math.Seq.{take-append-add}
 use Rattle.std.proofs.lemmas.Bool.{cases_lt}
 use Rattle.std.proofs.lemmas.List.{append-nil, take-append-le, take_all}
@@ -9,6 +9,7 @@ use Rattle.mime_sniff.specs.Rule.{Accepts, Rule, TellsFirst}
 use Rattle.mime_sniff.specs.Standard.{header, scriptable}
 use Rattle.mime_sniff.specs.declared.question.Question.{Question}
 use Rattle.mime_sniff.proofs.ComputedLemmas.{one_answer, one_question}
+use Rattle.mime_sniff.proofs.FirstLemmas.{no_first, tells_cases}
 
 module _ (b more : List ℕ) where
   full_stays : 1445 ≤ length b → header (b ++ more) ≡ header b
@@ -39,6 +40,14 @@ decided_settled s b q told asked good more now (r, also, h) =
 -- no rule accepts, if all refuse
 pub no_rule : (P : Rule → Type 0) (rules : List Rule) → TellsFirst P rules None → ¬ Any P rules
 no_rule P rules all (k, rule, within, at, accepts) = all k rule within (subst P (sym at) accepts)
+
+-- and one does, if they tell a type
+pub some_rule : (P : Rule → Type 0) (rules : List Rule) (t : List ℕ) → TellsFirst P rules (Some t) → Any P rules
+some_rule P [] t (rule, first, e) = absurd (no_first P rule first)
+some_rule P (x ∷ rules) t h = elim (tells_cases P x rules (Some t) h) [
+  | inl (p, is) ↦ (0, x, omega arith, refl, p)
+  | inr (not, rest) ↦ let (n, y, within, at, p) = some_rule P rules t rest in (suc n, y, omega (arith, within), at, p)
+]
 
 pub never_full : (b : List ℕ) → 1445 ≤ length b → TellsFirst (Accepts (header b)) scriptable None → NeverScripts b
 never_full b full none more = subst (λ h. ¬ Any (Accepts h) scriptable) (sym (full_stays b more full)) (no_rule (Accepts (header b)) scriptable none)

@@ -12,7 +12,7 @@ module _ (P : Rule → Type 0) where
   tells_none = All-nil _
 
   -- no rule of no rules is the first
-  no_first : (rule : Rule) → IsFirst P [] rule → ⊥
+  pub no_first : (rule : Rule) → IsFirst P [] rule → ⊥
   no_first rule first = empty first.before first.whole
     where
       empty : (before : List Rule) → [] ≡ before ++ rule ∷ first.after → ⊥

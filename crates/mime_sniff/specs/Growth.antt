@@ -25,9 +25,12 @@ told_or_else (Some (Some t)) behind = Some (Some t)
 abbrev pub NeverHolds : (List ℕ → Type 0) → List ℕ → Type 0
 NeverHolds P b = (more : List ℕ) → ¬ P (b ++ more)
 
--- whatever follows b, no rule of what may run scripts accepts it
+-- a rule of what may run scripts accepts b; and none does, whatever follows it
+abbrev pub Scripts : List ℕ → Type 0
+Scripts b = Any (Accepts (header b)) scriptable
+
 abbrev pub NeverScripts : List ℕ → Type 0
-NeverScripts b = (more : List ℕ) → ¬ Any (Accepts (header (b ++ more))) scriptable
+NeverScripts b = NeverHolds Scripts b
 
 -- the bytes of b that are there are those of a header of MPEG audio
 pub record MayBeginHeader (b : List ℕ) : Type 0 where

@@ -1,8 +1,8 @@
 //! The type that a browser computes of a resource.
-ghost use Rattle.std.specs.Prelude.{◌≡◌, ◌↔◌, Any, IsTrue, map, option_map};
+ghost use Rattle.std.specs.Prelude.{◌≡◌, ◌↔◌, ◌≤◌, Any, IsTrue, length, map, option_map};
 ghost use Rattle.mime_sniff.specs.Computed.{IsComputed, IsComputedIn, apache_bugs, supply_of, told_by};
 ghost use Rattle.std.specs.Bool.{OnFalse, OnTrue};
-ghost use Rattle.mime_sniff.specs.Growth.{IsDecided, NeverScripts};
+ghost use Rattle.mime_sniff.specs.Growth.{IsDecided, NeverScripts, Scripts};
 ghost use Rattle.mime_sniff.specs.Standard.{header};
 
 use crate::context::Context;
@@ -47,10 +47,12 @@ pub fn compute_in(context: Context, supplied: &Supplied<'_>, buf: &[u8]) -> Comp
     told(answer(asked_in(context, supplied), header(buf)))
 }
 
-/// Whether no bytes behind the first ones change the computed type. A yes is right; a no may be too careful: as long as a
-/// box of MP4, the mark of WebM or a frame of MP3 has begun, and where all that may still come tells the same.
+/// Whether no bytes behind the first ones change the computed type. A yes is right, and of 1445 bytes it is one; a no may be
+/// too careful: as long as a box of MP4, the mark of WebM or a frame of MP3 has begun, and where all that may still come
+/// tells the same.
 pub fn is_decided(supplied: &Supplied<'_>, buf: &[u8]) -> bool
-    ensures { OnTrue result (IsDecided (supply_of supplied.now) buf.now) }
+    ensures right { OnTrue result (IsDecided (supply_of supplied.now) buf.now) }
+    ensures full { HEADER_LENGTH ≤ length buf.now → IsTrue result }
 {
     if buf.len() >= HEADER_LENGTH {
         return true;
@@ -62,13 +64,15 @@ pub fn is_decided(supplied: &Supplied<'_>, buf: &[u8]) -> bool
 }
 
 /// Whether a browser that knows no type may tell one that runs scripts, by these first bytes or with more behind them. A no
-/// is right, so no script of such a file runs; a yes may be too careful where a tag no longer fits into 1445 bytes.
+/// is right, so no script of such a file runs. Of 1445 bytes a yes is, too; of fewer it may be too careful where a tag no longer
+/// fits into these.
 ///
 /// ```
 /// assert!(rt; mime_sniff::may_be_scriptable(b" <scr") && !mime_sniff::may_be_scriptable(b"GIF"));
 /// ```
 pub fn may_be_scriptable(buf: &[u8]) -> bool
-    ensures { OnFalse result (NeverScripts buf.now) }
+    ensures right { OnFalse result (NeverScripts buf.now) }
+    ensures full { HEADER_LENGTH ≤ length buf.now → (IsTrue result ↔ Scripts buf.now) }
 {
     let header = header(buf);
     if buf.len() >= HEADER_LENGTH {

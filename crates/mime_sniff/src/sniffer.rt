@@ -1,5 +1,5 @@
 //! First bytes that come in pieces.
-ghost use Rattle.std.specs.Prelude.{◌≡◌, ◌≤◌, ◌++◌, ℕ, List, [], length, take};
+ghost use Rattle.std.specs.Prelude.{◌≡◌, ◌≤◌, ◌++◌, ℕ, IsTrue, List, [], length, take};
 ghost use Rattle.std.specs.Bool.{OnTrue};
 ghost use Rattle.mime_sniff.specs.Computed.{IsComputed, supply_of, told_by};
 ghost use Rattle.mime_sniff.specs.Growth.{IsDecided};
@@ -73,7 +73,8 @@ impl Sniffer {
     /// Whether no further pieces change it. A yes is right; a no may be too careful, as that of
     /// [`is_decided`](crate::is_decided).
     pub fn is_decided(&self, supplied: &Supplied<'_>) -> bool
-        ensures { OnTrue result (IsDecided (supply_of supplied.now) self.now) }
+        ensures right { OnTrue result (IsDecided (supply_of supplied.now) self.now) }
+        ensures full { HEADER_LENGTH ≤ length self.now → IsTrue result }
     {
         is_decided(supplied, self.kept())
     }

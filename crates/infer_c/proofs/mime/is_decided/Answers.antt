@@ -9,4 +9,4 @@ pub returns : goal.returns
 returns c =
     let supplied = c.supplied.result in
     let is = supply_is supplied c.args.flags c.supplied.ensures.no_sniff c.supplied.ensures.old_server in
-    (option_map mime_of supplied.mime_type, c.supplied.ensures.says, subst (λ s. OnTrue c.is_decided.result (IsDecided s c.args.buf.now)) is c.is_decided.ensures)
+    (option_map mime_of supplied.mime_type, c.supplied.ensures.says, subst (λ s. OnTrue c.is_decided.result (IsDecided s c.args.buf.now)) is c.is_decided.ensures.right)
