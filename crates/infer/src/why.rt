@@ -102,7 +102,9 @@ fn weigh_row(row: usize, buf: &[u8], evidence: &mut Evidence) -> bool
     accepts
 }
 
-/// The first of the rows that accepts the buffer, and asks for what tells that it is.
+/// The first of the rows that accepts the buffer, and asks for what tells that it is. It is not inlined, so that an answer
+/// with a guard alone pays nothing for it.
+#[inline(never)]
 fn weigh_rows(rows: &[usize], buf: &[u8], evidence: &mut Evidence) -> Option<usize>
     ensures first { IsFirstAmong (RowHas (Accepts buf.now)) rows.now result }
     ensures tells { TellsFirst evidence.old evidence.new buf.now rows.now result }
@@ -266,6 +268,7 @@ fn told_by_guard(row: usize, buf: &[u8], evidence: &mut Evidence) -> bool
 }
 
 /// The first of the candidates that accepts the buffer, and asks for what tells that it is.
+#[inline(never)]
 fn weigh_candidates(buf: &[u8], evidence: &mut Evidence) -> Option<usize>
     ensures first { IsFirstOf (Accepts buf.now) table result }
     ensures decides { Decides evidence.new buf.now result }

@@ -1,8 +1,8 @@
 -- Which bytes of a buffer decide.
-use Rattle.std.specs.Prelude.{◌≡◌, ◌+◌, ◌*◌, ◌<◌, ◌≤◌, ◌==◌, ℕ, List, Option, None, Some, All, IsTrue, if◌then◌else◌, length, slice_index, take}
+use Rattle.std.specs.Prelude.{◌≡◌, ◌+◌, ◌*◌, ◌<◌, ◌≤◌, ℕ, zero, suc, List, Option, None, Some, All, IsTrue, length, slice_index, take}
 use Rattle.infer_evidence.specs.declared.ranges.Evidence.{Evidence}
 use Rattle.infer_evidence.specs.declared.ranges.Range.{Range}
-use Rattle.infer_evidence.specs.declared.ranges.TheConstants.{MOST_RANGES, NO_ROW}
+use Rattle.infer_evidence.specs.declared.ranges.TheConstants.{MOST_RANGES}
 
 -- the ranges that the evidence names
 abbrev pub ranges_of : Evidence → List Range
@@ -26,9 +26,13 @@ pub record Grows (r : Range) (place : ℕ) (s : Range) : Type 0 where
   pub before : (k : ℕ) → k < r.len → place_in s k ≡ place_in r k
   pub last : place_in s r.len ≡ place
 
--- the row of which the range tells
+-- the row of which the range tells: it keeps one more than its number, and 0 for none
+abbrev pub row_kept : ℕ → Option ℕ
+row_kept zero = None
+row_kept (suc i) = Some i
+
 abbrev pub row_of : Range → Option ℕ
-row_of r = if r.row == NO_ROW then None else Some r.row
+row_of r = row_kept r.row
 
 -- c agrees with b on the evidence, which has room for all its ranges: it has the same bytes in each of them, the length that
 -- is needed at least, and that of b if this is

@@ -5,8 +5,11 @@ ghost use Rattle.infer_evidence.specs.Evidence.{AgreesOn, Grows, HasSame, IsArou
 /// For how many ranges an [`Evidence`] has room.
 pub const MOST_RANGES: usize = 80;
 
-/// The row of a range that tells of none.
-const NO_ROW: u32 = u32::MAX;
+/// What a range that tells of no row keeps in its place: so one without a byte is zeros, as which many are made at once.
+const NO_ROW: u32 = 0;
+
+/// A range can tell of the rows below this one.
+const ROW_LIMIT: usize = u32::MAX as usize;
 
 /// How far apart bytes of a range are at most.
 const MOST_STEP: usize = 1 << 16;
@@ -30,13 +33,25 @@ impl Range {
         ensures step { result.step ≡ 1 }
         ensures reads { (b c : List ℕ) → IsSame b c result → HasSame b c place len }
         ensures inside { (b : List ℕ) → place + len ≤ length b → IsInside b result }
-        ensures row { MatchOption row (row_of result ≡ None) (λ i. i < NO_ROW → row_of result ≡ Some i) }
+        ensures row { MatchOption row (row_of result ≡ None) (λ i. i < ROW_LIMIT → row_of result ≡ Some i) }
     {
         Range {
             place,
             len,
             step: 1,
             row: number(row),
+        }
+    }
+
+    /// No byte, of no row.
+    fn blank() -> Range
+        ensures { result.len ≡ 0 }
+    {
+        Range {
+            place: 0,
+            len: 0,
+            step: 0,
+            row: NO_ROW,
         }
     }
 
@@ -47,7 +62,7 @@ impl Range {
         if self.row == NO_ROW {
             return None;
         }
-        Some(self.row as usize)
+        Some(self.row as usize - 1)
     }
 
     /// Makes the byte at `place` one more of the range, if it can be: if it is the first, the second, or as far behind the last
@@ -80,13 +95,13 @@ impl Range {
     }
 }
 
-/// The number of the row as a range keeps it.
+/// The number of the row as a range keeps it: one more.
 fn number(row: Option<usize>) -> u32
     ensures none { row ≡ None → result ≡ NO_ROW }
-    ensures some { IfSome row (λ i. i < NO_ROW → result ≡ i) }
+    ensures some { IfSome row (λ i. i < ROW_LIMIT → result ≡ i + 1) }
 {
     match row {
-        Some(i) if i < NO_ROW as usize => i as u32,
+        Some(i) if i < ROW_LIMIT => i as u32 + 1,
         _ => NO_ROW,
     }
 }
@@ -108,7 +123,7 @@ impl Evidence {
         ensures exact { result.exact ≡ false }
     {
         Evidence {
-            ranges: [Range::new(0, 0, None); MOST_RANGES],
+            ranges: [Range::blank(); MOST_RANGES],
             count: 0,
             least: 0,
             exact: false,

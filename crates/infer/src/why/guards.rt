@@ -4,6 +4,7 @@ ghost use Rattle.std.specs.Prelude.{◌≤◌, ℕ, IfSome, IsTrue};
 ghost use Rattle.infer.specs.Guards.{alternatives_of, are_guards, guard_rows};
 ghost use Rattle.infer.specs.Table.{signature_of};
 
+use super::signatures::ROWS_OF_A_LIST;
 use crate::table::rows::*;
 
 /// A place, one or two bytes that rows have there, whether the answer's own bytes or a probe before name the byte there, and
@@ -213,14 +214,14 @@ fn guards_from_96() -> &'static [&'static [Option<Guard>]]
 fn list_of(row: usize) -> Option<(usize, &'static [&'static [Option<Guard>]])>
     ensures { IfSome result (λ list. (list.0 ≤ row) × IsTrue (guard_rows list.0 list.1.now)) }
 {
-    match row {
-        0..=15 => Some((0, guards_from_0())),
-        16..=31 => Some((16, guards_from_16())),
-        32..=47 => Some((32, guards_from_32())),
-        48..=63 => Some((48, guards_from_48())),
-        64..=79 => Some((64, guards_from_64())),
-        80..=95 => Some((80, guards_from_80())),
-        96..=111 => Some((96, guards_from_96())),
+    match row / ROWS_OF_A_LIST {
+        0 => Some((0, guards_from_0())),
+        1 => Some((16, guards_from_16())),
+        2 => Some((32, guards_from_32())),
+        3 => Some((48, guards_from_48())),
+        4 => Some((64, guards_from_64())),
+        5 => Some((80, guards_from_80())),
+        6 => Some((96, guards_from_96())),
         _ => None,
     }
 }

@@ -12,6 +12,9 @@ use infer_evidence::Part::{AnyText, Byte, Text};
 use infer_evidence::Set::{AllBut, AnyOf, Between};
 use infer_evidence::{Alternative, Search};
 
+/// How many rows stand in a list.
+pub(super) const ROWS_OF_A_LIST: usize = 16;
+
 macro_rules! signatures {
     ($($row:ident $([$($alternative:tt)*])*;)*) => {
         [$(signature!($([$($alternative)*])*)),*]
@@ -196,14 +199,14 @@ fn list_of(row: usize) -> Option<(usize, &'static [Option<&'static [Alternative]
     ensures { IfSome result (λ list. (list.0 ≤ row)
         × ((n : ℕ) × AreListed list.0 n list.1.now)) }
 {
-    match row {
-        0..=15 => Some((0, rows_from_0())),
-        16..=31 => Some((16, rows_from_16())),
-        32..=47 => Some((32, rows_from_32())),
-        48..=63 => Some((48, rows_from_48())),
-        64..=79 => Some((64, rows_from_64())),
-        80..=95 => Some((80, rows_from_80())),
-        96..=111 => Some((96, rows_from_96())),
+    match row / ROWS_OF_A_LIST {
+        0 => Some((0, rows_from_0())),
+        1 => Some((16, rows_from_16())),
+        2 => Some((32, rows_from_32())),
+        3 => Some((48, rows_from_48())),
+        4 => Some((64, rows_from_64())),
+        5 => Some((80, rows_from_80())),
+        6 => Some((96, rows_from_96())),
         _ => None,
     }
 }
