@@ -138,18 +138,18 @@ module _ (base : List ℕ) (k : ℕ) (le : k ≤ length base) (long : 28 < lengt
       (subst (λ e. MatchOption e (IsDottedKey keys base (Some key)) (λ k. Some key ≡ Some k)) (sym no_whole_key) (Some key, extension_of_end edge (Some key) is, refl))
 
   -- and no maker stands before a first dot that is none of the first of them
-  no_maker_before : ((i : ℕ) → i < k → ¬ (is_byte 0x2E (get_or base i 0) ≡ true)) → IsFirstByte (is_byte 0x2E) (take 14 end) None → IsMakerKey keys base None
+  no_maker_before : ((i : ℕ) → i < k → ¬ (is_byte 0x2E (get_or base i 0) ≡ true)) → IsFirstByte (is_byte 0x2E) (take 16 end) None → IsMakerKey keys base None
   no_maker_before front none =
-      let size : length (take 14 end) ≡ 14 = length-take-le 14 end (omega (arith, many)) in
-      let all : length (take (k + 14) base) ≡ k + 14 = length-take-le (k + 14) base (omega arith) in
-      no_maker_key base keys (k + 14) (omega arith) (inr (omega arith)) (λ i low lt is. elim (cases_lt i k) [
-        | inl early ↦ front i early (subst (λ y. is_byte 0x2E y ≡ true) (get_or-take (k + 14) base i 0 (omega arith)) is)
+      let size : length (take 16 end) ≡ 16 = length-take-le 16 end (omega (arith, many)) in
+      let all : length (take (k + 16) base) ≡ k + 16 = length-take-le (k + 16) base (omega arith) in
+      no_maker_key base keys (k + 16) (omega arith) (inr (omega arith)) (λ i low lt is. elim (cases_lt i k) [
+        | inl early ↦ front i early (subst (λ y. is_byte 0x2E y ≡ true) (get_or-take (k + 16) base i 0 (omega arith)) is)
         | inr behind ↦ none (i - k) (omega arith) (omega (arith, size, all)) (subst (λ y. is_byte 0x2E y ≡ true)
-            (get_or-take (k + 14) base i 0 (omega (arith, all)) ∙ (sym (late i behind) ∙ sym (get_or-take 14 end (i - k) 0 (omega (arith, all))))) is)
+            (get_or-take (k + 16) base i 0 (omega (arith, all)) ∙ (sym (late i behind) ∙ sym (get_or-take 16 end (i - k) 0 (omega (arith, all))))) is)
       ])
 
   pub stem_without_end : copy_length end ≡ 0 → HasEdge end → IsExtensionKey keys end None
-      → ((i : ℕ) → i < k → ¬ (is_byte 0x2E (get_or base i 0) ≡ true)) → IsFirstByte (is_byte 0x2E) (take 14 end) None → IsStemKey keys (stem_of base) None
+      → ((i : ℕ) → i < k → ¬ (is_byte 0x2E (get_or base i 0) ≡ true)) → IsFirstByte (is_byte 0x2E) (take 16 end) None → IsStemKey keys (stem_of base) None
   stem_without_end no_copy edge is front none =
       subst (λ stem. IsStemKey keys stem None) (sym (stem_is no_copy))
       (subst (λ e. MatchOption e (IsDottedKey keys base None) (λ k. None ≡ Some k)) (sym no_whole_key) (None, extension_of_end edge None is, no_maker_before front none))
@@ -169,7 +169,7 @@ module _ (name : List ℕ) (near : ℕ) (le : near ≤ length name) (none : IsLa
 
   -- and that it has none
   pub no_key_of_end : IsSettled (drop near name) → IsExtensionKey keys (drop near name) None → IsFirstByte (is_byte 0x2E) (take near name) None
-      → IsFirstByte (is_byte 0x2E) (take 14 (drop near name)) None → IsFirstByte (is_byte 0) name None → IsKey keys name None
+      → IsFirstByte (is_byte 0x2E) (take 16 (drop near name)) None → IsFirstByte (is_byte 0) name None → IsKey keys name None
   no_key_of_end (long, no_copy, edge) is no_dot no_early_dot zero =
       let (base, is_base) = base_of name in
       let (k, within, same, front) = end_of_base keys name near none base is_base le in
@@ -182,5 +182,5 @@ module _ (name : List ℕ) (near : ℕ) (le : near ≤ length name) (none : IsLa
       let early : (i : ℕ) → i < k → ¬ (is_byte 0x2E (get_or base i 0) ≡ true) = λ i lt dot.
       let (p, before, at) = front i lt in
       no_dot p (omega arith) (omega (arith, size)) (subst (λ y. is_byte 0x2E y ≡ true) (at ∙ sym (get_or-take near name p 0 before)) dot) in
-      let late = subst (λ end. IsFirstByte (is_byte 0x2E) (take 14 end) None) (sym same) no_early_dot in
+      let late = subst (λ end. IsFirstByte (is_byte 0x2E) (take 16 end) None) (sym same) no_early_dot in
       (None, zero, (base, is_base, stem_without_end base k within enough copy (subst (λ end. HasEdge end) (sym same) edge) its early late))

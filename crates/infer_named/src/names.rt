@@ -1,5 +1,5 @@
 //! The key of a name.
-ghost use Rattle.std.specs.Prelude.{◌≡◌, ◌+◌, ◌-◌, ◌<◌, ◌≤◌, ◌==◌, ℕ, IfSome, Option, IsTrue, None, Some, drop, false, if◌then◌else◌, length, map, not, option_map, take, true};
+ghost use Rattle.std.specs.Prelude.{◌≡◌, ◌+◌, ◌-◌, ◌<◌, ◌≤◌, ◌==◌, ℕ, IfSome, Option, IsTrue, None, Some, codes, drop, false, if◌then◌else◌, length, map, not, option_map, take, true};
 ghost use Rattle.std.specs.Bool.{OnTrue};
 ghost use Rattle.std.specs.Char.{to_ascii_lowercase};
 ghost use Rattle.std.specs.List.{find, list_any};
@@ -12,12 +12,12 @@ ghost use Rattle.infer_named.specs.Marks.{mark_of};
 ghost use Rattle.infer_named.specs.Parts.{ArePartsAmong, are_parts_from};
 ghost use Rattle.infer_named.specs.Names.{IsBase, IsDottedKey, IsExtensionKey, IsKey, IsLastDot, IsMakerKey, IsStemKey, IsVersioned, are_parts, copy_length, ends_copy, ends_in, entry, extension_at, is_digit, is_key, is_version, is_version_byte, makers, same_part, slot_of, small, stem_of};
 ghost use Rattle.infer_named.specs.Table.{keys};
-ghost use Rattle.infer_named.specs.declared.table.Part.TheVariants.{Whole};
+ghost use Rattle.infer_named.specs.declared.table.Part.TheVariants.{Extension, Whole};
 
 use crate::least::least;
 use crate::marks::{is_marked, mark};
 use crate::table::{Key, Part, key_text, slot, whole_marks};
-use memchr::{memchr, memrchr, memrchr2, memrchr3};
+use memchr::{memchr, memrchr, memrchr2};
 
 /// How many bytes at the end of a name are searched first: so many that those before each dot of a key fill a vector.
 const NEAR: usize = 64;
@@ -34,15 +34,64 @@ const MAKER_FRONT: usize = 14;
 /// So many bytes of a long version are read at once.
 const BLOCK: usize = 64;
 
+/// How many bytes a vector has.
+const LANES: usize = 16;
+
 /// The key of the name, and `None` exactly if it has none. Most bases are short, so its last bytes are searched by themselves.
 pub fn key(name: &[u8]) -> Option<&'static Key>
     ensures { IsKey keys name.now (option_map (λ k. key_listed k.now) result) }
 {
     let near = name.len().saturating_sub(NEAR);
-    match memrchr3(0, b'/', b'\\', &name[near..]) {
+    match last_edge(&name[near..]) {
         Some(place) => key_behind(name, near + place),
         None => key_without_edge(name, near),
     }
+}
+
+/// Where the last byte 00, "/" or "\" stands.
+fn last_edge(end: &[u8]) -> Option<usize>
+    ensures { IsLastByte (is_byte3 0 0x2F 0x5C) end.now result }
+{
+    let mut place = before_plain(end);
+    while place > 0 {
+        place -= 1;
+        if is_edge(end[place]) {
+            return Some(place);
+        }
+    }
+    None
+}
+
+/// What stands before whole vectors without such a byte at the end.
+fn before_plain(end: &[u8]) -> usize
+    ensures within { result ≤ length end.now }
+    ensures plain { Nowhere (Passes (is_byte3 0 0x2F 0x5C) end.now) result (length end.now) }
+{
+    let mut place = end.len();
+    while LANES <= place && is_plain(end, place - LANES) {
+        place -= LANES;
+    }
+    place
+}
+
+/// Whether a vector from this place on has no such byte.
+#[inline(always)]
+fn is_plain(end: &[u8], from: usize) -> bool
+    requires { from + 16 ≤ length end.now }
+    ensures { OnTrue result (Nowhere (Passes (is_byte3 0 0x2F 0x5C) end.now) from (from + 16)) }
+{
+    let mut all = true;
+    for i in 0..LANES {
+        all &= !is_edge(end[from + i]);
+    }
+    all
+}
+
+/// Whether the byte is 00, "/" or "\". Small letters, which most are, are none by one comparison.
+fn is_edge(byte: u8) -> bool
+    ensures { result ≡ is_byte3 0 0x2F 0x5C byte }
+{
+    byte <= b'\\' && (byte == 0 || byte == b'/' || byte == b'\\')
 }
 
 /// The key of a name none of whose bytes from this place on is 00, "/" or "\".
@@ -119,9 +168,14 @@ fn settled_key(name: &[u8], near: usize, least: u8) -> Option<&'static Key>
 /// Whether its first bytes have no dot, so that what stands before one is longer than a maker.
 fn has_late_dots(end: &[u8]) -> bool
     requires { 28 < length end.now }
-    ensures { OnTrue result (IsFirstByte (is_byte 0x2E) (take 14 end.now) None) }
+    ensures { OnTrue result (IsFirstByte (is_byte 0x2E) (take 16 end.now) None) }
 {
-    memchr(b'.', &end[..MAKER_FRONT]).is_none()
+    // No early exit: of a loop whose length is known the compiler makes vectors.
+    let mut late = true;
+    for i in 0..LANES {
+        late &= end[i] != b'.';
+    }
+    late
 }
 
 /// The key of a name without a byte 00.
@@ -272,7 +326,7 @@ fn extension_key(stem: &[u8]) -> Option<&'static Key>
     ensures { IsExtensionKey keys stem.now (option_map (λ k. key_listed k.now) result) }
 {
     if is_versioned(stem) {
-        return entry(Part::Extension, b"so");
+        return versioned_key();
     }
     let last = near_dot(stem, stem.len());
     let second = second_dot(stem, last);
@@ -280,6 +334,13 @@ fn extension_key(stem: &[u8]) -> Option<&'static Key>
         Some(found) => Some(found),
         None => extension_at(stem, last),
     }
+}
+
+/// The key of a versioned name. Its search is inlined with the text, so that the compiler does it.
+fn versioned_key() -> Option<&'static Key>
+    ensures { option_map (λ k. key_listed k.now) result ≡ entry keys Extension (codes "so") }
+{
+    entry_here(Part::Extension, b"so")
 }
 
 /// The last dot before the place, but for one that is the first byte.
@@ -351,6 +412,9 @@ fn is_versioned(stem: &[u8]) -> bool
 fn version_edge(stem: &[u8]) -> Option<usize>
     ensures { IsLastByte (λ x. not (is_version_byte x)) stem.now result }
 {
+    if ends_otherwise(stem) {
+        return Some(stem.len() - 1);
+    }
     let mut edge = before_blocks(stem);
     while edge > 0 {
         edge -= 1;
@@ -359,6 +423,16 @@ fn version_edge(stem: &[u8]) -> Option<usize>
         }
     }
     None
+}
+
+/// Whether the last byte is one that is neither, as that of most names.
+fn ends_otherwise(stem: &[u8]) -> bool
+    ensures { IsTrue result → IsLastByte (λ x. not (is_version_byte x)) stem.now (Some (length stem.now - 1)) }
+{
+    match stem {
+        [.., last] => !is_version_byte(*last),
+        [] => false,
+    }
 }
 
 /// What stands before whole blocks of digits and dots at the end, as none but a name that is to cost much has them.
@@ -496,14 +570,23 @@ fn is_maker(text: &[u8]) -> bool
 }
 
 /// The key of the table that is this part of a name, with this text in small letters.
-#[tactic(auto, using(crate::proofs::TableLemmas::found_in_slot))]
 pub fn entry(part: Part, text: &[u8]) -> Option<&'static Key>
+    ensures { option_map (λ k. key_listed k.now) result ≡ entry keys part text.now }
+{
+    entry_here(part, text)
+}
+
+/// The same, where it is called.
+#[inline(always)]
+#[tactic(auto, using(crate::proofs::TableLemmas::found_in_slot))]
+fn entry_here(part: Part, text: &[u8]) -> Option<&'static Key>
     ensures { option_map (λ k. key_listed k.now) result ≡ entry keys part text.now }
 {
     find_in(slot(slot_of(text)), part, text)
 }
 
 /// The first of these keys that is this part of a name, with this text in small letters.
+#[inline(always)]
 fn find_in(names: &'static [Key], part: Part, text: &[u8]) -> Option<&'static Key>
     ensures { option_map (λ k. key_listed k.now) result ≡ find (is_key part (small text.now)) (map key_listed names.now) }
 {

@@ -29,7 +29,7 @@ returns-then-has_late_dots c =
     let zero = none_of (take near name) c.args.least c.requires.least 0 (omega arith) c.requires.no_zero in
     let no_dot = none_of (take near name) c.args.least c.requires.least 0x2E (omega arith) c.if-least-gt46.true in
     no_key_of_end name near c.requires.place c.requires.none c.requires.settled (subst (λ end. IsExtensionKey keys end None) rest c.in-None.ensures) no_dot
-    (subst (λ end. IsFirstByte (is_byte 0x2E) (take 14 end) None) rest c.if-has_late_dots.ensures)
+    (subst (λ end. IsFirstByte (is_byte 0x2E) (take 16 end) None) rest c.if-has_late_dots.ensures)
     (no_zero keys name near c.requires.place zero (none_behind keys name near c.requires.none))
 
 pub far_key-requires : goal.far_key-requires
