@@ -82,7 +82,7 @@ fn is_plain(end: &[u8], from: usize) -> bool
 {
     let mut all = true;
     for i in 0..LANES {
-        all &= !is_edge(end[from + i]);
+        all &= !is_any_edge(end[from + i]);
     }
     all
 }
@@ -92,6 +92,13 @@ fn is_edge(byte: u8) -> bool
     ensures { result ≡ is_byte3 0 0x2F 0x5C byte }
 {
     byte <= b'\\' && (byte == 0 || byte == b'/' || byte == b'\\')
+}
+
+/// The same without a branch, as vectors want it.
+fn is_any_edge(byte: u8) -> bool
+    ensures { result ≡ is_byte3 0 0x2F 0x5C byte }
+{
+    (byte == 0) | (byte == b'/') | (byte == b'\\')
 }
 
 /// The key of a name none of whose bytes from this place on is 00, "/" or "\".
