@@ -28,11 +28,15 @@ ghost use Rattle.infer_more.specs.Wider.{{IsWidened}};
 use crate::index::Below::{{ClassIds, Entries, Nothing, Packages, Programs, Roots}};
 use crate::index::asked::{{below_at, found_row_apart, is_marked}};
 use crate::index::{{
-    Begun, Below, Entry, Except, Gate, Guard, Named, Parentless, Range, Rooted, Second, Span, Texts,
+    Begun, Below, Entry, Except, Gate, Guard, Named, Parentless, Range, Rooted, Second, Span, Spot,
+    Spots, Texts,
 }};
 
 /// How many further rows there are.
 pub const FURTHER_COUNT: usize = {};
+
+/// The last place at which the guards, the gate, the ranges and the spots look.
+pub(super) const LAST_PLACE: usize = {};
 
 """
 BELOW_APART = """
@@ -214,6 +218,10 @@ BUCKETS = 32
 # Of how many spans a second byte picks one, and how many entries less a look at it is worth.
 PICKS = 16
 LOOK = 1
+# Places from here on are far: few headers are as long.
+FAR = 64
+# How many rows a spot tells, unless more have one byte.
+MOST_SEEN = 8
 # The kinds of ways below a parent that stand in one list: they have no list inside a list.
 LISTED = {"Nothing", "Entries"}
 # What is told last, without being tried.
@@ -556,11 +564,75 @@ def with_zeros(rows):
     return zeros, found or gated(rows, zeros)
 
 
+def first_spotted(rows):
+    """The number of the row from which on each of no parent has an alternative that no first byte tells, or is a text."""
+    first = len(rows)
+    for number in reversed(range(len(rows))):
+        outlines = [] if rows[number].parent else rows[number].outlines(TOLD)
+        if outlines and all(is_begun(it) for it in outlines):
+            break
+        first = number if outlines else first
+    return first
+
+
+def free_of(rows, zeros):
+    """The alternatives of no parent whose first byte tells too little, each with the number of its row."""
+    numbered = [(number, it) for number, row in enumerate(rows) if not row.parent for it in row.outlines(TOLD)]
+    return [(number, it) for number, it in numbered if not is_listed(number, it, zeros) and not is_wide(it)]
+
+
+def is_told_at(place, alternative):
+    """Whether few bytes, and not the zero of many files, tell it at the place."""
+    return place in alternative and len(alternative[place]) <= MOST_BYTES and 0 not in alternative[place]
+
+
+def groups_at(place, told):
+    """What a place tells, a few rows at a time, those with one byte together: first come the bytes of the most rows."""
+    by_byte = {}
+    for number, it in told:
+        by_byte.setdefault(min(it[place]), []).append((number, it))
+    groups = [[]]
+    for some in sorted(by_byte.values(), key=len, reverse=True):
+        is_full = len({number for number, _ in groups[-1] + some}) > MOST_SEEN
+        groups = [*groups, some] if is_full else [*groups[:-1], groups[-1] + some]
+    return [(place, sorted(it, key=lambda it: it[0])) for it in groups if it]
+
+
+def spots_of(left):
+    """The places that tell these alternatives, each with some that it tells: next comes what tells most, by the fewest bytes."""
+    spots = []
+    while left:
+        told = {place: [(number, it) for number, it in left if is_told_at(place, it)] for place in sorted({place for _, it in left for place in it})}
+        place = min(told, key=lambda place: (-len(told[place]), len(set().union(*(it[place] for _, it in told[place])))))
+        spots += groups_at(place, told[place])
+        left = [it for it in left if it not in told[place]]
+    return sorted(spots, key=lambda it: it[0])
+
+
+def marks_of(spots):
+    """The marks of each byte: a bit for each of these spots that asks for it."""
+    return [sum(1 << bit for bit, (place, some) in enumerate(spots) if any(byte in it[place] for _, it in some)) for byte in range(256)]
+
+
+def in_spots(spots, first):
+    """The spots of one kind, with their entries, whose marks begin with this bit."""
+    for bit, (place, some) in enumerate(spots, first):
+        yield f"            {place} 0x{1 << bit:X} {listed(entries(of_each_row(some)))};"
+
+
+def last_place(rows):
+    """The last place at which a buffer without an answer is looked at for all of these."""
+    zeros, ((place, _), outside, inside) = with_zeros(rows)
+    spots = spots_of([(number, it) for number, it in free_of(rows, zeros) if number >= first_spotted(rows)])
+    wides = [min(it) for row in rows if not row.parent for it in row.outlines(TOLD) if is_wide(it)]
+    return max(place, *(at for (at, _), _ in [*outside, *inside]), *(at for at, _ in spots), *wides)
+
+
 def gated(rows, zeros):
     """The gate, the guards beside it and those behind it, for the rows of no parent whose first byte tells too little. Every
     buffer without an answer is asked for the guards and for the gate's byte, and few for the guards behind the gate."""
-    numbered = [(number, it) for number, row in enumerate(rows) if not row.parent for it in row.outlines(TOLD)]
-    free = [(number, it) for number, it in numbered if not is_listed(number, it, zeros) and not is_wide(it)]
+    first = first_spotted(rows)
+    free = [(number, it) for number, it in free_of(rows, zeros) if number < first]
     every = choose(free)
     ways = [(weigh(passing(free), every), (0, 0), list(guards(free, every)), [])]
     for gate, inside in gates(free):
@@ -731,7 +803,8 @@ def lists(rows, parents):
     yield BELOW_OTHERS.format(in_list_of(apart(ways)), arms(apart(ways), "below_{}()"))
     yield "pub(super) static PARENTLESS: Parentless = Parentless {"
     zeros, ((place, first), outside, inside) = with_zeros(rows)
-    led = [[(k, it) for k, row in numbered if not row.parent for it in row.outlines(TOLD) if is_listed(k, it, zeros) and byte in it[0]] for byte in range(256)]
+    led = [[(k, it) for k, row in numbered if not row.parent for it in row.outlines(TOLD) if is_listed(k, it, zeros) and byte in it[0] and it[0] != {0}] for byte in range(256)]
+    zeroed = [(k, it) for k, row in numbered if not row.parent for it in row.outlines(TOLD) if is_listed(k, it, zeros) and it.get(0) == {0}]
     every, places, picked = seconds(led)
     yield "    first: Begun {"
     yield "        spans: spans!["
@@ -754,6 +827,25 @@ def lists(rows, parents):
     yield "    ranges: ranges!["
     yield from (wide(number, it) for number, row in numbered if not row.parent for it in row.outlines(TOLD) if is_wide(it))
     yield "    ],"
+    spotted = first_spotted(rows)
+    spots = spots_of([(number, it) for number, it in free_of(rows, zeros) if number >= spotted])
+    zero_spots = spots_of(zeroed)
+    yield "    spots: Spots {"
+    yield f"        from: {spotted},"
+    yield "        marks: marks!["
+    yield textwrap.indent(textwrap.fill(", ".join(f"0x{it:X}" for it in marks_of(spots + zero_spots)), WIDTH - 13), 12 * " ")
+    yield "        ],"
+    yield "        zeros: spots!["
+    yield from in_spots(zero_spots, len(spots))
+    yield "        ],"
+    yield "        near: spots!["
+    yield from in_spots([it for it in spots if it[0] < FAR], 0)
+    yield "        ],"
+    yield f"        beyond: {min(place for place, _ in spots if place >= FAR)},"
+    yield "        far: spots!["
+    yield from in_spots([it for it in spots if it[0] >= FAR], sum(place < FAR for place, _ in spots))
+    yield "        ],"
+    yield "    },"
     yield f"    roots: {rooted([(k, row) for k, row in numbered if not row.parent])},"
     yield "    texts: Texts {"
     yield from last(rows)
@@ -845,4 +937,4 @@ def by_number(rows):
 
 def text(rows, parents):
     """The file of the index."""
-    return HEAD.format(len(rows)) + "\n".join(lists(rows, parents)) + "\n" + by_parent(rows, parents)
+    return HEAD.format(len(rows), last_place(rows)) + "\n".join(lists(rows, parents)) + "\n" + by_parent(rows, parents)

@@ -31,7 +31,7 @@ TEXTS = (
     "3dmodel abook abw afm age amf application/x-pem-key asc asx asxref atom aup awk bdf bookmarks busconfig "
     "catmeta ccmx clj cloudcfg cmap cml cms csh csr dae dart dbk dbusintro dep5 dia diashape dif dtsi eps escript "
     "execline exs fb2 fish fl flatpakref flatpakrepo fodg fodp fods fodt fontconfig gcurve gff3 ggr gitpatch gjs "
-    "glade gml gnucash gnumeric gnuplot gpl gpx gresource groovy gschema gtkbuilder gx hqx hs html http ics imy "
+    "glade gml gnucash gnumeric gnuplot gpl gpx gresource groovy gschema gtkbuilder gx hqx hs html http ics igs imy "
     "info iptables it87 jad jarmf jl jnlp js json kml ldml lingts lisp ll lua lyx m m3u8 m4u meta4 metainfo "
     "metalink microdvd mif mimeinfo minisig mk ml mml modulefile mol2 mpd mpl2 msbuild mscx mup musicxml ncx "
     "ndjson nex nft nsc nzb openssh opf opml osm owx p7c param pdbmol pem pfa pgp php pkginfo pkgmeta pl plist "
@@ -46,7 +46,7 @@ TYPES, SETS = 256, 128
 ROWS = 128
 # How many slots the rows have, and groups that are shifted together; and the weights of a text's length and of four of its bytes.
 ROW_SLOTS, ROW_GROUPS = 2048, 64
-ROW_WEIGHTS = (1, 2223, 1911, 811, 1456)
+ROW_WEIGHTS = (1, 551, 2332, 259, 1045)
 # How many marks there are for each length of a text, of which this one stands for all that are greater.
 MARKS, LONG = 64, 63
 KEYS_CODE = """//! Made by `tools/tables` from names.txt: the keys in the order of their slots, where the slots begin, and the readings.
@@ -553,7 +553,7 @@ def ranges(numbers):
 
 def row_sum(text):
     """The sum of a row's text, as crates/infer_named/specs/Rows.antt defines it."""
-    at = [len(text), *(ord(text[place]) for place in (0, len(text) // 4, len(text) // 2, len(text) - 1))]
+    at = [len(text), *(ord(text[place]) for place in (0, len(text) // 4, len(text) // 2 + len(text) // 4, len(text) - 1))]
     return sum(weight * it for weight, it in zip(ROW_WEIGHTS, at))
 
 

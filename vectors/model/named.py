@@ -23,7 +23,7 @@ TEXTS = (
     "3dmodel abook abw afm age amf application/x-pem-key asc asx asxref atom aup awk bdf bookmarks busconfig catmeta ccmx "
     "clj cloudcfg cmap cml cms csh csr dae dart dbk dbusintro dep5 dia diashape dif dtsi eps escript execline exs fb2 fish "
     "fl flatpakref flatpakrepo fodg fodp fods fodt fontconfig gcurve gff3 ggr gitpatch gjs glade gml gnucash gnumeric "
-    "gnuplot gpl gpx gresource groovy gschema gtkbuilder gx hqx hs html http ics imy info iptables it87 jad jarmf jl jnlp "
+    "gnuplot gpl gpx gresource groovy gschema gtkbuilder gx hqx hs html http ics igs imy info iptables it87 jad jarmf jl jnlp "
     "js json kml ldml lingts lisp ll lua lyx m m3u8 m4u meta4 metainfo metalink microdvd mif mimeinfo minisig mk ml mml "
     "modulefile mol2 mpd mpl2 msbuild mscx mup musicxml ncx ndjson nex nft nsc nzb openssh opf opml osm owx p7c param "
     "pdbmol pem pfa pgp php pkginfo pkgmeta pl plist pom ppd ppk ps ps1 pubkey puml py pysu qml qti r raku raml rb rdf rkt "

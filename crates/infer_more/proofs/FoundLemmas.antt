@@ -8,7 +8,7 @@ use Rattle.infer_formats.proofs.MarkupLemmas.{not_space}
 use Rattle.infer_formats.specs.Laws.{Leads}
 use Rattle.infer_formats.specs.Markup.{HasInTag, MayBeRooted}
 use Rattle.infer_sig.specs.Signature as fixed
-use Rattle.infer_more.specs.Index.{AllApplications, AreClassIds, AreWaysBelow, EachParentlessIsFound, FindsBelow, FindsParentless, IsFoundParentless, IsWayBelow, IsTextRow, MayBeginMarkup, are_rooted, are_spans, are_texts, are_true, asks_class_id, asks_folder, asks_program, asks_root, below_at, has_named, has_rooted, is_application, is_child, is_found_below, is_found_parentless, is_in_class_ids, is_in_folders, is_in_programs, is_in_roots, is_json, is_lines, is_row_below, is_row_parentless, is_row_with, is_text_row, is_tried_below, is_tried_in, bucket_at, same, same_text}
+use Rattle.infer_more.specs.Index.{AllApplications, AreClassIds, AreWaysBelow, EachParentlessIsFound, FindsBelow, FindsParentless, IsFoundParentless, IsWayBelow, IsTextRow, MayBeginMarkup, are_rooted, are_spans, are_spots, are_texts, are_true, asks_class_id, asks_folder, asks_program, asks_root, below_at, has_named, has_rooted, is_application, is_child, is_found_below, is_found_parentless, is_in_class_ids, is_in_folders, is_in_programs, is_in_roots, is_json, is_lines, is_row_below, is_row_parentless, is_row_with, is_text_row, is_tried_below, is_tried_in, bucket_at, same, same_text}
 use Rattle.infer_notation.specs.Alternative.{Alternative}
 use Rattle.infer_more.specs.declared.index.Below as below
 use Rattle.infer_more.specs.declared.index.Below.TheVariants.{ClassIds, Entries, Packages, Programs, Roots}
@@ -425,8 +425,8 @@ pub ways_below : (apart : List ℕ) (ways : List below.Below)
 ways_below apart ways none told = record { found = each_row _ none; told = told }
 
 pub each_parentless : (index : Parentless) → NoRowFails (at_row (λ i r. is_row_parentless index i r.parent r)) → IsTrue (are_texts index.texts)
-    → IsTrue (are_rooted index.roots.now) → IsTrue (are_spans index.first) → EachParentlessIsFound index
-each_parentless index none texts roots spans = record { found = each_row _ none; texts = texts; roots = roots; spans = spans }
+    → IsTrue (are_rooted index.roots.now) → IsTrue (are_spans index.first) → IsTrue (are_spots index.spots) → EachParentlessIsFound index
+each_parentless index none texts roots spans spots = record { found = each_row _ none; texts = texts; roots = roots; spans = spans; spots = spots }
 
 -- a root is that of markup, which begins with white space, "<" or a byte order mark
 pub root_starts : (b : List ℕ) → Leads → (name rest : List ℕ) → IsRootElement name rest b → MayBeginMarkup b

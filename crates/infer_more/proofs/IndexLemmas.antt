@@ -5,12 +5,14 @@ use Rattle.std.specs.List.{range_with_len}
 use Rattle.std.proofs.lemmas.Bool.{ltb-true}
 use Rattle.infer_sig.specs.Signature.{Alternative, text, byte}
 use Rattle.std.specs.Prelude.{slice_get}
-use Rattle.infer_more.specs.Index.{begun, behind, bucket, entries_at, gated, has_between, has_entry, has_guard, has_other, is_begun, is_but, is_other, is_gated, is_guarded, is_met, is_picked, is_tested, is_ranged, is_within, picked, seconded}
+use Rattle.infer_more.specs.Index.{begun, behind, bucket, entries_at, gated, has_between, has_entry, has_guard, has_other, is_begun, is_but, is_other, is_gated, is_guarded, is_met, is_picked, is_seen, is_spotted, is_tested, is_ranged, is_within, all_seen, has_mark, has_marked, picked, seconded, seen, spotted, is_zeroed, zeroed}
 use Rattle.infer_more.specs.declared.index.Entry.{Entry}
 use Rattle.infer_more.specs.declared.index.Gate.{Gate}
 use Rattle.infer_more.specs.declared.index.Guard.{Guard}
 use Rattle.infer_more.specs.declared.index.Range.{Range}
 use Rattle.infer_more.specs.declared.index.Second.{Second}
+use Rattle.infer_more.specs.declared.index.Spot.{Spot}
+use Rattle.infer_more.specs.declared.index.Spots.{Spots}
 
 -- both of two tests pass
 pub both_left : (a b : Bool) → IsTrue (a && b) → IsTrue a
@@ -187,6 +189,34 @@ module _ (by_place : (place : ℕ) (t buf : List ℕ) → IsTrue (stands place t
     | inr e ↦ listed_right (within b r) (ranged b ranges) i (ranged_here a ranges e k)
   ]
 
+  -- so do spots
+  spot_here : (marks : List ℕ) (a : Alternative) (s : Spot) → IsTrue (is_seen marks i a s) → IsTrue (fits b a) → IsTrue (is_listed (seen marks b s) i)
+  spot_here marks a s h k =
+      let here = passes by_place (has_mark marks s.mark) s.place b a (both_left (is_tested (has_mark marks s.mark) s.place a) _ h) k in
+      let on : has_marked marks b s ≡ true = and_from (nat_lt s.place (length b)) _ (lt-ltb s.place (length b) here.0) here.1 in
+      subst (λ t. IsTrue (is_listed (if t then candidates b s.entries.now else []) i)) (sym on)
+      (covered_here a s.entries.now (both_right (is_tested (has_mark marks s.mark) s.place a) _ h) k)
+
+  seen_here : (marks : List ℕ) (a : Alternative) (spots : List Spot) → IsTrue (list_any (is_seen marks i a) spots) → IsTrue (fits b a) → IsTrue (is_listed (all_seen marks b spots) i)
+  seen_here marks a [] h k = absurd (cc)
+  seen_here marks a (s ∷ spots) h k = elim (or_cases (is_seen marks i a s) _ h) [
+    | inl e ↦ listed_left (seen marks b s) (all_seen marks b spots) i (spot_here marks a s e k)
+    | inr e ↦ listed_right (seen marks b s) (all_seen marks b spots) i (seen_here marks a spots e k)
+  ]
+
+  spotted_here : (a : Alternative) (s : Spots) → IsTrue (is_spotted i a s) → IsTrue (fits b a) → IsTrue (is_listed (spotted b s) i)
+  spotted_here a s h k = elim (or_cases (list_any (is_seen s.marks.now i a) s.near.now) _ h) [
+    | inl e ↦ listed_left (all_seen s.marks.now b s.near.now) (all_seen s.marks.now b s.far.now) i (seen_here s.marks.now a s.near.now e k)
+    | inr e ↦ listed_right (all_seen s.marks.now b s.near.now) (all_seen s.marks.now b s.far.now) i (seen_here s.marks.now a s.far.now e k)
+  ]
+
+  zeroed_here : (a : Alternative) (s : Spots) → IsTrue (is_zeroed i a s) → IsTrue (fits b a) → IsTrue (is_listed (zeroed b s) i)
+  zeroed_here a s h k =
+      let here = passes by_place (λ x. x == 0) 0 b a (both_left (is_tested (λ x. x == 0) 0 a) _ h) k in
+      let on : has_byte b 0 0 ≡ true = and_from (nat_lt 0 (length b)) _ (lt-ltb 0 (length b) here.0) here.1 in
+      subst (λ t. IsTrue (is_listed (if t then all_seen s.marks.now b s.zeros.now else []) i)) (sym on)
+      (seen_here s.marks.now a s.zeros.now (both_right (is_tested (λ x. x == 0) 0 a) _ h) k)
+
 -- a row with an exception for a byte that the alternative does not allow
 other_part : (b : List ℕ) (place x : ℕ) (part : Part) → IsTrue (is_other place x part) → IsTrue (has_part b part) → IsTrue (has_other b place x)
 other_part b place x (text p t) h k = absurd (cc)
@@ -269,11 +299,17 @@ module _ (by_place : (place : ℕ) (t buf : List ℕ) → IsTrue (stands place t
       | inl first ↦ listed_left (candidates b (begun index b)) _ i first
       | inr second ↦ listed_right (candidates b (begun index b)) _ i (listed_left (candidates b (seconded index b)) _ i second)
     ]
-    | inr e ↦ listed_right (candidates b (begun index b)) _ i (listed_right (candidates b (seconded index b)) _ i (elim (or_cases (is_guarded i a index.guards.now) _ e) [
-      | inl beside ↦ listed_left (guarded b index.guards.now) _ i (guarded_here by_place b i a index.guards.now beside k)
-      | inr other ↦ listed_right (guarded b index.guards.now) _ i (elim (or_cases (is_gated i a index.gate) _ other) [
-        | inl inside ↦ listed_left (gated b index.gate) _ i (gated_here by_place b i a index.gate inside k)
-        | inr wide ↦ listed_right (gated b index.gate) _ i (ranged_here by_place b i a index.ranges.now wide k)
+    | inr e ↦ listed_right (candidates b (begun index b)) _ i (listed_right (candidates b (seconded index b)) _ i (elim (or_cases (is_zeroed i a index.spots) _ e) [
+      | inl begins ↦ listed_left (zeroed b index.spots) _ i (zeroed_here by_place b i a index.spots begins k)
+      | inr rest ↦ listed_right (zeroed b index.spots) _ i (elim (or_cases (is_guarded i a index.guards.now) _ rest) [
+        | inl beside ↦ listed_left (guarded b index.guards.now) _ i (guarded_here by_place b i a index.guards.now beside k)
+        | inr other ↦ listed_right (guarded b index.guards.now) _ i (elim (or_cases (is_gated i a index.gate) _ other) [
+          | inl inside ↦ listed_left (gated b index.gate) _ i (gated_here by_place b i a index.gate inside k)
+          | inr other ↦ listed_right (gated b index.gate) _ i (elim (or_cases (is_ranged i a index.ranges.now) _ other) [
+            | inl wide ↦ listed_left (ranged b index.ranges.now) _ i (ranged_here by_place b i a index.ranges.now wide k)
+            | inr spot ↦ listed_right (ranged b index.ranges.now) _ i (spotted_here by_place b i a index.spots spot k)
+          ])
+        ])
       ])
     ]))
   ]

@@ -1,10 +1,12 @@
 -- The least of the rows that are found.
-use Rattle.std.proofs.lemmas.Bool.{or_cases, or_left, or_right}
-use Rattle.infer_more.proofs.Common.{◌≡◌, ℕ, zero, suc, ◌+◌, ◌<◌, ◌≤◌, Bool, true, false, IsTrue, List, [], ◌∷◌, ◌++◌, Option, None, Some, length, take, get_or, ◌⊎◌, inl, inr, ap, sym, ◌∙◌, subst, arith, refl, append_assoc, ◌==◌, if◌then◌else◌, min, cases_lt, eqb-true, leb-true, get_or_default, list_all, nat_le, IsFirstOf, is_listed, IsLeast, IsRowOf, IsTried, ascends, candidate, candidates, has_byte, Further, further, Widens, WidensAt, FURTHER_COUNT}
+use Rattle.std.proofs.lemmas.Bool.{ltb-true, or_cases, or_left, or_right}
+use Rattle.infer_more.proofs.Common.{◌≡◌, ℕ, zero, suc, ◌+◌, ◌<◌, ◌≤◌, Bool, true, false, IsTrue, List, [], ◌∷◌, ◌++◌, Option, None, Some, length, take, get_or, ◌⊎◌, inl, inr, ap, sym, ◌∙◌, subst, arith, refl, append_assoc, ◌==◌, if◌then◌else◌, min, cases_lt, eqb-true, leb-true, get_or_default, list_all, nat_le, nat_lt, ◌&&◌, IsFirstOf, is_listed, IsLeast, IsRowOf, IsTried, ascends, candidate, candidates, has_byte, Further, further, Widens, WidensAt, FURTHER_COUNT}
 use Rattle.std.proofs.Math.Nat.{min-le_left, min-le_right}
 use Rattle.std.proofs.lemmas.List.{append-nil, take_all}
-use Rattle.infer_more.specs.Index.{all_of}
+use Rattle.infer_more.specs.Index.{all_of, all_seen, are_spots, has_marked, is_far, is_late, seen, spotted}
 use Rattle.infer_more.specs.declared.index.Entry.{Entry}
+use Rattle.infer_more.specs.declared.index.Spot.{Spot}
+use Rattle.infer_more.specs.declared.index.Spots.{Spots}
 use Rattle.infer_more.proofs.IndexLemmas.{both_left, both_right, listed_left, listed_right}
 use Rattle.infer_more.proofs.TableLemmas.{length-further}
 
@@ -66,19 +68,60 @@ module _ (parent : Option ℕ) (b : List ℕ) where
   ]
   only_row false row i (listed, w) = absurd (cc)
 
+  -- of rows that stand behind what some buffers lack
+  only_behind : (on : Bool) (rows : List ℕ) (i : ℕ) → IsTried parent b (if on then rows else []) i → IsTrue on × IsTried parent b rows i
+  only_behind true rows i is = (refl, is)
+  only_behind false rows i (listed, w) = absurd (cc)
+
   -- of entries whose rows are none before that number
+  late_entries : (from : ℕ) (entries : List Entry) → IsTrue (list_all (λ e. nat_le from e.row) entries) → (i : ℕ) → IsTried parent b (candidates b entries) i → from ≤ i
+  late_entries from [] all i (listed, w) = absurd (cc)
+  late_entries from (x ∷ xs) all i (listed, w) = elim (in_either (candidate b x) (candidates b xs) i listed) [
+    | inl l ↦
+        let (on, e) = only_row (has_byte b x.place x.byte) x.row i (l, w) in
+        let le : from ≤ x.row = leb-true from x.row (both_left (nat_le from x.row) _ all) in
+        omega arith
+    | inr r ↦ late_entries from xs (both_right (nat_le from x.row) _ all) i (r, w)
+  ]
+
   pub tried_late : (entries : List Entry) (before : ℕ) → IsTrue (list_all (λ e. nat_le before e.row) entries) → IsLeast (IsTried parent b (candidates b entries)) before before
-  tried_late entries before all = least_late _ before (late entries all)
-    where
-      late : (xs : List Entry) → IsTrue (list_all (λ e. nat_le before e.row) xs) → (i : ℕ) → IsTried parent b (candidates b xs) i → before ≤ i
-      late [] all i (listed, w) = absurd (cc)
-      late (x ∷ xs) all i (listed, w) = elim (in_either (candidate b x) (candidates b xs) i listed) [
+  tried_late entries before all = least_late _ before (late_entries before entries all)
+
+  -- of spots with such entries
+  pub late_spots : (marks : List ℕ) (from : ℕ) (spots : List Spot) → IsTrue (list_all (is_late from) spots) → (i : ℕ) → IsTried parent b (all_seen marks b spots) i → from ≤ i
+  late_spots marks from [] all i (listed, w) = absurd (cc)
+  late_spots marks from (s ∷ spots) all i (listed, w) = elim (in_either (seen marks b s) (all_seen marks b spots) i listed) [
+    | inl l ↦ late_entries from s.entries.now (both_left (is_late from s) _ all) i (only_behind (has_marked marks b s) (candidates b s.entries.now) i (l, w)).1
+    | inr r ↦ late_spots marks from spots (both_right (is_late from s) _ all) i (r, w)
+  ]
+
+  pub spots_late : (s : Spots) (before : ℕ) → IsTrue (are_spots s) → before ≤ s.from → IsLeast (IsTried parent b (spotted b s)) before before
+  spots_late s before are le =
+      let late = both_left (list_all (is_late s.from) s.near.now && list_all (is_late s.from) s.far.now) _ are in
+      least_late _ before (λ i (listed, w). elim (in_either (all_seen s.marks.now b s.near.now) (all_seen s.marks.now b s.far.now) i listed) [
         | inl l ↦
-            let (on, e) = only_row (has_byte b x.place x.byte) x.row i (l, w) in
-            let le : before ≤ x.row = leb-true before x.row (both_left (nat_le before x.row) _ all) in
+            let least : s.from ≤ i = late_spots s.marks.now s.from s.near.now (both_left (list_all (is_late s.from) s.near.now) _ late) i (l, w) in
             omega arith
-        | inr r ↦ late xs (both_right (nat_le before x.row) _ all) i (r, w)
-      ]
+        | inr r ↦
+            let least : s.from ≤ i = late_spots s.marks.now s.from s.far.now (both_right (list_all (is_late s.from) s.near.now) _ late) i (r, w) in
+            omega arith
+      ])
+
+  -- of spots that the buffer is too short for
+  none_far : (marks : List ℕ) (beyond : ℕ) (spots : List Spot) → length b ≤ beyond → IsTrue (list_all (is_far beyond) spots) → (i : ℕ) → ¬ IsTried parent b (all_seen marks b spots) i
+  none_far marks beyond [] short all i (listed, w) = absurd (cc)
+  none_far marks beyond (s ∷ spots) short all i (listed, w) = elim (in_either (seen marks b s) (all_seen marks b spots) i listed) [
+    | inl l ↦
+        let on = (only_behind (has_marked marks b s) (candidates b s.entries.now) i (l, w)).0 in
+        let within : s.place < length b = ltb-true s.place (length b) (both_left (nat_lt s.place (length b)) _ on) in
+        let far : beyond ≤ s.place = leb-true beyond s.place (both_left (is_far beyond s) _ all) in
+        omega arith
+    | inr r ↦ none_far marks beyond spots short (both_right (is_far beyond s) _ all) i (r, w)
+  ]
+
+  pub tried_short : (marks : List ℕ) (beyond : ℕ) (spots : List Spot) (before : ℕ) → length b ≤ beyond → IsTrue (list_all (is_far beyond) spots)
+      → IsLeast (IsTried parent b (all_seen marks b spots)) before before
+  tried_short marks beyond spots before short all = least_none _ before (none_far marks beyond spots short all)
 
   -- behind a byte that the buffer has or lacks
   pub tried_behind : (on : Bool) (rows : List ℕ) (before after : ℕ) → on ≡ true → IsLeast (IsTried parent b rows) before after

@@ -2,6 +2,7 @@
 use Rattle.std.specs.Prelude.{◌≡◌, ◌⊎◌, ◌↔◌, ◌+◌, ◌-◌, ◌%◌, ◌<◌, ◌≤◌, ◌==◌, ◌&&◌, ◌||◌, ℕ, suc, Bool, not, true, false, All, IsTrue, List, [], ◌∷◌, ◌++◌, Option, None, Some, if◌then◌else◌, length, nat_le, nat_lt, slice_get, slice_index}
 use Rattle.std.specs.List.{list_all, list_any, range_with_len, slice_range}
 use Rattle.std.specs.Option.{option_map_or}
+use Rattle.std.specs.Int.Bits.{bit_and}
 use denote.Ref.{Bor}
 use Rattle.infer_deep.specs.ClassId.{HasClassId}
 use Rattle.infer_formats.specs.Json.{IsJson, IsJsonLines}
@@ -33,6 +34,8 @@ use Rattle.infer_more.specs.declared.index.Range.{Range}
 use Rattle.infer_more.specs.declared.index.Rooted.{Rooted}
 use Rattle.infer_more.specs.declared.index.Second.{Second}
 use Rattle.infer_more.specs.declared.index.Span.{Span}
+use Rattle.infer_more.specs.declared.index.Spot.{Spot}
+use Rattle.infer_more.specs.declared.index.Spots.{Spots}
 use Rattle.infer_more.specs.declared.index.Texts.{Texts}
 
 -- the buffer has the byte at the place
@@ -77,6 +80,44 @@ within b r = if has_between b r.place r.low r.high then r.row ∷ [] else []
 abbrev pub ranged : List ℕ → List Range → List ℕ
 ranged b ranges = all_of (within b) ranges
 
+-- the marks of a byte, and that it has some of these
+abbrev pub mark_at : List ℕ → ℕ → ℕ
+mark_at marks x = option_map_or (λ own. own) (slice_get marks x) 0
+
+abbrev pub has_mark : List ℕ → ℕ → ℕ → Bool
+has_mark marks mark x = not (bit_and (mark_at marks x) mark == 0)
+
+-- the buffer has a byte at the spot's place that has its mark
+abbrev pub has_marked : List ℕ → List ℕ → Spot → Bool
+has_marked marks b s = nat_lt s.place (length b) && has_mark marks s.mark (slice_index b s.place)
+
+-- the rows of a spot's entries, if the buffer has such a byte
+abbrev pub seen : List ℕ → List ℕ → Spot → List ℕ
+seen marks b s = if has_marked marks b s then candidates b s.entries.now else []
+
+abbrev pub all_seen : List ℕ → List ℕ → List Spot → List ℕ
+all_seen marks b spots = all_of (seen marks b) spots
+
+-- those of the near spots and of the far ones
+abbrev pub spotted : List ℕ → Spots → List ℕ
+spotted b s = all_seen s.marks.now b s.near.now ++ all_seen s.marks.now b s.far.now
+
+-- those of the spots of a zero, if the buffer begins with one
+abbrev pub zeroed : List ℕ → Spots → List ℕ
+zeroed b s = if has_byte b 0 0 then all_seen s.marks.now b s.zeros.now else []
+
+-- no entry of the spot has a row before that number
+abbrev pub is_late : ℕ → Spot → Bool
+is_late from s = list_all (λ e. nat_le from e.row) s.entries.now
+
+-- the spot is no nearer
+abbrev pub is_far : ℕ → Spot → Bool
+is_far beyond s = nat_le beyond s.place
+
+-- no spot has a row before the first, and the far ones are no nearer than said
+abbrev pub are_spots : Spots → Bool
+are_spots s = (list_all (is_late s.from) s.near.now && list_all (is_late s.from) s.far.now) && list_all (is_far s.beyond) s.far.now
+
 -- the row of an exception, if the buffer has another byte
 abbrev pub unless : List ℕ → Except → List ℕ
 unless b e = if has_other b e.place e.byte then e.row ∷ [] else []
@@ -118,10 +159,14 @@ module _ (index : Parentless) where
   seconded [] = []
   seconded (x ∷ rest) = option_map_or (λ s. picked index.first s (x ∷ rest)) (slice_get index.first.seconds.now x) []
 
+  -- the rows that bytes elsewhere tell
+  abbrev pub tried_elsewhere : List ℕ → List ℕ
+  tried_elsewhere b =
+      zeroed b index.spots ++ (guarded b index.guards.now ++ (gated b index.gate ++ (ranged b index.ranges.now ++ spotted b index.spots)))
+
   -- the rows that are tried of a buffer without a built-in answer
   abbrev pub tried_parentless : List ℕ → List ℕ
-  tried_parentless b =
-      candidates b (begun b) ++ (candidates b (seconded b) ++ (guarded b index.guards.now ++ (gated b index.gate ++ ranged b index.ranges.now)))
+  tried_parentless b = candidates b (begun b) ++ (candidates b (seconded b) ++ tried_elsewhere b)
 
 -- `after` is the least of `before` and of the numbers that have P
 pub record IsLeast (P : ℕ → Type 0) (before after : ℕ) : Type 0 where
@@ -244,6 +289,17 @@ is_within i a r = r.row == i && is_tested (allows (between r.low r.high)) r.plac
 abbrev pub is_ranged : ℕ → fixed.Alternative → List Range → Bool
 is_ranged i a ranges = list_any (is_within i a) ranges
 
+-- the spot's marks have all bytes that the alternative allows at its place, and its entries have row i then
+abbrev pub is_seen : List ℕ → ℕ → fixed.Alternative → Spot → Bool
+is_seen marks i a s = is_tested (has_mark marks s.mark) s.place a && is_covered i a s.entries.now
+
+abbrev pub is_spotted : ℕ → fixed.Alternative → Spots → Bool
+is_spotted i a s = list_any (is_seen s.marks.now i a) s.near.now || list_any (is_seen s.marks.now i a) s.far.now
+
+-- the alternative begins with a zero, and the spots of a zero have row i
+abbrev pub is_zeroed : ℕ → fixed.Alternative → Spots → Bool
+is_zeroed i a s = is_tested (λ x. x == 0) 0 a && list_any (is_seen s.marks.now i a) s.zeros.now
+
 -- the part asks for another byte than that at the place
 abbrev pub is_other : ℕ → ℕ → Part → Bool
 is_other place x (text p t) = false
@@ -271,7 +327,8 @@ is_begun lists i a x = is_met i a (entries_at lists x) 0 x || option_map_or (is_
 abbrev pub is_tried_parentless : Parentless → ℕ → fixed.Alternative → Bool
 is_tried_parentless index i a =
     is_tested (is_begun index.first i a) 0 a
-    || (is_guarded i a index.guards.now || (is_gated i a index.gate || is_ranged i a index.ranges.now))
+    || (is_zeroed i a index.spots
+    || (is_guarded i a index.guards.now || (is_gated i a index.gate || (is_ranged i a index.ranges.now || is_spotted i a index.spots))))
 
 -- two texts have the same bytes
 abbrev pub same : List ℕ → List ℕ → Bool
@@ -453,6 +510,7 @@ pub record EachParentlessIsFound (index : Parentless) : Type 0 where
   pub texts : IsTrue (are_texts index.texts)
   pub roots : IsTrue (are_rooted index.roots.now)
   pub spans : IsTrue (are_spans index.first)
+  pub spots : IsTrue (are_spots index.spots)
 
 -- just the rows that widen that answer are found
 abbrev pub FindsBelow : ℕ → below.Below → Type 0

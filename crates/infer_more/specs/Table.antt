@@ -287,6 +287,7 @@ pictures =
     ∷ row Video (codes "video/x-mng") (codes "mng") None (at_least 8 (text 0 (0x8A ∷ [] ++ codes "MNG" ++ 0x0D ∷ 0x0A ∷ 0x1A ∷ 0x0A ∷ []) ∷ []) ∷ [])
     ∷ row Image (codes "image/x-jp2-codestream") (codes "j2c") None (at_least 4 (text 0 (0xFF ∷ [] ++ codes "O" ++ 0xFF ∷ [] ++ codes "Q") ∷ []) ∷ [])
     ∷ row Image (codes "image/x-paintshoppro") (codes "psp") None (at_least 32 (text 0 (codes "Paint Shop Pro Image File" ++ 0x0A ∷ 0x1A ∷ 0x00 ∷ 0x00 ∷ 0x00 ∷ 0x00 ∷ 0x00 ∷ []) ∷ []) ∷ [])
+    ∷ row Image (codes "image/x-minolta-mrw") (codes "mrw") None (at_least 5 (text 0 (0x00 ∷ [] ++ codes "MRM" ++ 0x00 ∷ []) ∷ []) ∷ [])
     ∷ []
 
 -- images of programs
@@ -302,6 +303,7 @@ rasters =
     ∷ row Image (codes "image/x-pgf") (codes "pgf") None (at_least 8 (text 0 (codes "PGF") ∷ byte 3 (any_of (0x32 ∷ 0x36 ∷ [])) ∷ text 6 (0x00 ∷ 0x00 ∷ []) ∷ []) ∷ [])
     ∷ row Image (codes "image/x-3ds") (codes "3ds") None (at_least 18 (text 0 (codes "MM") ∷ text 6 (0x02 ∷ 0x00 ∷ 0x0A ∷ 0x00 ∷ 0x00 ∷ 0x00 ∷ []) ∷ text 16 (codes "==") ∷ []) ∷ [])
     ∷ row Image (codes "image/x-ilbm") (codes "ilbm") None (at_least 12 (text 0 (codes "FORM") ∷ text 8 (codes "ILBM") ∷ []) ∷ at_least 12 (text 0 (codes "FORM") ∷ text 8 (codes "PBM ") ∷ []) ∷ [])
+    ∷ row Image (codes "image/x-quicktime") (codes "qtif") None (at_least 8 (text 0 (0x00 ∷ 0x00 ∷ []) ∷ text 4 (codes "idsc") ∷ []) ∷ at_least 8 (text 0 (0x00 ∷ 0x00 ∷ []) ∷ text 4 (codes "idat") ∷ []) ∷ [])
     ∷ []
 
 -- modules and sounds
@@ -325,6 +327,7 @@ sounds =
     ∷ row Audio (codes "audio/x-tta") (codes "tta") (Some MP3) (related (behind_id3 (codes "TTA1")) ∷ [])
     ∷ row Audio (codes "audio/x-musepack") (codes "mpc") (Some MP3) (related (behind_id3 (codes "MPCK")) ∷ related (behind_id3 (codes "MP+")) ∷ [])
     ∷ row Audio (codes "audio/x-dsf") (codes "dsf") (Some MP3) (related (behind_id3 (codes "DSD ")) ∷ [])
+    ∷ row Audio (codes "audio/x-ircam") (codes "ircam") None (at_least 4 (text 0 (0x64 ∷ 0xA3 ∷ []) ∷ byte 2 (between 0x01 0x04) ∷ text 3 (0x00 ∷ []) ∷ []) ∷ at_least 4 (text 0 (0x00 ∷ []) ∷ byte 1 (between 0x01 0x04) ∷ text 2 (0xA3 ∷ 0x64 ∷ []) ∷ []) ∷ [])
     ∷ []
 
 -- films, and what packs files
@@ -338,17 +341,22 @@ packed =
     ∷ row Archive (codes "application/x-alz") (codes "alz") None (at_least 8 (text 0 (codes "ALZ" ++ 0x01 ∷ 0x0A ∷ 0x00 ∷ 0x00 ∷ 0x00 ∷ []) ∷ []) ∷ [])
     ∷ row Archive (codes "application/x-qpress") (codes "qp") None (at_least 8 (text 0 (codes "qpress10") ∷ []) ∷ [])
     ∷ row Archive (codes "application/x-bsdiff") (codes "bsdiff") None (at_least 8 (text 0 (codes "BSDIFF40") ∷ []) ∷ at_least 8 (text 0 (codes "BSDIFN40") ∷ []) ∷ [])
+    ∷ row Archive (codes "application/x-zchunk") (codes "zck") None (at_least 5 (text 0 (0x00 ∷ [] ++ codes "ZCK1") ∷ []) ∷ [])
     ∷ row Archive (codes "application/x-asar") (codes "asar") None (at_least 25 (text 0 (0x04 ∷ 0x00 ∷ 0x00 ∷ 0x00 ∷ []) ∷ text 16 (codes "{" ++ 0x22 ∷ [] ++ codes "files" ++ 0x22 ∷ [] ++ codes ":") ∷ []) ∷ [])
     ∷ row Archive (codes "application/vnd.flatpak") (codes "flatpak") None (at_least 12 (text 0 (codes "flatpak" ++ 0x00 ∷ 0x01 ∷ 0x00 ∷ 0x89 ∷ 0xE5 ∷ []) ∷ []) ∷ at_least 12 (text 0 (codes "xdg-app" ++ 0x00 ∷ 0x01 ∷ 0x00 ∷ 0x89 ∷ 0xE5 ∷ []) ∷ []) ∷ [])
     ∷ row Archive (codes "application/x-bgzf") (codes "bgzf") (Some GZ) (at_least 16 (text 3 (0x04 ∷ []) ∷ text 10 (0x06 ∷ 0x00 ∷ [] ++ codes "BC" ++ 0x02 ∷ 0x00 ∷ []) ∷ []) ∷ [])
     ∷ row Image (codes "application/x-killustrator") (codes "kil") (Some GZ) (at_least 46 (byte 3 (any_of (0x08 ∷ 0x18 ∷ [])) ∷ text 10 (codes "KOffice application/x-killustrator" ++ 0x04 ∷ 0x06 ∷ []) ∷ []) ∷ [])
     ∷ row Image (codes "application/x-karbon") (codes "karbon") (Some GZ) (at_least 40 (byte 3 (any_of (0x08 ∷ 0x18 ∷ [])) ∷ text 10 (codes "KOffice application/x-karbon" ++ 0x04 ∷ 0x06 ∷ []) ∷ []) ∷ [])
+    ∷ row Archive (codes "application/x-dar") (codes "dar") None (at_least 15 (text 0 (0x00 ∷ 0x00 ∷ 0x00 ∷ 0x7B ∷ []) ∷ byte 14 (any_of (0x4E ∷ 0x53 ∷ 0x54 ∷ [])) ∷ []) ∷ [])
     ∷ []
 
 -- disks and what instruments write
 unfoldable pub disks : List Further
 disks =
-    row Archive (codes "application/x-qed-disk") (codes "qed") None (at_least 4 (text 0 (codes "QED" ++ 0x00 ∷ []) ∷ []) ∷ [])
+    row Archive (codes "application/x-macbinary") (codes "macbin") None (at_least 106 (text 0 (0x00 ∷ []) ∷ byte 1 (between 0x01 0x3F) ∷ byte 2 (between 0x20 0xFF) ∷ text 74 (0x00 ∷ []) ∷ text 82 (0x00 ∷ []) ∷ text 102 (codes "mBIN") ∷ []) ∷ [])
+    ∷ row Archive (codes "multipart/appledouble") (codes "appledouble") None (at_least 8 (text 0 (0x00 ∷ 0x05 ∷ 0x16 ∷ 0x07 ∷ 0x00 ∷ []) ∷ byte 5 (any_of (0x01 ∷ 0x02 ∷ [])) ∷ text 6 (0x00 ∷ 0x00 ∷ []) ∷ []) ∷ [])
+    ∷ row Archive (codes "application/applefile") (codes "applesingle") None (at_least 8 (text 0 (0x00 ∷ 0x05 ∷ 0x16 ∷ 0x00 ∷ 0x00 ∷ []) ∷ byte 5 (any_of (0x01 ∷ 0x02 ∷ [])) ∷ text 6 (0x00 ∷ 0x00 ∷ []) ∷ []) ∷ [])
+    ∷ row Archive (codes "application/x-qed-disk") (codes "qed") None (at_least 4 (text 0 (codes "QED" ++ 0x00 ∷ []) ∷ []) ∷ [])
     ∷ row Archive (codes "application/x-amiga-disk-format") (codes "adf") None (at_least 4 (text 0 (codes "DOS") ∷ byte 3 (between 0x00 0x07) ∷ []) ∷ [])
     ∷ row Archive (codes "application/x-hfe-floppy-image") (codes "hfe") None (at_least 8 (text 0 (codes "HXCPICFE") ∷ []) ∷ at_least 8 (text 0 (codes "HXCHFEV3") ∷ []) ∷ [])
     ∷ row Archive (codes "application/x-fds-disk") (codes "fds") None (at_least 8 (text 0 (codes "FDS" ++ 0x1A ∷ []) ∷ text 5 (0x00 ∷ 0x00 ∷ 0x00 ∷ []) ∷ []) ∷ at_least 15 (text 0 (0x01 ∷ [] ++ codes "*NINTENDO-HVC*") ∷ []) ∷ [])
@@ -364,6 +372,7 @@ papers =
     ∷ row App (codes "application/x-hdf") (codes "hdf4") None (at_least 4 (text 0 (0x0E ∷ 0x03 ∷ 0x13 ∷ 0x01 ∷ []) ∷ []) ∷ [])
     ∷ row App (codes "application/x-spss-sav") (codes "sav") None (at_least 8 (text 0 (codes "$FL") ∷ byte 3 (any_of (0x32 ∷ 0x33 ∷ [])) ∷ text 4 (codes "@(#)") ∷ []) ∷ [])
     ∷ row Doc (codes "application/vnd.lotus-wordpro") (codes "lwp") None (at_least 8 (text 0 (codes "WordPro") ∷ byte 7 (any_of (0x00 ∷ 0x0D ∷ [])) ∷ []) ∷ [])
+    ∷ row Doc (codes "application/vnd.lotus-1-2-3") (codes "wk1") None (at_least 8 (text 0 (0x00 ∷ 0x00 ∷ 0x02 ∷ 0x00 ∷ []) ∷ byte 4 (any_of (0x04 ∷ 0x06 ∷ [])) ∷ text 5 (0x04 ∷ []) ∷ text 6 (0x06 ∷ 0x00 ∷ []) ∷ []) ∷ at_least 8 (text 0 (0x00 ∷ 0x00 ∷ 0x1A ∷ 0x00 ∷ []) ∷ text 4 (0x00 ∷ 0x10 ∷ 0x04 ∷ 0x00 ∷ []) ∷ []) ∷ [])
     ∷ row Doc (codes "application/winhlp") (codes "hlp") None (at_least 5 (text 0 (codes "?_" ++ 0x03 ∷ 0x00 ∷ []) ∷ []) ∷ [])
     ∷ row Doc (codes "application/x-indesign") (codes "indd") None (at_least 16 (text 0 (0x06 ∷ 0x06 ∷ 0xED ∷ 0xF5 ∷ 0xD8 ∷ 0x1D ∷ [] ++ codes "F" ++ 0xE5 ∷ 0xBD ∷ [] ++ codes "1" ++ 0xEF ∷ 0xE7 ∷ 0xFE ∷ [] ++ codes "t" ++ 0xB7 ∷ 0x1D ∷ []) ∷ []) ∷ [])
     ∷ row Doc (codes "application/vnd.ms-tnef") (codes "tnef") None (at_least 4 (text 0 (codes "x" ++ 0x9F ∷ [] ++ codes ">" ++ 0x22 ∷ []) ∷ []) ∷ [])
@@ -579,6 +588,8 @@ tunes =
     ∷ row Video (codes "video/x-interplay-mve") (codes "mve") None (at_least 20 (text 0 (codes "Interplay MVE File" ++ 0x1A ∷ 0x00 ∷ []) ∷ []) ∷ [])
     ∷ row Video (codes "video/x-sgi-movie") (codes "movie") None (at_least 6 (text 0 (codes "MOVI") ∷ text 4 (0x00 ∷ []) ∷ byte 5 (any_of (0x01 ∷ 0x02 ∷ 0x03 ∷ [])) ∷ []) ∷ [])
     ∷ row Video (codes "video/x-ifo") (codes "ifo") None (at_least 12 (text 0 (codes "DVDVIDEO-V") ∷ byte 10 (any_of (0x4D ∷ 0x54 ∷ [])) ∷ byte 11 (any_of (0x47 ∷ 0x53 ∷ [])) ∷ []) ∷ [])
+    ∷ row Video (codes "video/h264") (codes "h264") None (at_least 6 (text 0 (0x00 ∷ 0x00 ∷ 0x00 ∷ 0x01 ∷ []) ∷ byte 4 (any_of (0x27 ∷ 0x47 ∷ 0x67 ∷ [])) ∷ byte 5 (any_of (0x42 ∷ 0x4D ∷ 0x58 ∷ 0x64 ∷ 0x6E ∷ 0x7A ∷ 0xF4 ∷ [])) ∷ []) ∷ [])
+    ∷ row Video (codes "video/h265") (codes "h265") None (at_least 7 (text 0 (0x00 ∷ 0x00 ∷ 0x00 ∷ 0x01 ∷ 0x40 ∷ 0x01 ∷ 0x0C ∷ []) ∷ []) ∷ [])
     ∷ row Video (codes "video/x-dirac") (codes "drc") None (at_least 5 (text 0 (codes "BBCD" ++ 0x00 ∷ []) ∷ []) ∷ [])
     ∷ []
 
@@ -697,6 +708,7 @@ databases =
     ∷ row App (codes "application/x-postgresql-dump") (codes "pgdump") None (at_least 7 (text 0 (codes "PGDMP" ++ 0x01 ∷ []) ∷ byte 6 (between 0x00 0x20) ∷ []) ∷ [])
     ∷ row App (codes "application/x-redis-dump") (codes "rdb") None (at_least 9 (text 0 (codes "REDIS") ∷ byte 5 (between 0x30 0x39) ∷ byte 6 (between 0x30 0x39) ∷ byte 7 (between 0x30 0x39) ∷ byte 8 (between 0x30 0x39) ∷ []) ∷ [])
     ∷ row App (codes "application/vnd.hdt") (codes "hdt") None (at_least 5 (text 0 (codes "$HDT" ++ 0x01 ∷ []) ∷ []) ∷ [])
+    ∷ row App (codes "application/x-locate-database") (codes "locate") None (at_least 8 (text 0 (0x00 ∷ [] ++ codes "mlocate") ∷ []) ∷ at_least 8 (text 0 (0x00 ∷ [] ++ codes "plocate") ∷ []) ∷ [])
     ∷ row App (codes "application/x-apt-cache") (codes "aptcache") None (at_least 4 (text 0 (0xDC ∷ 0x76 ∷ 0xFE ∷ 0x98 ∷ []) ∷ []) ∷ [])
     ∷ row App (codes "application/x-ld-so-cache") (codes "ldcache") None (at_least 20 (text 0 (codes "glibc-ld.so.cache1.1") ∷ []) ∷ at_least 11 (text 0 (codes "ld.so-1.7.0") ∷ []) ∷ [])
     ∷ row App (codes "application/x-glibc-locale-archive") (codes "locarch") None (at_least 4 (text 0 (0x09 ∷ []) ∷ text 1 (0x01 ∷ 0x02 ∷ 0xDE ∷ []) ∷ []) ∷ [])
@@ -718,6 +730,7 @@ science =
     ∷ row App (codes "application/x-matlab-data") (codes "mat") None (at_least 19 (text 0 (codes "MATLAB 5.0 MAT-file") ∷ []) ∷ [])
     ∷ row App (codes "application/x-r-data") (codes "rdata") None (at_least 5 (text 0 (codes "RDX") ∷ byte 3 (any_of (0x32 ∷ 0x33 ∷ [])) ∷ text 4 (0x0A ∷ []) ∷ []) ∷ at_least 5 (text 0 (codes "RDA") ∷ byte 3 (any_of (0x32 ∷ 0x33 ∷ [])) ∷ text 4 (0x0A ∷ []) ∷ []) ∷ [])
     ∷ row App (codes "application/x-cern-root") (codes "root") None (at_least 12 (text 0 (codes "root" ++ 0x00 ∷ []) ∷ text 8 (0x00 ∷ 0x00 ∷ 0x00 ∷ 0x64 ∷ []) ∷ []) ∷ [])
+    ∷ row Image (codes "image/x.nifti") (codes "nii") None (at_least 348 (text 0 (0x5C ∷ 0x01 ∷ 0x00 ∷ 0x00 ∷ []) ∷ text 344 (0x6E ∷ []) ∷ byte 345 (any_of (0x2B ∷ 0x69 ∷ [])) ∷ text 346 (0x31 ∷ 0x00 ∷ []) ∷ []) ∷ at_least 348 (text 0 (0x00 ∷ 0x00 ∷ 0x01 ∷ 0x5C ∷ []) ∷ text 344 (0x6E ∷ []) ∷ byte 345 (any_of (0x2B ∷ 0x69 ∷ [])) ∷ text 346 (0x31 ∷ 0x00 ∷ []) ∷ []) ∷ at_least 12 (text 0 (0x1C ∷ 0x02 ∷ 0x00 ∷ 0x00 ∷ 0x6E ∷ []) ∷ byte 5 (any_of (0x2B ∷ 0x69 ∷ [])) ∷ text 6 (0x32 ∷ 0x00 ∷ 0x0D ∷ 0x0A ∷ 0x1A ∷ 0x0A ∷ []) ∷ []) ∷ [])
     ∷ row Text (codes "chemical/x-pdb") (codes "pdbmol") None (at_least 57 (text 0 (codes "HEADER    ") ∷ byte 50 (between 0x30 0x39) ∷ byte 51 (between 0x30 0x39) ∷ text 52 (codes "-") ∷ text 56 (codes "-") ∷ []) ∷ [])
     ∷ row Text (codes "chemical/x-mol2") (codes "mol2") None (at_least 17 (text 0 (codes "@<TRIPOS>MOLECULE") ∷ []) ∷ [])
     ∷ row App (codes "application/x-bam") (codes "bam") None (at_least 4 (text 0 (codes "BAM" ++ 0x01 ∷ []) ∷ []) ∷ [])
@@ -735,7 +748,8 @@ science =
 -- measurements, objects, and old documents
 unfoldable pub measures : List Further
 measures =
-    row App (codes "application/x-bdf") (codes "bdfb") None (at_least 8 (text 0 (0xFF ∷ [] ++ codes "BIOSEMI") ∷ []) ∷ [])
+    row App (codes "application/x-edid-dump") (codes "edid") None (at_least 20 (text 0 (0x00 ∷ 0xFF ∷ 0xFF ∷ 0xFF ∷ 0xFF ∷ 0xFF ∷ 0xFF ∷ 0x00 ∷ []) ∷ text 18 (0x01 ∷ []) ∷ byte 19 (between 0x00 0x04) ∷ []) ∷ [])
+    ∷ row App (codes "application/x-bdf") (codes "bdfb") None (at_least 8 (text 0 (0xFF ∷ [] ++ codes "BIOSEMI") ∷ []) ∷ [])
     ∷ row App (codes "application/x-gdf") (codes "gdf") None (at_least 8 (text 0 (codes "GDF ") ∷ byte 4 (between 0x31 0x32) ∷ text 5 (codes ".") ∷ byte 6 (between 0x30 0x39) ∷ byte 7 (between 0x30 0x39) ∷ []) ∷ [])
     ∷ row App (codes "application/cbor") (codes "cbor") None (at_least 3 (text 0 (0xD9 ∷ 0xD9 ∷ 0xF7 ∷ []) ∷ []) ∷ [])
     ∷ row App (codes "application/sereal") (codes "sereal") None (at_least 5 (text 0 (codes "=srl") ∷ byte 4 (between 0x01 0x3F) ∷ []) ∷ at_least 5 (text 0 (0x3D ∷ 0xF3 ∷ [] ++ codes "rl") ∷ byte 4 (between 0x01 0x3F) ∷ []) ∷ [])
@@ -785,7 +799,8 @@ prints =
 -- what compilers and debuggers write
 unfoldable pub compiled : List Further
 compiled =
-    row App (codes "application/x-ocaml-cmxa") (codes "cmxa") None (at_least 12 (text 0 (codes "Caml1999") ∷ byte 8 (any_of (0x5A ∷ 0x7A ∷ [])) ∷ byte 9 (between 0x30 0x39) ∷ byte 10 (between 0x30 0x39) ∷ byte 11 (between 0x30 0x39) ∷ []) ∷ [])
+    row App (codes "application/wasm") (codes "wasmc") None (at_least 8 (text 0 (0x00 ∷ [] ++ codes "asm" ++ 0x0D ∷ 0x00 ∷ 0x01 ∷ 0x00 ∷ []) ∷ []) ∷ [])
+    ∷ row App (codes "application/x-ocaml-cmxa") (codes "cmxa") None (at_least 12 (text 0 (codes "Caml1999") ∷ byte 8 (any_of (0x5A ∷ 0x7A ∷ [])) ∷ byte 9 (between 0x30 0x39) ∷ byte 10 (between 0x30 0x39) ∷ byte 11 (between 0x30 0x39) ∷ []) ∷ [])
     ∷ row App (codes "application/x-ocaml-cmt") (codes "cmt") None (at_least 12 (text 0 (codes "Caml1999T") ∷ byte 9 (between 0x30 0x39) ∷ byte 10 (between 0x30 0x39) ∷ byte 11 (between 0x30 0x39) ∷ []) ∷ [])
     ∷ row App (codes "application/x-rust-metadata") (codes "rmeta") None (at_least 8 (text 0 (codes "rust" ++ 0x00 ∷ 0x00 ∷ 0x00 ∷ []) ∷ byte 7 (between 0x04 0x0F) ∷ []) ∷ [])
     ∷ row App (codes "application/x-go-object") (codes "goobj") None (at_least 10 (text 0 (codes "go object ") ∷ []) ∷ [])
@@ -805,6 +820,8 @@ compiled =
     ∷ row App (codes "application/x-java-hprof") (codes "hprof") None (at_least 19 (text 0 (codes "JAVA PROFILE 1.0.") ∷ byte 17 (between 0x31 0x33) ∷ text 18 (0x00 ∷ []) ∷ []) ∷ [])
     ∷ row App (codes "application/x-java-flight-recording") (codes "jfr") None (at_least 6 (text 0 (codes "FLR" ++ 0x00 ∷ 0x00 ∷ []) ∷ byte 5 (any_of (0x01 ∷ 0x02 ∷ [])) ∷ []) ∷ [])
     ∷ row App (codes "application/x-java-image") (codes "jimage") None (at_least 4 (text 0 (0xDA ∷ 0xDA ∷ 0xFE ∷ 0xCA ∷ []) ∷ []) ∷ at_least 4 (text 0 (0xCA ∷ 0xFE ∷ 0xDA ∷ 0xDA ∷ []) ∷ []) ∷ [])
+    ∷ row App (codes "application/x-ms-resource") (codes "res") None (at_least 16 (text 0 (0x00 ∷ 0x00 ∷ 0x00 ∷ 0x00 ∷ 0x20 ∷ 0x00 ∷ 0x00 ∷ 0x00 ∷ 0xFF ∷ 0xFF ∷ 0x00 ∷ 0x00 ∷ 0xFF ∷ 0xFF ∷ 0x00 ∷ 0x00 ∷ []) ∷ []) ∷ [])
+    ∷ row App (codes "application/x-ghc-interface") (codes "hi") None (at_least 4 (text 0 (0x01 ∷ 0xFA ∷ 0xCE ∷ 0x64 ∷ []) ∷ []) ∷ at_least 4 (text 0 (0x00 ∷ 0x01 ∷ 0xFA ∷ 0xCE ∷ []) ∷ []) ∷ [])
     ∷ []
 
 -- captures, fonts and keys
@@ -1063,6 +1080,82 @@ headlines =
     ∷ row Text (codes "text/x-gimp-curve") (codes "gcurve") None (related (text_first (codes "# GIMP Curves File")) ∷ [])
     ∷ []
 
+-- rows of bytes behind the front, which no first byte tells
+unfoldable pub inner : List Further
+inner =
+    row Image (codes "image/x-pict") (codes "pict") None (at_least 528 (text 522 (0x00 ∷ 0x11 ∷ 0x02 ∷ 0xFF ∷ 0x0C ∷ 0x00 ∷ []) ∷ []) ∷ [])
+    ∷ row Image (codes "image/x-mrc") (codes "mrc") None (at_least 214 (text 208 (codes "MAP ") ∷ byte 212 (any_of (0x11 ∷ 0x44 ∷ [])) ∷ byte 213 (any_of (0x11 ∷ 0x41 ∷ 0x44 ∷ [])) ∷ []) ∷ [])
+    ∷ row Audio (codes "audio/x-s3m") (codes "s3m") None (at_least 48 (text 28 (0x1A ∷ 0x10 ∷ []) ∷ text 44 (codes "SCRM") ∷ []) ∷ [])
+    ∷ row Audio (codes "audio/x-mod") (codes "mod") None (at_least 1084 (text 1080 (codes "M.K.") ∷ []) ∷ at_least 1084 (text 1080 (codes "M!K!") ∷ []) ∷ at_least 1084 (text 1080 (codes "FLT") ∷ byte 1083 (any_of (0x34 ∷ 0x38 ∷ [])) ∷ []) ∷ at_least 1084 (byte 1080 (any_of (0x34 ∷ 0x36 ∷ 0x38 ∷ [])) ∷ text 1081 (codes "CHN") ∷ []) ∷ at_least 1084 (text 1080 (codes "CD81") ∷ []) ∷ at_least 1084 (text 1080 (codes "OKTA") ∷ []) ∷ at_least 1084 (text 1080 (codes "16CN") ∷ []) ∷ at_least 1084 (text 1080 (codes "32CN") ∷ []) ∷ [])
+    ∷ row Audio (codes "audio/x-stm") (codes "stm") None (at_least 30 (text 20 (codes "!Scream!" ++ 0x1A ∷ []) ∷ byte 29 (between 0x01 0x02) ∷ []) ∷ at_least 30 (text 20 (codes "!SCREAM!" ++ 0x1A ∷ []) ∷ byte 29 (between 0x01 0x02) ∷ []) ∷ at_least 30 (text 20 (codes "BMOD2STM" ++ 0x1A ∷ []) ∷ byte 29 (between 0x01 0x02) ∷ []) ∷ [])
+    ∷ row Audio (codes "audio/x-ptm") (codes "ptm") None (at_least 48 (text 28 (0x1A ∷ []) ∷ text 44 (codes "PTMF") ∷ []) ∷ [])
+    ∷ row Audio (codes "audio/vnd.dolby.mlp") (codes "mlp") None (at_least 8 (text 4 (0xF8 ∷ [] ++ codes "ro") ∷ byte 7 (any_of (0xBA ∷ 0xBB ∷ [])) ∷ []) ∷ [])
+    ∷ row Audio (codes "audio/vnd.audible") (codes "aa") None (at_least 8 (text 4 (0x57 ∷ 0x90 ∷ [] ++ codes "u6") ∷ []) ∷ [])
+    ∷ []
+
+-- more rows of bytes behind the front: films, disks and file systems
+unfoldable pub deeper : List Further
+deeper =
+    row Video (codes "video/x-flic") (codes "fli") None (at_least 16 (byte 4 (any_of (0x11 ∷ 0x12 ∷ [])) ∷ text 5 (0xAF ∷ []) ∷ text 12 (0x08 ∷ 0x00 ∷ []) ∷ text 15 (0x00 ∷ []) ∷ []) ∷ [])
+    ∷ row Audio (codes "audio/vnd.audible.aax") (codes "aax") None (at_least 12 (text 4 (codes "ftypaax ") ∷ []) ∷ [])
+    ∷ row Audio (codes "audio/mp4") (codes "f4a") None (at_least 12 (text 4 (codes "ftypF4A ") ∷ []) ∷ at_least 12 (text 4 (codes "ftypF4B ") ∷ []) ∷ at_least 12 (text 4 (codes "ftypM4P ") ∷ []) ∷ [])
+    ∷ row Video (codes "video/vnd.dvb.file") (codes "dvb") None (at_least 12 (text 4 (codes "ftypdvr1") ∷ []) ∷ at_least 12 (text 4 (codes "ftypdvt1") ∷ []) ∷ [])
+    ∷ row Video (codes "video/quicktime") (codes "mqv") None (at_least 12 (text 4 (codes "ftypmqt ") ∷ []) ∷ [])
+    ∷ row Video (codes "video/mp4") (codes "mp4") None (at_least 12 (text 4 (codes "ftypiso") ∷ byte 11 (between 0x37 0x39) ∷ []) ∷ at_least 12 (text 4 (codes "ftypisml") ∷ []) ∷ [])
+    ∷ row Image (codes "image/heif-sequence") (codes "heifs") None (at_least 12 (text 4 (codes "ftypmsf1") ∷ []) ∷ at_least 12 (text 4 (codes "ftyphevm") ∷ []) ∷ at_least 12 (text 4 (codes "ftyphevs") ∷ []) ∷ [])
+    ∷ row Archive (codes "application/x-ace-compressed") (codes "ace") None (at_least 14 (text 7 (codes "**ACE**") ∷ []) ∷ [])
+    ∷ row App (codes "application/vnd.symbian.install") (codes "sis") None (at_least 12 (text 8 (0x19 ∷ 0x04 ∷ 0x00 ∷ 0x10 ∷ []) ∷ []) ∷ [])
+    ∷ row Archive (codes "application/x-f2fs-filesystem") (codes "f2fs") None (at_least 1028 (text 1024 (0x10 ∷ 0x20 ∷ 0xF5 ∷ 0xF2 ∷ []) ∷ []) ∷ [])
+    ∷ row Archive (codes "application/x-ntfs-filesystem") (codes "ntfs") None (at_least 512 (text 3 (codes "NTFS    ") ∷ text 510 (0x55 ∷ 0xAA ∷ []) ∷ []) ∷ [])
+    ∷ row Archive (codes "application/x-exfat-filesystem") (codes "exfat") None (at_least 512 (text 3 (codes "EXFAT   " ++ 0x00 ∷ 0x00 ∷ 0x00 ∷ 0x00 ∷ 0x00 ∷ []) ∷ text 510 (0x55 ∷ 0xAA ∷ []) ∷ []) ∷ [])
+    ∷ row Archive (codes "application/x-gpt-disk") (codes "gpt") None (at_least 520 (text 510 (0x55 ∷ 0xAA ∷ [] ++ codes "EFI PART") ∷ []) ∷ [])
+    ∷ row Archive (codes "application/x-hfsplus-filesystem") (codes "hfsplus") None (at_least 1028 (text 1024 (codes "H+" ++ 0x00 ∷ 0x04 ∷ []) ∷ []) ∷ at_least 1028 (text 1024 (codes "HX" ++ 0x00 ∷ 0x05 ∷ []) ∷ []) ∷ [])
+    ∷ row Archive (codes "application/x-apfs-filesystem") (codes "apfs") None (at_least 36 (text 8 (0x01 ∷ 0x00 ∷ 0x00 ∷ 0x00 ∷ []) ∷ text 32 (codes "NXSB") ∷ []) ∷ [])
+    ∷ row Archive (codes "application/x-lvm2") (codes "lvm") None (at_least 544 (text 512 (codes "LABELONE") ∷ text 536 (codes "LVM2 001") ∷ []) ∷ [])
+    ∷ row Archive (codes "application/x-erofs") (codes "erofs") None (at_least 1028 (text 1024 (0xE2 ∷ 0xE1 ∷ 0xF5 ∷ 0xE0 ∷ []) ∷ []) ∷ [])
+    ∷ row App (codes "application/x-linux-kernel") (codes "zimage") None (at_least 40 (text 36 (0x18 ∷ [] ++ codes "(o" ++ 0x01 ∷ []) ∷ []) ∷ at_least 40 (text 36 (0x01 ∷ [] ++ codes "o(" ++ 0x18 ∷ []) ∷ []) ∷ [])
+    ∷ row App (codes "application/x-linux-kernel") (codes "bzimage") None (at_least 518 (text 510 (0x55 ∷ 0xAA ∷ []) ∷ text 514 (codes "HdrS") ∷ []) ∷ [])
+    ∷ []
+
+-- more rows of bytes behind the front: programs, data and books
+unfoldable pub farther : List Further
+farther =
+    row Archive (codes "application/x-wii-rom") (codes "wbfs") None (at_least 5 (text 0 (codes "WBFS" ++ 0x00 ∷ []) ∷ []) ∷ at_least 28 (text 24 (0x5D ∷ 0x1C ∷ 0x9E ∷ 0xA3 ∷ []) ∷ []) ∷ [])
+    ∷ row Archive (codes "application/x-thomson-sap-image") (codes "thomsap") None (at_least 27 (text 1 (codes "SYSTEME D'ARCHIVAGE PUKALL") ∷ []) ∷ [])
+    ∷ row Archive (codes "application/x-zip") (codes "omni") None (at_least 8 (text 4 (codes "PK" ++ 0x01 ∷ 0x02 ∷ []) ∷ []) ∷ [])
+    ∷ row App (codes "application/x-icu-data") (codes "icures") None (at_least 16 (text 2 (0xDA ∷ 0x27 ∷ []) ∷ text 12 (codes "ResB") ∷ []) ∷ at_least 16 (text 2 (0xDA ∷ 0x27 ∷ []) ∷ text 12 (codes "CvAl") ∷ []) ∷ at_least 16 (text 2 (0xDA ∷ 0x27 ∷ []) ∷ text 12 (codes "cnvt") ∷ []) ∷ at_least 16 (text 2 (0xDA ∷ 0x27 ∷ []) ∷ text 12 (codes "CmnD") ∷ []) ∷ at_least 16 (text 2 (0xDA ∷ 0x27 ∷ []) ∷ text 12 (codes "Brk ") ∷ []) ∷ [])
+    ∷ row Audio (codes "audio/x-iriver-pla") (codes "pla") None (at_least 18 (text 4 (codes "iriver UMS PLA") ∷ []) ∷ [])
+    ∷ row App (codes "application/x-lmdb") (codes "lmdb") None (at_least 24 (text 16 (0xDE ∷ 0xC0 ∷ 0xEF ∷ 0xBE ∷ 0x01 ∷ 0x00 ∷ 0x00 ∷ 0x00 ∷ []) ∷ []) ∷ [])
+    ∷ row App (codes "application/x-ms-sdb") (codes "sdb") None (at_least 14 (text 8 (codes "sdbf" ++ 0x02 ∷ 0x78 ∷ []) ∷ []) ∷ [])
+    ∷ row App (codes "application/x-spss-por") (codes "por") None (at_least 60 (text 40 (codes "ASCII SPSS PORT FILE") ∷ []) ∷ [])
+    ∷ row Book (codes "application/x-aportisdoc") (codes "aportis") None (at_least 68 (text 60 (codes "TEXtREAd") ∷ []) ∷ at_least 68 (text 60 (codes "TEXtTlDc") ∷ []) ∷ [])
+    ∷ row Book (codes "application/prs.plucker") (codes "plucker") None (at_least 68 (text 60 (codes "DataPlkr") ∷ []) ∷ [])
+    ∷ []
+
+-- cartridges and discs of games, and more rows of bytes behind the front
+unfoldable pub buried : List Further
+buried =
+    row App (codes "application/x-gnupg-keybox") (codes "kbx") None (at_least 12 (text 4 (0x01 ∷ []) ∷ text 8 (codes "KBXf") ∷ []) ∷ [])
+    ∷ row App (codes "application/x-gameboy-rom") (codes "gb") None (at_least 324 (text 260 (0xCE ∷ 0xED ∷ [] ++ codes "ff" ++ 0xCC ∷ 0x0D ∷ 0x00 ∷ 0x0B ∷ []) ∷ byte 323 (between 0x00 0x7F) ∷ []) ∷ [])
+    ∷ row App (codes "application/x-gameboy-color-rom") (codes "gbc") None (at_least 324 (text 260 (0xCE ∷ 0xED ∷ [] ++ codes "ff" ++ 0xCC ∷ 0x0D ∷ 0x00 ∷ 0x0B ∷ []) ∷ byte 323 (between 0x80 0xFF) ∷ []) ∷ [])
+    ∷ row App (codes "application/x-gba-rom") (codes "gba") None (at_least 12 (text 4 (0x24 ∷ 0xFF ∷ 0xAE ∷ [] ++ codes "Qi" ++ 0x9A ∷ 0xA2 ∷ 0x21 ∷ []) ∷ []) ∷ [])
+    ∷ row App (codes "application/x-nintendo-ds-rom") (codes "nds") None (at_least 200 (text 192 (0x24 ∷ 0xFF ∷ 0xAE ∷ [] ++ codes "Qi" ++ 0x9A ∷ 0xA2 ∷ 0x21 ∷ []) ∷ []) ∷ [])
+    ∷ row App (codes "application/x-sega-cd-rom") (codes "segacd") None (at_least 14 (text 0 (codes "SEGADISCSYSTEM") ∷ []) ∷ at_least 30 (text 16 (codes "SEGADISCSYSTEM") ∷ []) ∷ [])
+    ∷ row App (codes "application/x-genesis-rom") (codes "md") None (at_least 271 (text 256 (codes "SEGA") ∷ byte 260 (any_of (0x20 ∷ 0x5F ∷ [])) ∷ text 261 (codes "MEGA") ∷ byte 265 (any_of (0x20 ∷ 0x5F ∷ [])) ∷ text 266 (codes "DRIVE") ∷ []) ∷ at_least 268 (text 256 (codes "SEGA GENESIS") ∷ []) ∷ at_least 644 (text 640 (codes "EAGN") ∷ []) ∷ at_least 644 (text 640 (codes "EAMG") ∷ []) ∷ [])
+    ∷ row App (codes "application/x-genesis-32x-rom") (codes "32x") None (at_least 264 (text 256 (codes "SEGA 32X") ∷ []) ∷ [])
+    ∷ row App (codes "application/x-sega-pico-rom") (codes "pico") None (at_least 265 (text 256 (codes "SEGA PICO") ∷ []) ∷ [])
+    ∷ row App (codes "application/x-saturn-rom") (codes "saturn") None (at_least 16 (text 0 (codes "SEGA SEGASATURN ") ∷ []) ∷ at_least 32 (text 16 (codes "SEGA SEGASATURN ") ∷ []) ∷ [])
+    ∷ row App (codes "application/x-dc-rom") (codes "dc") None (at_least 16 (text 0 (codes "SEGA SEGAKATANA ") ∷ []) ∷ at_least 32 (text 16 (codes "SEGA SEGAKATANA ") ∷ []) ∷ [])
+    ∷ row App (codes "application/x-neo-geo-pocket-rom") (codes "ngp") None (at_least 36 (text 10 (codes "BY SNK CORPORATION") ∷ text 35 (0x00 ∷ []) ∷ []) ∷ [])
+    ∷ row App (codes "application/x-neo-geo-pocket-color-rom") (codes "ngc") None (at_least 36 (text 10 (codes "BY SNK CORPORATION") ∷ text 35 (0x10 ∷ []) ∷ []) ∷ [])
+    ∷ row App (codes "application/x-gamecube-rom") (codes "gcm") None (at_least 32 (text 28 (0xC2 ∷ 0x33 ∷ 0x9F ∷ 0x3D ∷ []) ∷ []) ∷ [])
+    ∷ row App (codes "application/x-nintendo-3ds-rom") (codes "cci") None (at_least 260 (text 256 (codes "NCSD") ∷ []) ∷ [])
+    ∷ row App (codes "application/x-nintendo-ncch") (codes "ncch") None (at_least 260 (text 256 (codes "NCCH") ∷ []) ∷ [])
+    ∷ row Image (codes "image/x-tga") (codes "tga") None (at_least 18 (text 1 (0x00 ∷ []) ∷ byte 2 (any_of (0x02 ∷ 0x03 ∷ 0x0A ∷ 0x0B ∷ [])) ∷ text 3 (0x00 ∷ 0x00 ∷ 0x00 ∷ 0x00 ∷ 0x00 ∷ []) ∷ byte 13 (between 0x00 0x1F) ∷ byte 15 (between 0x00 0x1F) ∷ byte 16 (any_of (0x08 ∷ 0x10 ∷ 0x18 ∷ 0x20 ∷ [])) ∷ byte 17 (any_of (0x00 ∷ 0x08 ∷ 0x20 ∷ 0x28 ∷ [])) ∷ []) ∷ at_least 18 (text 1 (0x01 ∷ []) ∷ byte 2 (any_of (0x01 ∷ 0x09 ∷ [])) ∷ text 3 (0x00 ∷ 0x00 ∷ []) ∷ byte 6 (between 0x00 0x01) ∷ byte 7 (any_of (0x0F ∷ 0x10 ∷ 0x18 ∷ 0x20 ∷ [])) ∷ byte 13 (between 0x00 0x1F) ∷ byte 15 (between 0x00 0x1F) ∷ text 16 (0x08 ∷ []) ∷ byte 17 (any_of (0x00 ∷ 0x20 ∷ [])) ∷ []) ∷ [])
+    ∷ row Image (codes "model/iges") (codes "igs") None (at_least 80 (text 72 (codes "S      1") ∷ []) ∷ at_least 80 (text 72 (codes "S0000001") ∷ []) ∷ [])
+    ∷ row Text (codes "application/x-ebu-stl") (codes "stlsub") None (at_least 11 (text 3 (codes "STL") ∷ byte 6 (between 0x30 0x39) ∷ byte 7 (between 0x30 0x39) ∷ text 8 (codes ".01") ∷ []) ∷ [])
+    ∷ []
+
 -- texts, which come last, as they accept what other rows do
 unfoldable pub texts : List Further
 texts =
@@ -1074,4 +1167,4 @@ texts =
 -- all of them
 unfoldable pub further : List Further
 further =
-    packages ++ (headers ++ (markup ++ (code ++ (records ++ (archives ++ (images ++ (media ++ (late ++ (office ++ (kinds ++ (roots ++ (elements ++ (pictures ++ (rasters ++ (sounds ++ (packed ++ (disks ++ (papers ++ (stores ++ (games ++ (others ++ (scripts ++ (documents ++ (secrets ++ (bitmaps ++ (shapes ++ (chunks ++ (tunes ++ (squeezed ++ (bundles ++ (volumes ++ (assorted ++ (databases ++ (science ++ (measures ++ (prints ++ (compiled ++ (keyrings ++ (consoles ++ (shallow ++ (schemas ++ (dialects ++ (notations ++ (unheaded ++ (mended ++ (openings ++ (prefaces ++ (remarks ++ (captions ++ (headlines ++ (texts ++ [])))))))))))))))))))))))))))))))))))))))))))))))))))
+    packages ++ (headers ++ (markup ++ (code ++ (records ++ (archives ++ (images ++ (media ++ (late ++ (office ++ (kinds ++ (roots ++ (elements ++ (pictures ++ (rasters ++ (sounds ++ (packed ++ (disks ++ (papers ++ (stores ++ (games ++ (others ++ (scripts ++ (documents ++ (secrets ++ (bitmaps ++ (shapes ++ (chunks ++ (tunes ++ (squeezed ++ (bundles ++ (volumes ++ (assorted ++ (databases ++ (science ++ (measures ++ (prints ++ (compiled ++ (keyrings ++ (consoles ++ (shallow ++ (schemas ++ (dialects ++ (notations ++ (unheaded ++ (mended ++ (openings ++ (prefaces ++ (remarks ++ (captions ++ (headlines ++ (inner ++ (deeper ++ (farther ++ (buried ++ (texts ++ [])))))))))))))))))))))))))))))))))))))))))))))))))))))))

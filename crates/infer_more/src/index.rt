@@ -33,6 +33,26 @@ pub(crate) struct Range {
     pub high: u8,
 }
 
+/// Entries that are looked at only if a buffer has at the place a byte with that mark.
+pub(crate) struct Spot {
+    pub place: u32,
+    pub mark: u32,
+    pub entries: &'static [Entry],
+}
+
+/// The rows that no first byte tells, by a byte elsewhere. A byte has a mark for each place at which some row asks for it,
+/// so that one look rules out all rows of a place. No row of theirs stands before the first, so that a buffer with an earlier
+/// answer is not asked for them; and a short one is not asked for the far places, which are all beyond some length. A buffer
+/// that begins with a zero, as many files do, is asked for the places of rows that do so too.
+pub(crate) struct Spots {
+    pub from: u16,
+    pub marks: &'static [u32],
+    pub zeros: &'static [Spot],
+    pub near: &'static [Spot],
+    pub beyond: u32,
+    pub far: &'static [Spot],
+}
+
 /// A row, by its number among the further rows, that is tried only if a buffer has another byte at the place.
 pub(crate) struct Except {
     pub place: u32,
@@ -99,14 +119,15 @@ pub(crate) struct Begun {
 }
 
 /// The rows without a parent that are tried: by their first byte and a second one, and behind guards those that allow any
-/// first byte, or share it with the zeros of many files. Of these the rows that share another byte stand behind the gate, so
-/// that a buffer without it is told by one look. Ranges have the rows that allow many bytes. The root of markup is looked
-/// for once for all rows that ask for one. The texts come last.
+/// first byte. Of these the rows that share another byte stand behind the gate, so
+/// that a buffer without it is told by one look. Ranges have the rows that allow many bytes, and spots the last rows, told by
+/// a byte elsewhere. The root of markup is looked for once for all rows that ask for one. The texts come last.
 pub(crate) struct Parentless {
     pub first: Begun,
     pub guards: &'static [Guard],
     pub gate: Gate,
     pub ranges: &'static [Range],
+    pub spots: Spots,
     pub roots: &'static [Rooted],
     pub texts: Texts,
 }
@@ -207,6 +228,26 @@ macro_rules! gate {
     };
 }
 
+macro_rules! marks {
+    ($($mark:literal),*) => {
+        &[$($mark),*]
+    };
+}
+
+macro_rules! spots {
+    ($($place:literal $mark:literal ($($at:literal $byte:literal $row:literal),*);)*) => {
+        &[$(Spot {
+            place: $place,
+            mark: $mark,
+            entries: &[$(Entry {
+                place: $at,
+                row: $row,
+                byte: $byte,
+            }),*],
+        }),*]
+    };
+}
+
 macro_rules! ranges {
     ($($place:literal $low:literal $high:literal $row:literal;)*) => {
         &[$(Range {
@@ -223,7 +264,7 @@ mod generated;
 
 pub use generated::FURTHER_COUNT;
 pub(crate) use generated::found_below;
-use generated::{PARENTLESS, told_below};
+use generated::{LAST_PLACE, PARENTLESS, told_below};
 
 /// How the rows below this built-in row are told: in a way by which just those are found that widen its answer.
 #[inline(always)]

@@ -88,21 +88,25 @@ mod archives;
 mod assorted;
 mod bitmaps;
 mod bundles;
+mod buried;
 mod captions;
 mod chunks;
 mod code;
 mod compiled;
 mod consoles;
 mod databases;
+mod deeper;
 mod dialects;
 mod disks;
 mod documents;
 mod elements;
+mod farther;
 mod games;
 mod generated;
 mod headers;
 mod headlines;
 mod images;
+mod inner;
 mod keyrings;
 mod kinds;
 mod late;
@@ -142,7 +146,7 @@ pub(crate) use generated::{row_at, widens};
 
 /// The rows, list by list.
 #[inline(always)]
-pub(crate) fn lists() -> [&'static [FurtherRow]; 52]
+pub(crate) fn lists() -> [&'static [FurtherRow]; 56]
     ensures listed { joined result ≡ further }
     ensures ended { All (λ rows. AreEnded rows.now) result }
 {
@@ -198,6 +202,10 @@ pub(crate) fn lists() -> [&'static [FurtherRow]; 52]
         remarks::rows(),
         captions::rows(),
         headlines::rows(),
+        inner::rows(),
+        deeper::rows(),
+        farther::rows(),
+        buried::rows(),
         texts::rows(),
     ]
 }
@@ -222,7 +230,7 @@ fn row_among(lists: &[&'static [FurtherRow]], i: usize) -> Result<&'static Furth
 }
 
 // Over so many lists the compiler walks by itself. A walk over all it leaves as a loop, for each call.
-const HALF: usize = 26;
+const HALF: usize = 28;
 
 /// Row `i`, by a walk over the lists, half by half: for a number that the compiler knows, since it walks then.
 fn row_in_lists(i: usize) -> Option<&'static FurtherRow>

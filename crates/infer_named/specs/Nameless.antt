@@ -13,4 +13,8 @@ nameless =
     ∷ codes "binlog"
     ∷ codes "octave"
     ∷ codes "riff"
+    ∷ codes "pico"
+    ∷ codes "stlsub"
+    ∷ codes "appledouble"
+    ∷ codes "applesingle"
     ∷ []

@@ -15,8 +15,8 @@ row_slots = ROW_SLOTS
 -- the sum of a text, by its length and four of its bytes, which tells its group and its slot
 abbrev pub row_sum : List ℕ → ℕ
 row_sum text =
-    length text + 2223 * get_or text 0 0 + 1911 * get_or text (length text / 4) 0 + 811 * get_or text (length text / 2) 0
-    + 1456 * get_or text (length text - 1) 0
+    length text + 551 * get_or text 0 0 + 2332 * get_or text (length text / 4) 0 + 259 * get_or text (length text / 2 + length text / 4) 0
+    + 1045 * get_or text (length text - 1) 0
 
 abbrev pub row_slot : List ℕ → ℕ
 row_slot text = (row_sum text / 64 + get_or row_shifts (row_sum text % 64) 0) % 2048

@@ -44,2621 +44,2783 @@ leads-12 = 12
 abbrev pub no-rows : ℕ
 no-rows = 0
 
+abbrev pub rows-32x : ℕ
+rows-32x = 1
+
 abbrev pub rows-3dmodel : ℕ
-rows-3dmodel = 1
+rows-3dmodel = 2
 
 abbrev pub text-rows : ℕ
-text-rows = 2
+text-rows = 3
 
 abbrev pub rows-3dmodel-abw-amf-atom-aup-busconfig-catmeta-cml-dae-dbk-dbusintro-dia-diashape-fb2-fodg-fodp-fods-fodt-fontconfig-glade-gml-gnucash-gnumeric-gpx-gresource-gschema-gtkbuilder-jnlp-kml-ldml-lingts-meta4-metainfo-metalink-mimeinfo-mml-mpd-msbuild-mscx-musicxml-ncx-nzb-opf-opml-osm-owx-pkgmeta-plist-pom-rdf-rng-rss-sbml-sch-sitemap-sla-smil-srx-svg-tei-ttml-ttx-ui-wordml-wsdl-x3d-xbel-xhtml-xib-xkbrules-xliff-xmi-xmp-xsd-xslt-xspf : ℕ
-rows-3dmodel-abw-amf-atom-aup-busconfig-catmeta-cml-dae-dbk-dbusintro-dia-diashape-fb2-fodg-fodp-fods-fodt-fontconfig-glade-gml-gnucash-gnumeric-gpx-gresource-gschema-gtkbuilder-jnlp-kml-ldml-lingts-meta4-metainfo-metalink-mimeinfo-mml-mpd-msbuild-mscx-musicxml-ncx-nzb-opf-opml-osm-owx-pkgmeta-plist-pom-rdf-rng-rss-sbml-sch-sitemap-sla-smil-srx-svg-tei-ttml-ttx-ui-wordml-wsdl-x3d-xbel-xhtml-xib-xkbrules-xliff-xmi-xmp-xsd-xslt-xspf = 3
+rows-3dmodel-abw-amf-atom-aup-busconfig-catmeta-cml-dae-dbk-dbusintro-dia-diashape-fb2-fodg-fodp-fods-fodt-fontconfig-glade-gml-gnucash-gnumeric-gpx-gresource-gschema-gtkbuilder-jnlp-kml-ldml-lingts-meta4-metainfo-metalink-mimeinfo-mml-mpd-msbuild-mscx-musicxml-ncx-nzb-opf-opml-osm-owx-pkgmeta-plist-pom-rdf-rng-rss-sbml-sch-sitemap-sla-smil-srx-svg-tei-ttml-ttx-ui-wordml-wsdl-x3d-xbel-xhtml-xib-xkbrules-xliff-xmi-xmp-xsd-xslt-xspf = 4
 
 abbrev pub rows-3ds : ℕ
-rows-3ds = 4
+rows-3ds = 5
 
 abbrev pub rows-3dsx : ℕ
-rows-3dsx = 5
+rows-3dsx = 6
 
 abbrev pub rows-3g2 : ℕ
-rows-3g2 = 6
+rows-3g2 = 7
 
 abbrev pub rows-3g2-3gp-f4v-m4a-m4b-m4v-mov : ℕ
-rows-3g2-3gp-f4v-m4a-m4b-m4v-mov = 7
+rows-3g2-3gp-f4v-m4a-m4b-m4v-mov = 8
 
 abbrev pub rows-3gp : ℕ
-rows-3gp = 8
+rows-3gp = 9
 
 abbrev pub rows-3gp-mp4 : ℕ
-rows-3gp-mp4 = 9
+rows-3gp-mp4 = 10
 
 abbrev pub rows-3mf : ℕ
-rows-3mf = 10
+rows-3mf = 11
 
 abbrev pub rows-3mf-apk-application-vnd-apple-keynote-chrt-docx-epub-fbz-fcstd-flw-iwa-jar-karbon-kfo-kmz-kon-kpr-kra-ksp-kwd-mscz-odb-odc-odf-odg-odi-odp-ods-odt-ora-otg-otp-ots-ott-pkpass-pptx-qgz-sxc-sxd-sxi-sxm-sxw-vsdx-xap-xlsx : ℕ
-rows-3mf-apk-application-vnd-apple-keynote-chrt-docx-epub-fbz-fcstd-flw-iwa-jar-karbon-kfo-kmz-kon-kpr-kra-ksp-kwd-mscz-odb-odc-odf-odg-odi-odp-ods-odt-ora-otg-otp-ots-ott-pkpass-pptx-qgz-sxc-sxd-sxi-sxm-sxw-vsdx-xap-xlsx = 11
+rows-3mf-apk-application-vnd-apple-keynote-chrt-docx-epub-fbz-fcstd-flw-iwa-jar-karbon-kfo-kmz-kon-kpr-kra-ksp-kwd-mscz-odb-odc-odf-odg-odi-odp-ods-odt-ora-otg-otp-ots-ott-pkpass-pptx-qgz-sxc-sxd-sxi-sxm-sxw-vsdx-xap-xlsx = 12
 
 abbrev pub rows-4xm : ℕ
-rows-4xm = 12
+rows-4xm = 13
 
 abbrev pub rows-7z : ℕ
-rows-7z = 13
+rows-7z = 14
 
 abbrev pub rows-8svx : ℕ
-rows-8svx = 14
+rows-8svx = 15
 
 abbrev pub rows-z : ℕ
-rows-z = 15
+rows-z = 16
 
 abbrev pub rows-a78 : ℕ
-rows-a78 = 16
+rows-a78 = 17
+
+abbrev pub rows-aa : ℕ
+rows-aa = 18
 
 abbrev pub rows-aac : ℕ
-rows-aac = 17
+rows-aac = 19
 
 abbrev pub rows-aac-adif : ℕ
-rows-aac-adif = 18
+rows-aac-adif = 20
+
+abbrev pub rows-aax : ℕ
+rows-aax = 21
 
 abbrev pub rows-abc : ℕ
-rows-abc = 19
+rows-abc = 22
 
 abbrev pub rows-abw : ℕ
-rows-abw = 20
+rows-abw = 23
 
 abbrev pub rows-ac3 : ℕ
-rows-ac3 = 21
+rows-ac3 = 24
 
 abbrev pub rows-accdb : ℕ
-rows-accdb = 22
+rows-accdb = 25
+
+abbrev pub rows-ace : ℕ
+rows-ace = 26
 
 abbrev pub rows-adf : ℕ
-rows-adf = 23
+rows-adf = 27
 
 abbrev pub rows-aes : ℕ
-rows-aes = 24
+rows-aes = 28
 
 abbrev pub rows-afm : ℕ
-rows-afm = 25
+rows-afm = 29
 
 abbrev pub rows-ag : ℕ
-rows-ag = 26
+rows-ag = 30
 
 abbrev pub rows-age : ℕ
-rows-age = 27
+rows-age = 31
 
 abbrev pub rows-age-asc-cms-crl-application-x-pem-key-csr-openssh-p7c-param-pgp-pubkey-sig-sshsig : ℕ
-rows-age-asc-cms-crl-application-x-pem-key-csr-openssh-p7c-param-pgp-pubkey-sig-sshsig = 28
+rows-age-asc-cms-crl-application-x-pem-key-csr-openssh-p7c-param-pgp-pubkey-sig-sshsig = 32
 
 abbrev pub rows-aifc : ℕ
-rows-aifc = 29
+rows-aifc = 33
 
 abbrev pub rows-aiff : ℕ
-rows-aiff = 30
+rows-aiff = 34
 
 abbrev pub rows-alz : ℕ
-rows-alz = 31
+rows-alz = 35
 
 abbrev pub rows-amf : ℕ
-rows-amf = 32
+rows-amf = 36
 
 abbrev pub rows-aml : ℕ
-rows-aml = 33
+rows-aml = 37
 
 abbrev pub rows-amr : ℕ
-rows-amr = 34
+rows-amr = 38
 
 abbrev pub rows-amv : ℕ
-rows-amv = 35
+rows-amv = 39
 
 abbrev pub rows-ani : ℕ
-rows-ani = 36
+rows-ani = 40
 
 abbrev pub rows-anim : ℕ
-rows-anim = 37
+rows-anim = 41
 
 abbrev pub rows-ape : ℕ
-rows-ape = 38
+rows-ape = 42
+
+abbrev pub rows-apfs-bootimg-cramfs-erofs-exfat-f2fs-fat-gpt-hfsplus-jffs2-lvm-ntfs-romfs-simg-ubi-ubifs-xfs : ℕ
+rows-apfs-bootimg-cramfs-erofs-exfat-f2fs-fat-gpt-hfsplus-jffs2-lvm-ntfs-romfs-simg-ubi-ubifs-xfs = 43
 
 abbrev pub rows-apk : ℕ
-rows-apk = 39
+rows-apk = 44
 
 abbrev pub rows-apk-jar-zip : ℕ
-rows-apk-jar-zip = 40
+rows-apk-jar-zip = 45
 
 abbrev pub rows-apm : ℕ
-rows-apm = 41
+rows-apm = 46
 
 abbrev pub rows-apng : ℕ
-rows-apng = 42
+rows-apng = 47
+
+abbrev pub rows-aportis-plucker : ℕ
+rows-aportis-plucker = 48
 
 abbrev pub rows-appimage : ℕ
-rows-appimage = 43
+rows-appimage = 49
 
 abbrev pub rows-appimage-core-cubin-o-so : ℕ
-rows-appimage-core-cubin-o-so = 44
+rows-appimage-core-cubin-o-so = 50
 
 abbrev pub rows-application-vnd-apple-keynote : ℕ
-rows-application-vnd-apple-keynote = 45
+rows-application-vnd-apple-keynote = 51
 
 abbrev pub rows-application-x-installshield : ℕ
-rows-application-x-installshield = 46
+rows-application-x-installshield = 52
 
 abbrev pub rows-application-x-msi : ℕ
-rows-application-x-msi = 47
+rows-application-x-msi = 53
 
 abbrev pub rows-application-x-ole-storage : ℕ
-rows-application-x-ole-storage = 48
+rows-application-x-ole-storage = 54
 
 abbrev pub rows-application-x-ole-storage-pptm-pptx-zip : ℕ
-rows-application-x-ole-storage-pptm-pptx-zip = 49
+rows-application-x-ole-storage-pptm-pptx-zip = 55
 
 abbrev pub rows-application-x-ole-storage-pptx-zip : ℕ
-rows-application-x-ole-storage-pptx-zip = 50
+rows-application-x-ole-storage-pptx-zip = 56
 
 abbrev pub rows-application-x-ole-storage-xlsm-xlsx-zip : ℕ
-rows-application-x-ole-storage-xlsm-xlsx-zip = 51
+rows-application-x-ole-storage-xlsm-xlsx-zip = 57
 
 abbrev pub rows-application-x-ole-storage-xlsx-zip : ℕ
-rows-application-x-ole-storage-xlsx-zip = 52
+rows-application-x-ole-storage-xlsx-zip = 58
 
 abbrev pub rows-application-x-ole-storage-zip : ℕ
-rows-application-x-ole-storage-zip = 53
+rows-application-x-ole-storage-zip = 59
 
 abbrev pub rows-application-x-pem-key : ℕ
-rows-application-x-pem-key = 54
+rows-application-x-pem-key = 60
 
 abbrev pub rows-aptcache : ℕ
-rows-aptcache = 55
+rows-aptcache = 61
 
 abbrev pub rows-ar : ℕ
-rows-ar = 56
+rows-ar = 62
 
 abbrev pub rows-ar-thin : ℕ
-rows-ar-thin = 57
+rows-ar-thin = 63
 
 abbrev pub rows-arj : ℕ
-rows-arj = 58
+rows-arj = 64
 
 abbrev pub rows-arrow : ℕ
-rows-arrow = 59
+rows-arrow = 65
 
 abbrev pub rows-arsc : ℕ
-rows-arsc = 60
+rows-arsc = 66
 
 abbrev pub rows-as : ℕ
-rows-as = 61
+rows-as = 67
 
 abbrev pub rows-asar : ℕ
-rows-asar = 62
+rows-asar = 68
 
 abbrev pub rows-asc : ℕ
-rows-asc = 63
+rows-asc = 69
 
 abbrev pub rows-astc : ℕ
-rows-astc = 64
+rows-astc = 70
 
 abbrev pub rows-asx : ℕ
-rows-asx = 65
+rows-asx = 71
 
 abbrev pub rows-atom : ℕ
-rows-atom = 66
+rows-atom = 72
 
 abbrev pub rows-au : ℕ
-rows-au = 67
+rows-au = 73
 
 abbrev pub rows-aup : ℕ
-rows-aup = 68
+rows-aup = 74
 
 abbrev pub rows-aup3 : ℕ
-rows-aup3 = 69
+rows-aup3 = 75
 
 abbrev pub rows-aup3-fossil-gpkg-mbtiles-mtn : ℕ
-rows-aup3-fossil-gpkg-mbtiles-mtn = 70
+rows-aup3-fossil-gpkg-mbtiles-mtn = 76
 
 abbrev pub rows-avi : ℕ
-rows-avi = 71
+rows-avi = 77
 
 abbrev pub rows-avif : ℕ
-rows-avif = 72
+rows-avif = 78
 
 abbrev pub rows-avr : ℕ
-rows-avr = 73
+rows-avr = 79
 
 abbrev pub rows-avro : ℕ
-rows-avro = 74
+rows-avro = 80
 
 abbrev pub rows-aw : ℕ
-rows-aw = 75
+rows-aw = 81
 
 abbrev pub rows-awbm : ℕ
-rows-awbm = 76
+rows-awbm = 82
 
 abbrev pub rows-awk : ℕ
-rows-awk = 77
+rows-awk = 83
 
 abbrev pub rows-axml : ℕ
-rows-axml = 78
+rows-axml = 84
 
 abbrev pub rows-ay : ℕ
-rows-ay = 79
+rows-ay = 85
 
 abbrev pub rows-bai : ℕ
-rows-bai = 80
+rows-bai = 86
 
 abbrev pub rows-bam : ℕ
-rows-bam = 81
+rows-bam = 87
 
 abbrev pub rows-bat : ℕ
-rows-bat = 82
+rows-bat = 88
 
 abbrev pub rows-bc : ℕ
-rows-bc = 83
+rows-bc = 89
 
 abbrev pub rows-bc-bcw : ℕ
-rows-bc-bcw = 84
+rows-bc-bcw = 90
 
 abbrev pub rows-bcstm : ℕ
-rows-bcstm = 85
+rows-bcstm = 91
 
 abbrev pub rows-bcwav : ℕ
-rows-bcwav = 86
+rows-bcwav = 92
 
 abbrev pub rows-bdb : ℕ
-rows-bdb = 87
+rows-bdb = 93
 
 abbrev pub rows-bdf : ℕ
-rows-bdf = 88
+rows-bdf = 94
 
 abbrev pub rows-bdfb : ℕ
-rows-bdfb = 89
+rows-bdfb = 95
 
 abbrev pub rows-beam : ℕ
-rows-beam = 90
+rows-beam = 96
 
 abbrev pub rows-bfstm : ℕ
-rows-bfstm = 91
+rows-bfstm = 97
 
 abbrev pub rows-bgzf-karbon-kil-kpr-ksp-kwd : ℕ
-rows-bgzf-karbon-kil-kpr-ksp-kwd = 92
+rows-bgzf-karbon-kil-kpr-ksp-kwd = 98
 
 abbrev pub rows-biff-xls : ℕ
-rows-biff-xls = 93
+rows-biff-xls = 99
 
 abbrev pub rows-bik : ℕ
-rows-bik = 94
+rows-bik = 100
 
 abbrev pub rows-blb : ℕ
-rows-blb = 95
+rows-blb = 101
 
 abbrev pub rows-blend : ℕ
-rows-blend = 96
+rows-blend = 102
 
 abbrev pub rows-blp : ℕ
-rows-blp = 97
+rows-blp = 103
 
 abbrev pub rows-bmp : ℕ
-rows-bmp = 98
+rows-bmp = 104
 
 abbrev pub rows-bmp-dib : ℕ
-rows-bmp-dib = 99
+rows-bmp-dib = 105
 
 abbrev pub rows-bookmarks : ℕ
-rows-bookmarks = 100
+rows-bookmarks = 106
 
 abbrev pub rows-bootimg : ℕ
-rows-bootimg = 101
-
-abbrev pub rows-bootimg-cramfs-fat-jffs2-romfs-simg-ubi-ubifs-xfs : ℕ
-rows-bootimg-cramfs-fat-jffs2-romfs-simg-ubi-ubifs-xfs = 102
+rows-bootimg = 107
 
 abbrev pub rows-bpg : ℕ
-rows-bpg = 103
+rows-bpg = 108
 
 abbrev pub rows-bplist : ℕ
-rows-bplist = 104
+rows-bplist = 109
 
 abbrev pub rows-bps : ℕ
-rows-bps = 105
+rows-bps = 110
 
 abbrev pub rows-brstm : ℕ
-rows-brstm = 106
+rows-brstm = 111
 
 abbrev pub rows-bsdiff : ℕ
-rows-bsdiff = 107
+rows-bsdiff = 112
 
 abbrev pub rows-bsp : ℕ
-rows-bsp = 108
+rows-bsp = 113
 
 abbrev pub rows-btf-tif : ℕ
-rows-btf-tif = 109
+rows-btf-tif = 114
 
 abbrev pub rows-bufr : ℕ
-rows-bufr = 110
+rows-bufr = 115
 
 abbrev pub rows-bz1-bz2 : ℕ
-rows-bz1-bz2 = 111
+rows-bz1-bz2 = 116
 
 abbrev pub rows-bz2 : ℕ
-rows-bz2 = 112
+rows-bz2 = 117
 
 abbrev pub rows-bz2-gz-xz : ℕ
-rows-bz2-gz-xz = 113
+rows-bz2-gz-xz = 118
 
 abbrev pub rows-bz3 : ℕ
-rows-bz3 = 114
+rows-bz3 = 119
 
 abbrev pub rows-bzimage : ℕ
-rows-bzimage = 115
+rows-bzimage = 120
 
 abbrev pub rows-cab : ℕ
-rows-cab = 116
+rows-cab = 121
 
 abbrev pub rows-caf : ℕ
-rows-caf = 117
+rows-caf = 122
 
 abbrev pub rows-cbor : ℕ
-rows-cbor = 118
+rows-cbor = 123
+
+abbrev pub rows-cci : ℕ
+rows-cci = 124
 
 abbrev pub rows-ccmx : ℕ
-rows-ccmx = 119
+rows-ccmx = 125
 
 abbrev pub rows-cdf : ℕ
-rows-cdf = 120
+rows-cdf = 126
 
 abbrev pub rows-cdr : ℕ
-rows-cdr = 121
+rows-cdr = 127
 
 abbrev pub rows-cdxa : ℕ
-rows-cdxa = 122
+rows-cdxa = 128
 
 abbrev pub rows-cer : ℕ
-rows-cer = 123
+rows-cer = 129
 
 abbrev pub rows-cer-crl : ℕ
-rows-cer-crl = 124
+rows-cer-crl = 130
 
 abbrev pub rows-cer-p10-p8-pkipath : ℕ
-rows-cer-p10-p8-pkipath = 125
+rows-cer-p10-p8-pkipath = 131
 
 abbrev pub rows-chd : ℕ
-rows-chd = 126
+rows-chd = 132
 
 abbrev pub rows-chm : ℕ
-rows-chm = 127
+rows-chm = 133
 
 abbrev pub rows-chrt : ℕ
-rows-chrt = 128
+rows-chrt = 134
 
 abbrev pub rows-cin : ℕ
-rows-cin = 129
+rows-cin = 135
 
 abbrev pub rows-class : ℕ
-rows-class = 130
+rows-class = 136
 
 abbrev pub rows-clj : ℕ
-rows-clj = 131
+rows-clj = 137
 
 abbrev pub rows-cloudcfg : ℕ
-rows-cloudcfg = 132
+rows-cloudcfg = 138
 
 abbrev pub rows-cma : ℕ
-rows-cma = 133
+rows-cma = 139
 
 abbrev pub rows-cmap-eps-pfa-t2t : ℕ
-rows-cmap-eps-pfa-t2t = 134
+rows-cmap-eps-pfa-t2t = 140
 
 abbrev pub rows-cmi : ℕ
-rows-cmi = 135
+rows-cmi = 141
 
 abbrev pub rows-cml : ℕ
-rows-cml = 136
+rows-cml = 142
 
 abbrev pub rows-cmo : ℕ
-rows-cmo = 137
+rows-cmo = 143
 
 abbrev pub rows-cmt : ℕ
-rows-cmt = 138
+rows-cmt = 144
 
 abbrev pub rows-cmx : ℕ
-rows-cmx = 139
+rows-cmx = 145
 
 abbrev pub rows-cmxa : ℕ
-rows-cmxa = 140
+rows-cmxa = 146
 
 abbrev pub rows-cmxr : ℕ
-rows-cmxr = 141
+rows-cmxr = 147
 
 abbrev pub rows-core : ℕ
-rows-core = 142
+rows-core = 148
 
 abbrev pub rows-cpi : ℕ
-rows-cpi = 143
+rows-cpi = 149
 
 abbrev pub rows-cpio : ℕ
-rows-cpio = 144
+rows-cpio = 150
 
 abbrev pub rows-cpt : ℕ
-rows-cpt = 145
+rows-cpt = 151
 
 abbrev pub rows-cr2 : ℕ
-rows-cr2 = 146
+rows-cr2 = 152
 
 abbrev pub rows-cr2-dng : ℕ
-rows-cr2-dng = 147
+rows-cr2-dng = 153
 
 abbrev pub rows-cr3 : ℕ
-rows-cr3 = 148
+rows-cr3 = 154
 
 abbrev pub rows-cram : ℕ
-rows-cram = 149
+rows-cram = 155
 
 abbrev pub rows-cramfs : ℕ
-rows-cramfs = 150
+rows-cramfs = 156
 
 abbrev pub rows-crl : ℕ
-rows-crl = 151
+rows-crl = 157
 
 abbrev pub rows-crw : ℕ
-rows-crw = 152
+rows-crw = 158
 
 abbrev pub rows-crx : ℕ
-rows-crx = 153
+rows-crx = 159
 
 abbrev pub rows-csh : ℕ
-rows-csh = 154
+rows-csh = 160
 
 abbrev pub rows-csi : ℕ
-rows-csi = 155
+rows-csi = 161
 
 abbrev pub rows-cso : ℕ
-rows-cso = 156
+rows-cso = 162
 
 abbrev pub rows-csr-p10 : ℕ
-rows-csr-p10 = 157
+rows-csr-p10 = 163
 
 abbrev pub rows-cubin : ℕ
-rows-cubin = 158
+rows-cubin = 164
 
 abbrev pub rows-cupsraster : ℕ
-rows-cupsraster = 159
+rows-cupsraster = 165
 
 abbrev pub rows-cur : ℕ
-rows-cur = 160
+rows-cur = 166
 
 abbrev pub rows-cwk : ℕ
-rows-cwk = 161
+rows-cwk = 167
 
 abbrev pub rows-czi : ℕ
-rows-czi = 162
+rows-czi = 168
 
 abbrev pub rows-dae : ℕ
-rows-dae = 163
+rows-dae = 169
+
+abbrev pub rows-dar : ℕ
+rows-dar = 170
 
 abbrev pub rows-dart : ℕ
-rows-dart = 164
+rows-dart = 171
 
 abbrev pub rows-dbf : ℕ
-rows-dbf = 165
+rows-dbf = 172
 
 abbrev pub rows-dbk : ℕ
-rows-dbk = 166
+rows-dbk = 173
 
 abbrev pub rows-dbm : ℕ
-rows-dbm = 167
+rows-dbm = 174
 
 abbrev pub rows-dbpf : ℕ
-rows-dbpf = 168
+rows-dbpf = 175
+
+abbrev pub rows-dc-gcm-saturn-segacd : ℕ
+rows-dc-gcm-saturn-segacd = 176
 
 abbrev pub rows-dcm : ℕ
-rows-dcm = 169
+rows-dcm = 177
 
 abbrev pub rows-dcr : ℕ
-rows-dcr = 170
+rows-dcr = 178
 
 abbrev pub rows-dcx : ℕ
-rows-dcx = 171
+rows-dcx = 179
 
 abbrev pub rows-dds : ℕ
-rows-dds = 172
+rows-dds = 180
 
 abbrev pub rows-deb : ℕ
-rows-deb = 173
+rows-deb = 181
 
 abbrev pub rows-deb-goa : ℕ
-rows-deb-goa = 174
+rows-deb-goa = 182
 
 abbrev pub rows-der : ℕ
-rows-der = 175
+rows-der = 183
 
 abbrev pub rows-der-application-x-pem-key-pem : ℕ
-rows-der-application-x-pem-key-pem = 176
+rows-der-application-x-pem-key-pem = 184
 
 abbrev pub rows-der-p7b-pem : ℕ
-rows-der-p7b-pem = 177
+rows-der-p7b-pem = 185
 
 abbrev pub rows-der-pem : ℕ
-rows-der-pem = 178
+rows-der-pem = 186
 
 abbrev pub rows-der-pem-txt : ℕ
-rows-der-pem-txt = 179
+rows-der-pem-txt = 187
 
 abbrev pub rows-dex : ℕ
-rows-dex = 180
+rows-dex = 188
 
 abbrev pub rows-dey : ℕ
-rows-dey = 181
+rows-dey = 189
 
 abbrev pub rows-dff : ℕ
-rows-dff = 182
+rows-dff = 190
 
 abbrev pub rows-dfont : ℕ
-rows-dfont = 183
+rows-dfont = 191
 
 abbrev pub rows-dgn : ℕ
-rows-dgn = 184
+rows-dgn = 192
 
 abbrev pub rows-dia : ℕ
-rows-dia = 185
+rows-dia = 193
 
 abbrev pub rows-diashape : ℕ
-rows-diashape = 186
+rows-diashape = 194
 
 abbrev pub rows-dif : ℕ
-rows-dif = 187
+rows-dif = 195
 
 abbrev pub rows-djvm : ℕ
-rows-djvm = 188
+rows-djvm = 196
 
 abbrev pub rows-djvu : ℕ
-rows-djvu = 189
+rows-djvu = 197
 
 abbrev pub rows-dmp : ℕ
-rows-dmp = 190
+rows-dmp = 198
 
 abbrev pub rows-dng : ℕ
-rows-dng = 191
+rows-dng = 199
 
 abbrev pub rows-doc-doc2 : ℕ
-rows-doc-doc2 = 192
+rows-doc-doc2 = 200
 
 abbrev pub rows-docm : ℕ
-rows-docm = 193
+rows-docm = 201
 
 abbrev pub rows-docm-docx-application-x-ole-storage-zip : ℕ
-rows-docm-docx-application-x-ole-storage-zip = 194
+rows-docm-docx-application-x-ole-storage-zip = 202
 
 abbrev pub rows-docx : ℕ
-rows-docx = 195
+rows-docx = 203
 
 abbrev pub rows-docx-application-x-ole-storage-zip : ℕ
-rows-docx-application-x-ole-storage-zip = 196
+rows-docx-application-x-ole-storage-zip = 204
 
 abbrev pub rows-dpx : ℕ
-rows-dpx = 197
+rows-dpx = 205
 
 abbrev pub rows-drc : ℕ
-rows-drc = 198
+rows-drc = 206
 
 abbrev pub rows-drdoscpi : ℕ
-rows-drdoscpi = 199
+rows-drdoscpi = 207
 
 abbrev pub rows-dsf : ℕ
-rows-dsf = 200
+rows-dsf = 208
 
 abbrev pub rows-dss : ℕ
-rows-dss = 201
+rows-dss = 209
 
 abbrev pub rows-dtb : ℕ
-rows-dtb = 202
+rows-dtb = 210
 
 abbrev pub rows-dts : ℕ
-rows-dts = 203
+rows-dts = 211
 
 abbrev pub rows-dtsi : ℕ
-rows-dtsi = 204
+rows-dtsi = 212
 
 abbrev pub rows-dv : ℕ
-rows-dv = 205
+rows-dv = 213
+
+abbrev pub rows-dvb : ℕ
+rows-dvb = 214
 
 abbrev pub rows-dvi : ℕ
-rows-dvi = 206
+rows-dvi = 215
 
 abbrev pub rows-dwg : ℕ
-rows-dwg = 207
+rows-dwg = 216
 
 abbrev pub rows-e57 : ℕ
-rows-e57 = 208
+rows-e57 = 217
 
 abbrev pub rows-eac3 : ℕ
-rows-eac3 = 209
+rows-eac3 = 218
 
 abbrev pub rows-edf : ℕ
-rows-edf = 210
+rows-edf = 219
+
+abbrev pub rows-edid : ℕ
+rows-edid = 220
 
 abbrev pub rows-eet : ℕ
-rows-eet = 211
+rows-eet = 221
 
 abbrev pub rows-egg : ℕ
-rows-egg = 212
+rows-egg = 222
 
 abbrev pub rows-elc : ℕ
-rows-elc = 213
+rows-elc = 223
 
 abbrev pub rows-elf : ℕ
-rows-elf = 214
+rows-elf = 224
 
 abbrev pub rows-elf-so : ℕ
-rows-elf-so = 215
+rows-elf-so = 225
 
 abbrev pub rows-emf : ℕ
-rows-emf = 216
+rows-emf = 226
 
 abbrev pub rows-eot : ℕ
-rows-eot = 217
+rows-eot = 227
 
 abbrev pub rows-eps : ℕ
-rows-eps = 218
+rows-eps = 228
 
 abbrev pub rows-eps-pdf-ps : ℕ
-rows-eps-pdf-ps = 219
+rows-eps-pdf-ps = 229
 
 abbrev pub rows-epub : ℕ
-rows-epub = 220
+rows-epub = 230
 
 abbrev pub rows-escript : ℕ
-rows-escript = 221
+rows-escript = 231
 
 abbrev pub rows-evtx : ℕ
-rows-evtx = 222
+rows-evtx = 232
 
 abbrev pub rows-exe : ℕ
-rows-exe = 223
+rows-exe = 233
 
 abbrev pub rows-exr : ℕ
-rows-exr = 224
+rows-exr = 234
 
 abbrev pub rows-exs : ℕ
-rows-exs = 225
+rows-exs = 235
 
 abbrev pub rows-ext2 : ℕ
-rows-ext2 = 226
+rows-ext2 = 236
+
+abbrev pub rows-f4a : ℕ
+rows-f4a = 237
 
 abbrev pub rows-f4v : ℕ
-rows-f4v = 227
+rows-f4v = 238
 
 abbrev pub rows-fb2 : ℕ
-rows-fb2 = 228
+rows-fb2 = 239
 
 abbrev pub rows-fbx-fbxtext : ℕ
-rows-fbx-fbxtext = 229
+rows-fbx-fbxtext = 240
 
 abbrev pub rows-fbz : ℕ
-rows-fbz = 230
+rows-fbz = 241
 
 abbrev pub rows-fccache : ℕ
-rows-fccache = 231
+rows-fccache = 242
 
 abbrev pub rows-fcstd : ℕ
-rows-fcstd = 232
+rows-fcstd = 243
 
 abbrev pub rows-fdf : ℕ
-rows-fdf = 233
+rows-fdf = 244
 
 abbrev pub rows-fds : ℕ
-rows-fds = 234
+rows-fds = 245
 
 abbrev pub rows-ff : ℕ
-rows-ff = 235
+rows-ff = 246
 
 abbrev pub rows-fig : ℕ
-rows-fig = 236
+rows-fig = 247
 
 abbrev pub rows-fish : ℕ
-rows-fish = 237
+rows-fish = 248
 
 abbrev pub rows-fits : ℕ
-rows-fits = 238
+rows-fits = 249
 
 abbrev pub rows-fl : ℕ
-rows-fl = 239
+rows-fl = 250
 
 abbrev pub rows-flac : ℕ
-rows-flac = 240
+rows-flac = 251
 
 abbrev pub rows-flac-ogg-opus : ℕ
-rows-flac-ogg-opus = 241
+rows-flac-ogg-opus = 252
 
 abbrev pub rows-flatpak : ℕ
-rows-flatpak = 242
+rows-flatpak = 253
 
 abbrev pub rows-flatpakref : ℕ
-rows-flatpakref = 243
+rows-flatpakref = 254
 
 abbrev pub rows-flatpakrepo : ℕ
-rows-flatpakrepo = 244
+rows-flatpakrepo = 255
+
+abbrev pub rows-fli : ℕ
+rows-fli = 256
 
 abbrev pub rows-flif : ℕ
-rows-flif = 245
+rows-flif = 257
 
 abbrev pub rows-flv : ℕ
-rows-flv = 246
+rows-flv = 258
 
 abbrev pub rows-flw : ℕ
-rows-flw = 247
+rows-flw = 259
 
 abbrev pub rows-fm : ℕ
-rows-fm = 248
+rows-fm = 260
 
 abbrev pub rows-fodg : ℕ
-rows-fodg = 249
+rows-fodg = 261
 
 abbrev pub rows-fodp : ℕ
-rows-fodp = 250
+rows-fodp = 262
 
 abbrev pub rows-fods : ℕ
-rows-fods = 251
+rows-fods = 263
 
 abbrev pub rows-fodt : ℕ
-rows-fodt = 252
+rows-fodt = 264
 
 abbrev pub rows-fpx : ℕ
-rows-fpx = 253
+rows-fpx = 265
 
 abbrev pub rows-g64 : ℕ
-rows-g64 = 254
+rows-g64 = 266
+
+abbrev pub rows-gb-gbc : ℕ
+rows-gb-gbc = 267
+
+abbrev pub rows-gba : ℕ
+rows-gba = 268
 
 abbrev pub rows-gbr : ℕ
-rows-gbr = 255
+rows-gbr = 269
 
 abbrev pub rows-gbs : ℕ
-rows-gbs = 256
+rows-gbs = 270
 
 abbrev pub rows-gcda : ℕ
-rows-gcda = 257
+rows-gcda = 271
 
 abbrev pub rows-gcda-gcno : ℕ
-rows-gcda-gcno = 258
+rows-gcda-gcno = 272
 
 abbrev pub rows-gch : ℕ
-rows-gch = 259
+rows-gch = 273
+
+abbrev pub rows-gcm : ℕ
+rows-gcm = 274
 
 abbrev pub rows-gconv : ℕ
-rows-gconv = 260
+rows-gconv = 275
 
 abbrev pub rows-gd2 : ℕ
-rows-gd2 = 261
+rows-gd2 = 276
 
 abbrev pub rows-gdbm : ℕ
-rows-gdbm = 262
+rows-gdbm = 277
 
 abbrev pub rows-gdf : ℕ
-rows-gdf = 263
+rows-gdf = 278
 
 abbrev pub rows-ged : ℕ
-rows-ged = 264
+rows-ged = 279
 
 abbrev pub rows-gem : ℕ
-rows-gem = 265
+rows-gem = 280
 
 abbrev pub rows-gff3 : ℕ
-rows-gff3 = 266
+rows-gff3 = 281
 
 abbrev pub rows-ggr : ℕ
-rows-ggr = 267
+rows-ggr = 282
 
 abbrev pub rows-gguf : ℕ
-rows-gguf = 268
+rows-gguf = 283
 
 abbrev pub rows-gif : ℕ
-rows-gif = 269
+rows-gif = 284
 
 abbrev pub rows-gitbundle : ℕ
-rows-gitbundle = 270
+rows-gitbundle = 285
 
 abbrev pub rows-gitidx : ℕ
-rows-gitidx = 271
+rows-gitidx = 286
 
 abbrev pub rows-gitindex : ℕ
-rows-gitindex = 272
+rows-gitindex = 287
 
 abbrev pub rows-gitpatch : ℕ
-rows-gitpatch = 273
+rows-gitpatch = 288
 
 abbrev pub rows-gjs-js : ℕ
-rows-gjs-js = 274
+rows-gjs-js = 289
 
 abbrev pub rows-glade : ℕ
-rows-glade = 275
+rows-glade = 290
 
 abbrev pub rows-glb : ℕ
-rows-glb = 276
+rows-glb = 291
 
 abbrev pub rows-gml : ℕ
-rows-gml = 277
+rows-gml = 292
 
 abbrev pub rows-gnd : ℕ
-rows-gnd = 278
+rows-gnd = 293
 
 abbrev pub rows-gnucash : ℕ
-rows-gnucash = 279
+rows-gnucash = 294
 
 abbrev pub rows-gnumeric : ℕ
-rows-gnumeric = 280
+rows-gnumeric = 295
 
 abbrev pub rows-gnuplot : ℕ
-rows-gnuplot = 281
+rows-gnuplot = 296
 
 abbrev pub rows-goobj : ℕ
-rows-goobj = 282
+rows-goobj = 297
 
 abbrev pub rows-gpg-gpgold : ℕ
-rows-gpg-gpgold = 283
+rows-gpg-gpgold = 298
 
 abbrev pub rows-gpkg : ℕ
-rows-gpkg = 284
+rows-gpkg = 299
 
 abbrev pub rows-gpl : ℕ
-rows-gpl = 285
+rows-gpl = 300
 
 abbrev pub rows-gpx : ℕ
-rows-gpx = 286
+rows-gpx = 301
 
 abbrev pub rows-grib : ℕ
-rows-grib = 287
+rows-grib = 302
 
 abbrev pub rows-grib-grib2 : ℕ
-rows-grib-grib2 = 288
+rows-grib-grib2 = 303
 
 abbrev pub rows-groovy : ℕ
-rows-groovy = 289
+rows-groovy = 304
 
 abbrev pub rows-grp : ℕ
-rows-grp = 290
+rows-grp = 305
 
 abbrev pub rows-grubkbd : ℕ
-rows-grubkbd = 291
+rows-grubkbd = 306
 
 abbrev pub rows-gschema : ℕ
-rows-gschema = 292
+rows-gschema = 307
 
 abbrev pub rows-gtkbuilder : ℕ
-rows-gtkbuilder = 293
+rows-gtkbuilder = 308
 
 abbrev pub rows-gtp : ℕ
-rows-gtp = 294
+rows-gtp = 309
 
 abbrev pub rows-gvdb : ℕ
-rows-gvdb = 295
+rows-gvdb = 310
 
 abbrev pub rows-gx : ℕ
-rows-gx = 296
+rows-gx = 311
 
 abbrev pub rows-gz : ℕ
-rows-gz = 297
+rows-gz = 312
 
 abbrev pub rows-gz-html-txt-xhtml-xml : ℕ
-rows-gz-html-txt-xhtml-xml = 298
+rows-gz-html-txt-xhtml-xml = 313
 
 abbrev pub rows-gz-kspcrypt-zip : ℕ
-rows-gz-kspcrypt-zip = 299
+rows-gz-kspcrypt-zip = 314
 
 abbrev pub rows-gz-kwdcrypt-zip : ℕ
-rows-gz-kwdcrypt-zip = 300
+rows-gz-kwdcrypt-zip = 315
 
 abbrev pub rows-gz-sqlite-xml : ℕ
-rows-gz-sqlite-xml = 301
+rows-gz-sqlite-xml = 316
 
 abbrev pub rows-gz-txt-xml : ℕ
-rows-gz-txt-xml = 302
+rows-gz-txt-xml = 317
 
 abbrev pub rows-gz-xml : ℕ
-rows-gz-xml = 303
+rows-gz-xml = 318
 
 abbrev pub rows-gz-zip : ℕ
-rows-gz-zip = 304
+rows-gz-zip = 319
 
 abbrev pub rows-gz-zst : ℕ
-rows-gz-zst = 305
+rows-gz-zst = 320
+
+abbrev pub rows-h264 : ℕ
+rows-h264 = 321
+
+abbrev pub rows-h265 : ℕ
+rows-h265 = 322
 
 abbrev pub rows-hdd : ℕ
-rows-hdd = 306
+rows-hdd = 323
 
 abbrev pub rows-hdf4 : ℕ
-rows-hdf4 = 307
+rows-hdf4 = 324
 
 abbrev pub rows-hdf5 : ℕ
-rows-hdf5 = 308
+rows-hdf5 = 325
 
 abbrev pub rows-hdr : ℕ
-rows-hdr = 309
+rows-hdr = 326
 
 abbrev pub rows-hdt : ℕ
-rows-hdt = 310
+rows-hdt = 327
 
 abbrev pub rows-heic : ℕ
-rows-heic = 311
+rows-heic = 328
 
 abbrev pub rows-heics : ℕ
-rows-heics = 312
+rows-heics = 329
 
 abbrev pub rows-heics-heif : ℕ
-rows-heics-heif = 313
+rows-heics-heif = 330
 
 abbrev pub rows-heif : ℕ
-rows-heif = 314
+rows-heif = 331
+
+abbrev pub rows-heifs : ℕ
+rows-heifs = 332
 
 abbrev pub rows-hfe : ℕ
-rows-hfe = 315
+rows-hfe = 333
 
 abbrev pub rows-hgbundle : ℕ
-rows-hgbundle = 316
+rows-hgbundle = 334
+
+abbrev pub rows-hi : ℕ
+rows-hi = 335
 
 abbrev pub rows-hlp : ℕ
-rows-hlp = 317
+rows-hlp = 336
 
 abbrev pub rows-hprof : ℕ
-rows-hprof = 318
+rows-hprof = 337
 
 abbrev pub rows-hqx : ℕ
-rows-hqx = 319
+rows-hqx = 338
 
 abbrev pub rows-hs : ℕ
-rows-hs = 320
+rows-hs = 339
 
 abbrev pub rows-hsi : ℕ
-rows-hsi = 321
+rows-hsi = 340
 
 abbrev pub rows-html : ℕ
-rows-html = 322
+rows-html = 341
 
 abbrev pub rows-html-json-php-svg-txt-xhtml-xml : ℕ
-rows-html-json-php-svg-txt-xhtml-xml = 323
+rows-html-json-php-svg-txt-xhtml-xml = 342
 
 abbrev pub rows-html-rss-txt-xml : ℕ
-rows-html-rss-txt-xml = 324
+rows-html-rss-txt-xml = 343
 
 abbrev pub rows-html-sh-svg-txt-xhtml-xml : ℕ
-rows-html-sh-svg-txt-xhtml-xml = 325
+rows-html-sh-svg-txt-xhtml-xml = 344
 
 abbrev pub rows-html-txt : ℕ
-rows-html-txt = 326
+rows-html-txt = 345
 
 abbrev pub rows-html-txt-xhtml-xml : ℕ
-rows-html-txt-xhtml-xml = 327
+rows-html-txt-xhtml-xml = 346
 
 abbrev pub rows-html-txt-xml : ℕ
-rows-html-txt-xml = 328
+rows-html-txt-xml = 347
 
 abbrev pub rows-http : ℕ
-rows-http = 329
+rows-http = 348
 
 abbrev pub rows-hwp : ℕ
-rows-hwp = 330
+rows-hwp = 349
 
 abbrev pub rows-iaarc : ℕ
-rows-iaarc = 331
+rows-iaarc = 350
 
 abbrev pub rows-icc : ℕ
-rows-icc = 332
+rows-icc = 351
 
 abbrev pub rows-icns : ℕ
-rows-icns = 333
+rows-icns = 352
 
 abbrev pub rows-ico : ℕ
-rows-ico = 334
+rows-ico = 353
 
 abbrev pub rows-ics : ℕ
-rows-ics = 335
+rows-ics = 354
+
+abbrev pub rows-icures : ℕ
+rows-icures = 355
 
 abbrev pub rows-iff : ℕ
-rows-iff = 336
+rows-iff = 356
 
 abbrev pub rows-ifo : ℕ
-rows-ifo = 337
+rows-ifo = 357
+
+abbrev pub rows-igs : ℕ
+rows-igs = 358
 
 abbrev pub rows-ilbm : ℕ
-rows-ilbm = 338
+rows-ilbm = 359
 
 abbrev pub rows-imy : ℕ
-rows-imy = 339
+rows-imy = 360
 
 abbrev pub rows-indd : ℕ
-rows-indd = 340
+rows-indd = 361
 
 abbrev pub rows-info : ℕ
-rows-info = 341
+rows-info = 362
 
 abbrev pub rows-innolog : ℕ
-rows-innolog = 342
+rows-innolog = 363
 
 abbrev pub rows-ips : ℕ
-rows-ips = 343
+rows-ips = 364
+
+abbrev pub rows-ircam : ℕ
+rows-ircam = 365
 
 abbrev pub rows-it : ℕ
-rows-it = 344
+rows-it = 366
 
 abbrev pub rows-it87 : ℕ
-rows-it87 = 345
+rows-it87 = 367
 
 abbrev pub rows-itc : ℕ
-rows-itc = 346
+rows-itc = 368
 
 abbrev pub rows-ivf : ℕ
-rows-ivf = 347
+rows-ivf = 369
 
 abbrev pub rows-j2c : ℕ
-rows-j2c = 348
+rows-j2c = 370
 
 abbrev pub rows-jad : ℕ
-rows-jad = 349
+rows-jad = 371
 
 abbrev pub rows-jar : ℕ
-rows-jar = 350
+rows-jar = 372
 
 abbrev pub rows-jar-zip : ℕ
-rows-jar-zip = 351
+rows-jar-zip = 373
 
 abbrev pub rows-jarmf : ℕ
-rows-jarmf = 352
+rows-jarmf = 374
 
 abbrev pub rows-jbig2 : ℕ
-rows-jbig2 = 353
+rows-jbig2 = 375
 
 abbrev pub rows-jceks : ℕ
-rows-jceks = 354
+rows-jceks = 376
 
 abbrev pub rows-jffs2 : ℕ
-rows-jffs2 = 355
+rows-jffs2 = 377
 
 abbrev pub rows-jfr : ℕ
-rows-jfr = 356
+rows-jfr = 378
 
 abbrev pub rows-jimage : ℕ
-rows-jimage = 357
+rows-jimage = 379
 
 abbrev pub rows-jks : ℕ
-rows-jks = 358
+rows-jks = 380
 
 abbrev pub rows-jl : ℕ
-rows-jl = 359
+rows-jl = 381
 
 abbrev pub rows-jls : ℕ
-rows-jls = 360
+rows-jls = 382
 
 abbrev pub rows-jmod : ℕ
-rows-jmod = 361
+rows-jmod = 383
 
 abbrev pub rows-jng : ℕ
-rows-jng = 362
+rows-jng = 384
 
 abbrev pub rows-jnlp : ℕ
-rows-jnlp = 363
+rows-jnlp = 385
 
 abbrev pub rows-journal : ℕ
-rows-journal = 364
+rows-journal = 386
 
 abbrev pub rows-jp2 : ℕ
-rows-jp2 = 365
+rows-jp2 = 387
 
 abbrev pub rows-jpg : ℕ
-rows-jpg = 366
+rows-jpg = 388
 
 abbrev pub rows-jph : ℕ
-rows-jph = 367
+rows-jph = 389
 
 abbrev pub rows-jph-jpm-jpx-mj2 : ℕ
-rows-jph-jpm-jpx-mj2 = 368
+rows-jph-jpm-jpx-mj2 = 390
 
 abbrev pub rows-jpm : ℕ
-rows-jpm = 369
+rows-jpm = 391
 
 abbrev pub rows-jpx : ℕ
-rows-jpx = 370
+rows-jpx = 392
 
 abbrev pub rows-json : ℕ
-rows-json = 371
+rows-json = 393
 
 abbrev pub rows-json-ndjson-txt : ℕ
-rows-json-ndjson-txt = 372
+rows-json-ndjson-txt = 394
 
 abbrev pub rows-json-plist-txt-xml : ℕ
-rows-json-plist-txt-xml = 373
+rows-json-plist-txt-xml = 395
 
 abbrev pub rows-json-sh-txt : ℕ
-rows-json-sh-txt = 374
+rows-json-sh-txt = 396
 
 abbrev pub rows-json-txt : ℕ
-rows-json-txt = 375
+rows-json-txt = 397
 
 abbrev pub rows-jsonlz4 : ℕ
-rows-jsonlz4 = 376
+rows-jsonlz4 = 398
 
 abbrev pub rows-jxl : ℕ
-rows-jxl = 377
+rows-jxl = 399
 
 abbrev pub rows-jxr : ℕ
-rows-jxr = 378
+rows-jxr = 400
 
 abbrev pub rows-karbon : ℕ
-rows-karbon = 379
+rows-karbon = 401
 
 abbrev pub rows-kate-oga-ogm-ogv-ogx-opus-spx-vorbis : ℕ
-rows-kate-oga-ogm-ogv-ogx-opus-spx-vorbis = 380
+rows-kate-oga-ogm-ogv-ogx-opus-spx-vorbis = 402
+
+abbrev pub rows-kbx : ℕ
+rows-kbx = 403
 
 abbrev pub rows-kdb : ℕ
-rows-kdb = 381
+rows-kdb = 404
 
 abbrev pub rows-kdbx : ℕ
-rows-kdbx = 382
+rows-kdbx = 405
 
 abbrev pub rows-kdump : ℕ
-rows-kdump = 383
+rows-kdump = 406
 
 abbrev pub rows-kfo : ℕ
-rows-kfo = 384
+rows-kfo = 407
 
 abbrev pub rows-kil : ℕ
-rows-kil = 385
+rows-kil = 408
 
 abbrev pub rows-kml : ℕ
-rows-kml = 386
+rows-kml = 409
 
 abbrev pub rows-kmz : ℕ
-rows-kmz = 387
+rows-kmz = 410
 
 abbrev pub rows-kon : ℕ
-rows-kon = 388
+rows-kon = 411
 
 abbrev pub rows-kpr : ℕ
-rows-kpr = 389
+rows-kpr = 412
 
 abbrev pub rows-kra : ℕ
-rows-kra = 390
+rows-kra = 413
 
 abbrev pub rows-ksp : ℕ
-rows-ksp = 391
+rows-ksp = 414
 
 abbrev pub rows-ktx : ℕ
-rows-ktx = 392
+rows-ktx = 415
 
 abbrev pub rows-ktx2 : ℕ
-rows-ktx2 = 393
+rows-ktx2 = 416
 
 abbrev pub rows-kwaj : ℕ
-rows-kwaj = 394
+rows-kwaj = 417
 
 abbrev pub rows-kwd : ℕ
-rows-kwd = 395
+rows-kwd = 418
 
 abbrev pub rows-las : ℕ
-rows-las = 396
+rows-las = 419
 
 abbrev pub rows-laz : ℕ
-rows-laz = 397
+rows-laz = 420
 
 abbrev pub rows-ldcache : ℕ
-rows-ldcache = 398
+rows-ldcache = 421
 
 abbrev pub rows-ldml : ℕ
-rows-ldml = 399
+rows-ldml = 422
 
 abbrev pub rows-lfp : ℕ
-rows-lfp = 400
+rows-lfp = 423
 
 abbrev pub rows-lingts : ℕ
-rows-lingts = 401
+rows-lingts = 424
 
 abbrev pub rows-lisp : ℕ
-rows-lisp = 402
+rows-lisp = 425
 
 abbrev pub rows-lit : ℕ
-rows-lit = 403
+rows-lit = 426
 
 abbrev pub rows-ll : ℕ
-rows-ll = 404
+rows-ll = 427
+
+abbrev pub rows-lmdb : ℕ
+rows-lmdb = 428
 
 abbrev pub rows-lnk : ℕ
-rows-lnk = 405
+rows-lnk = 429
 
 abbrev pub rows-lnx : ℕ
-rows-lnx = 406
+rows-lnx = 430
 
 abbrev pub rows-locarch : ℕ
-rows-locarch = 407
+rows-locarch = 431
+
+abbrev pub rows-locate : ℕ
+rows-locate = 432
 
 abbrev pub rows-lrf : ℕ
-rows-lrf = 408
+rows-lrf = 433
 
 abbrev pub rows-lrz : ℕ
-rows-lrz = 409
+rows-lrz = 434
 
 abbrev pub rows-lss : ℕ
-rows-lss = 410
+rows-lss = 435
 
 abbrev pub rows-lua : ℕ
-rows-lua = 411
+rows-lua = 436
 
 abbrev pub rows-lua-sh-txt : ℕ
-rows-lua-sh-txt = 412
+rows-lua-sh-txt = 437
 
 abbrev pub rows-luac : ℕ
-rows-luac = 413
+rows-luac = 438
 
 abbrev pub rows-luks : ℕ
-rows-luks = 414
+rows-luks = 439
 
 abbrev pub rows-lwo : ℕ
-rows-lwo = 415
+rows-lwo = 440
 
 abbrev pub rows-lwp : ℕ
-rows-lwp = 416
+rows-lwp = 441
 
 abbrev pub rows-lyx : ℕ
-rows-lyx = 417
+rows-lyx = 442
 
 abbrev pub rows-lz : ℕ
-rows-lz = 418
+rows-lz = 443
 
 abbrev pub rows-lz4 : ℕ
-rows-lz4 = 419
+rows-lz4 = 444
 
 abbrev pub rows-lzfse : ℕ
-rows-lzfse = 420
+rows-lzfse = 445
 
 abbrev pub rows-lzh : ℕ
-rows-lzh = 421
+rows-lzh = 446
 
 abbrev pub rows-lzma : ℕ
-rows-lzma = 422
+rows-lzma = 447
 
 abbrev pub rows-lzo : ℕ
-rows-lzo = 423
+rows-lzo = 448
 
 abbrev pub rows-m : ℕ
-rows-m = 424
+rows-m = 449
 
 abbrev pub rows-m3u8 : ℕ
-rows-m3u8 = 425
+rows-m3u8 = 450
 
 abbrev pub rows-m4 : ℕ
-rows-m4 = 426
+rows-m4 = 451
 
 abbrev pub rows-m4a : ℕ
-rows-m4a = 427
+rows-m4a = 452
 
 abbrev pub rows-m4a-mp4 : ℕ
-rows-m4a-mp4 = 428
+rows-m4a-mp4 = 453
 
 abbrev pub rows-m4b : ℕ
-rows-m4b = 429
+rows-m4b = 454
 
 abbrev pub rows-m4b-m4v-mp4 : ℕ
-rows-m4b-m4v-mp4 = 430
+rows-m4b-m4v-mp4 = 455
 
 abbrev pub rows-m4u : ℕ
-rows-m4u = 431
+rows-m4u = 456
 
 abbrev pub rows-m4v : ℕ
-rows-m4v = 432
+rows-m4v = 457
+
+abbrev pub rows-macbin : ℕ
+rows-macbin = 458
 
 abbrev pub rows-mach : ℕ
-rows-mach = 433
+rows-mach = 459
 
 abbrev pub rows-mat : ℕ
-rows-mat = 434
+rows-mat = 460
 
 abbrev pub rows-maud : ℕ
-rows-maud = 435
+rows-maud = 461
 
 abbrev pub rows-mbm : ℕ
-rows-mbm = 436
+rows-mbm = 462
 
 abbrev pub rows-mbtiles : ℕ
-rows-mbtiles = 437
+rows-mbtiles = 463
+
+abbrev pub rows-md : ℕ
+rows-md = 464
 
 abbrev pub rows-mdb : ℕ
-rows-mdb = 438
+rows-mdb = 465
 
 abbrev pub rows-mdi : ℕ
-rows-mdi = 439
+rows-mdi = 466
 
 abbrev pub rows-mdl : ℕ
-rows-mdl = 440
+rows-mdl = 467
 
 abbrev pub rows-med : ℕ
-rows-med = 441
+rows-med = 468
 
 abbrev pub rows-memdmp : ℕ
-rows-memdmp = 442
+rows-memdmp = 469
 
 abbrev pub rows-meta4 : ℕ
-rows-meta4 = 443
+rows-meta4 = 470
 
 abbrev pub rows-metalink : ℕ
-rows-metalink = 444
+rows-metalink = 471
 
 abbrev pub rows-mf : ℕ
-rows-mf = 445
+rows-mf = 472
 
 abbrev pub rows-midi : ℕ
-rows-midi = 446
+rows-midi = 473
 
 abbrev pub rows-mids : ℕ
-rows-mids = 447
+rows-mids = 474
 
 abbrev pub rows-mif : ℕ
-rows-mif = 448
+rows-mif = 475
 
 abbrev pub rows-miff : ℕ
-rows-miff = 449
+rows-miff = 476
 
 abbrev pub rows-minisig : ℕ
-rows-minisig = 450
+rows-minisig = 477
 
 abbrev pub rows-mj2 : ℕ
-rows-mj2 = 451
+rows-mj2 = 478
 
 abbrev pub rows-mk : ℕ
-rows-mk = 452
+rows-mk = 479
 
 abbrev pub rows-mkv : ℕ
-rows-mkv = 453
+rows-mkv = 480
 
 abbrev pub rows-ml : ℕ
-rows-ml = 454
+rows-ml = 481
+
+abbrev pub rows-mlp : ℕ
+rows-mlp = 482
 
 abbrev pub rows-mm : ℕ
-rows-mm = 455
+rows-mm = 483
 
 abbrev pub rows-mmf : ℕ
-rows-mmf = 456
+rows-mmf = 484
 
 abbrev pub rows-mml : ℕ
-rows-mml = 457
+rows-mml = 485
 
 abbrev pub rows-mmm : ℕ
-rows-mmm = 458
+rows-mmm = 486
 
 abbrev pub rows-mng : ℕ
-rows-mng = 459
+rows-mng = 487
 
 abbrev pub rows-mo : ℕ
-rows-mo = 460
+rows-mo = 488
 
 abbrev pub rows-mo3 : ℕ
-rows-mo3 = 461
+rows-mo3 = 489
 
 abbrev pub rows-mobi : ℕ
-rows-mobi = 462
+rows-mobi = 490
+
+abbrev pub rows-mod : ℕ
+rows-mod = 491
 
 abbrev pub rows-model-step : ℕ
-rows-model-step = 463
+rows-model-step = 492
 
 abbrev pub rows-mol2 : ℕ
-rows-mol2 = 464
+rows-mol2 = 493
 
 abbrev pub rows-mov : ℕ
-rows-mov = 465
+rows-mov = 494
 
 abbrev pub rows-movie : ℕ
-rows-movie = 466
+rows-movie = 495
 
 abbrev pub rows-mp3 : ℕ
-rows-mp3 = 467
+rows-mp3 = 496
 
 abbrev pub rows-mp3-mp3old : ℕ
-rows-mp3-mp3old = 468
+rows-mp3-mp3old = 497
 
 abbrev pub rows-mp4 : ℕ
-rows-mp4 = 469
+rows-mp4 = 498
 
 abbrev pub rows-mpc : ℕ
-rows-mpc = 470
+rows-mpc = 499
 
 abbrev pub rows-mpd : ℕ
-rows-mpd = 471
+rows-mpd = 500
 
 abbrev pub rows-mpg : ℕ
-rows-mpg = 472
+rows-mpg = 501
 
 abbrev pub rows-mpp : ℕ
-rows-mpp = 473
+rows-mpp = 502
 
 abbrev pub rows-mpq : ℕ
-rows-mpq = 474
+rows-mpq = 503
+
+abbrev pub rows-mqv : ℕ
+rows-mqv = 504
+
+abbrev pub rows-mrc : ℕ
+rows-mrc = 505
+
+abbrev pub rows-mrw : ℕ
+rows-mrw = 506
 
 abbrev pub rows-ms3d : ℕ
-rows-ms3d = 475
+rows-ms3d = 507
 
 abbrev pub rows-msa : ℕ
-rows-msa = 476
+rows-msa = 508
 
 abbrev pub rows-msbuild : ℕ
-rows-msbuild = 477
+rows-msbuild = 509
 
 abbrev pub rows-mscx : ℕ
-rows-mscx = 478
+rows-mscx = 510
 
 abbrev pub rows-mscz : ℕ
-rows-mscz = 479
+rows-mscz = 511
 
 abbrev pub rows-msg : ℕ
-rows-msg = 480
+rows-msg = 512
 
 abbrev pub rows-mtm : ℕ
-rows-mtm = 481
+rows-mtm = 513
 
 abbrev pub rows-mtn : ℕ
-rows-mtn = 482
+rows-mtn = 514
 
 abbrev pub rows-mup : ℕ
-rows-mup = 483
+rows-mup = 515
 
 abbrev pub rows-musicxml : ℕ
-rows-musicxml = 484
+rows-musicxml = 516
 
 abbrev pub rows-mve : ℕ
-rows-mve = 485
+rows-mve = 517
 
 abbrev pub rows-mvg : ℕ
-rows-mvg = 486
+rows-mvg = 518
 
 abbrev pub rows-mxf : ℕ
-rows-mxf = 487
+rows-mxf = 519
 
 abbrev pub rows-myi : ℕ
-rows-myi = 488
+rows-myi = 520
 
 abbrev pub rows-n64 : ℕ
-rows-n64 = 489
+rows-n64 = 521
 
 abbrev pub rows-nbold : ℕ
-rows-nbold = 490
+rows-nbold = 522
 
 abbrev pub rows-nc : ℕ
-rows-nc = 491
+rows-nc = 523
+
+abbrev pub rows-ncch : ℕ
+rows-ncch = 524
 
 abbrev pub rows-ncx : ℕ
-rows-ncx = 492
+rows-ncx = 525
 
 abbrev pub rows-ndjson : ℕ
-rows-ndjson = 493
+rows-ndjson = 526
+
+abbrev pub rows-nds : ℕ
+rows-nds = 527
 
 abbrev pub rows-neko : ℕ
-rows-neko = 494
+rows-neko = 528
 
 abbrev pub rows-nes : ℕ
-rows-nes = 495
+rows-nes = 529
 
 abbrev pub rows-netmon : ℕ
-rows-netmon = 496
+rows-netmon = 530
 
 abbrev pub rows-nex : ℕ
-rows-nex = 497
+rows-nex = 531
 
 abbrev pub rows-nft : ℕ
-rows-nft = 498
+rows-nft = 532
+
+abbrev pub rows-ngc : ℕ
+rows-ngc = 533
+
+abbrev pub rows-ngp : ℕ
+rows-ngp = 534
 
 abbrev pub rows-niff : ℕ
-rows-niff = 499
+rows-niff = 535
+
+abbrev pub rows-nii : ℕ
+rows-nii = 536
 
 abbrev pub rows-npy : ℕ
-rows-npy = 500
+rows-npy = 537
 
 abbrev pub rows-nsc : ℕ
-rows-nsc = 501
+rows-nsc = 538
 
 abbrev pub rows-nsf : ℕ
-rows-nsf = 502
+rows-nsf = 539
 
 abbrev pub rows-nso : ℕ
-rows-nso = 503
+rows-nso = 540
 
 abbrev pub rows-nsv : ℕ
-rows-nsv = 504
+rows-nsv = 541
 
 abbrev pub rows-nut : ℕ
-rows-nut = 505
+rows-nut = 542
 
 abbrev pub rows-nzb : ℕ
-rows-nzb = 506
+rows-nzb = 543
 
 abbrev pub rows-o : ℕ
-rows-o = 507
+rows-o = 544
 
 abbrev pub rows-obj : ℕ
-rows-obj = 508
+rows-obj = 545
 
 abbrev pub rows-odb : ℕ
-rows-odb = 509
+rows-odb = 546
 
 abbrev pub rows-odc : ℕ
-rows-odc = 510
+rows-odc = 547
 
 abbrev pub rows-odf : ℕ
-rows-odf = 511
+rows-odf = 548
 
 abbrev pub rows-odg : ℕ
-rows-odg = 512
+rows-odg = 549
 
 abbrev pub rows-odg-zip : ℕ
-rows-odg-zip = 513
+rows-odg-zip = 550
 
 abbrev pub rows-odi : ℕ
-rows-odi = 514
+rows-odi = 551
 
 abbrev pub rows-odm : ℕ
-rows-odm = 515
+rows-odm = 552
 
 abbrev pub rows-odm-ott : ℕ
-rows-odm-ott = 516
+rows-odm-ott = 553
 
 abbrev pub rows-odp : ℕ
-rows-odp = 517
+rows-odp = 554
 
 abbrev pub rows-odp-zip : ℕ
-rows-odp-zip = 518
+rows-odp-zip = 555
 
 abbrev pub rows-ods : ℕ
-rows-ods = 519
+rows-ods = 556
 
 abbrev pub rows-ods-zip : ℕ
-rows-ods-zip = 520
+rows-ods-zip = 557
 
 abbrev pub rows-odt : ℕ
-rows-odt = 521
+rows-odt = 558
 
 abbrev pub rows-odt-zip : ℕ
-rows-odt-zip = 522
+rows-odt-zip = 559
 
 abbrev pub rows-oga : ℕ
-rows-oga = 523
+rows-oga = 560
 
 abbrev pub rows-ogg : ℕ
-rows-ogg = 524
+rows-ogg = 561
 
 abbrev pub rows-ogg-ogv : ℕ
-rows-ogg-ogv = 525
+rows-ogg-ogv = 562
 
 abbrev pub rows-ogm : ℕ
-rows-ogm = 526
+rows-ogm = 563
 
 abbrev pub rows-ogv : ℕ
-rows-ogv = 527
+rows-ogv = 564
 
 abbrev pub rows-okt : ℕ
-rows-okt = 528
+rows-okt = 565
+
+abbrev pub rows-omni : ℕ
+rows-omni = 566
 
 abbrev pub rows-openssh : ℕ
-rows-openssh = 529
+rows-openssh = 567
 
 abbrev pub rows-openssl : ℕ
-rows-openssl = 530
+rows-openssl = 568
 
 abbrev pub rows-opf : ℕ
-rows-opf = 531
+rows-opf = 569
 
 abbrev pub rows-opml : ℕ
-rows-opml = 532
+rows-opml = 570
 
 abbrev pub rows-opus : ℕ
-rows-opus = 533
+rows-opus = 571
 
 abbrev pub rows-ora : ℕ
-rows-ora = 534
+rows-ora = 572
 
 abbrev pub rows-orc : ℕ
-rows-orc = 535
+rows-orc = 573
 
 abbrev pub rows-orf : ℕ
-rows-orf = 536
+rows-orf = 574
 
 abbrev pub rows-os2hlp : ℕ
-rows-os2hlp = 537
+rows-os2hlp = 575
 
 abbrev pub rows-os2inf : ℕ
-rows-os2inf = 538
+rows-os2inf = 576
 
 abbrev pub rows-os2msg : ℕ
-rows-os2msg = 539
+rows-os2msg = 577
 
 abbrev pub rows-osm : ℕ
-rows-osm = 540
+rows-osm = 578
 
 abbrev pub rows-otf : ℕ
-rows-otf = 541
+rows-otf = 579
 
 abbrev pub rows-otg : ℕ
-rows-otg = 542
+rows-otg = 580
 
 abbrev pub rows-otp : ℕ
-rows-otp = 543
+rows-otp = 581
 
 abbrev pub rows-ots : ℕ
-rows-ots = 544
+rows-ots = 582
 
 abbrev pub rows-ott : ℕ
-rows-ott = 545
+rows-ott = 583
 
 abbrev pub rows-owx : ℕ
-rows-owx = 546
+rows-owx = 584
 
 abbrev pub rows-p12 : ℕ
-rows-p12 = 547
+rows-p12 = 585
 
 abbrev pub rows-p7b-p7c : ℕ
-rows-p7b-p7c = 548
+rows-p7b-p7c = 586
 
 abbrev pub rows-p8 : ℕ
-rows-p8 = 549
+rows-p8 = 587
 
 abbrev pub rows-pack : ℕ
-rows-pack = 550
+rows-pack = 588
 
 abbrev pub rows-pack200 : ℕ
-rows-pack200 = 551
+rows-pack200 = 589
 
 abbrev pub rows-paf : ℕ
-rows-paf = 552
+rows-paf = 590
 
 abbrev pub rows-pak : ℕ
-rows-pak = 553
+rows-pak = 591
 
 abbrev pub rows-pam : ℕ
-rows-pam = 554
+rows-pam = 592
 
 abbrev pub rows-par : ℕ
-rows-par = 555
+rows-par = 593
 
 abbrev pub rows-par2 : ℕ
-rows-par2 = 556
+rows-par2 = 594
 
 abbrev pub rows-parquet : ℕ
-rows-parquet = 557
+rows-parquet = 595
 
 abbrev pub rows-pat : ℕ
-rows-pat = 558
+rows-pat = 596
 
 abbrev pub rows-pcap : ℕ
-rows-pcap = 559
+rows-pcap = 597
 
 abbrev pub rows-pcapng : ℕ
-rows-pcapng = 560
+rows-pcapng = 598
 
 abbrev pub rows-pcf : ℕ
-rows-pcf = 561
+rows-pcf = 599
 
 abbrev pub rows-pch : ℕ
-rows-pch = 562
+rows-pch = 600
 
 abbrev pub rows-pcl : ℕ
-rows-pcl = 563
+rows-pcl = 601
 
 abbrev pub rows-pcx : ℕ
-rows-pcx = 564
+rows-pcx = 602
 
 abbrev pub rows-pdb : ℕ
-rows-pdb = 565
+rows-pdb = 603
 
 abbrev pub rows-pdbmol : ℕ
-rows-pdbmol = 566
+rows-pdbmol = 604
 
 abbrev pub rows-pdf : ℕ
-rows-pdf = 567
+rows-pdf = 605
 
 abbrev pub rows-pdn : ℕ
-rows-pdn = 568
+rows-pdn = 606
 
 abbrev pub rows-pef : ℕ
-rows-pef = 569
+rows-pef = 607
 
 abbrev pub rows-pem : ℕ
-rows-pem = 570
+rows-pem = 608
 
 abbrev pub rows-pf2 : ℕ
-rows-pf2 = 571
+rows-pf2 = 609
 
 abbrev pub rows-pfa-pfb : ℕ
-rows-pfa-pfb = 572
+rows-pfa-pfb = 610
 
 abbrev pub rows-pfb : ℕ
-rows-pfb = 573
+rows-pfb = 611
 
 abbrev pub rows-pfmap : ℕ
-rows-pfmap = 574
+rows-pfmap = 612
 
 abbrev pub rows-pgdump : ℕ
-rows-pgdump = 575
+rows-pgdump = 613
 
 abbrev pub rows-pgf : ℕ
-rows-pgf = 576
+rows-pgf = 614
 
 abbrev pub rows-pgn : ℕ
-rows-pgn = 577
+rows-pgn = 615
 
 abbrev pub rows-pgp : ℕ
-rows-pgp = 578
+rows-pgp = 616
 
 abbrev pub rows-pgp-pgpmsg : ℕ
-rows-pgp-pgpmsg = 579
+rows-pgp-pgpmsg = 617
 
 abbrev pub rows-pgpsig-sig : ℕ
-rows-pgpsig-sig = 580
+rows-pgpsig-sig = 618
 
 abbrev pub rows-php : ℕ
-rows-php = 581
+rows-php = 619
 
 abbrev pub rows-php-svg-txt-xhtml-xml : ℕ
-rows-php-svg-txt-xhtml-xml = 582
+rows-php-svg-txt-xhtml-xml = 620
 
 abbrev pub rows-pic : ℕ
-rows-pic = 583
+rows-pic = 621
+
+abbrev pub rows-pict : ℕ
+rows-pict = 622
 
 abbrev pub rows-pjl : ℕ
-rows-pjl = 584
+rows-pjl = 623
 
 abbrev pub rows-pkgstream : ℕ
-rows-pkgstream = 585
+rows-pkgstream = 624
 
 abbrev pub rows-pkl : ℕ
-rows-pkl = 586
+rows-pkl = 625
 
 abbrev pub rows-pkpass : ℕ
-rows-pkpass = 587
+rows-pkpass = 626
 
 abbrev pub rows-pl : ℕ
-rows-pl = 588
+rows-pl = 627
+
+abbrev pub rows-pla : ℕ
+rows-pla = 628
 
 abbrev pub rows-plist : ℕ
-rows-plist = 589
+rows-plist = 629
 
 abbrev pub rows-plist-txt-xml : ℕ
-rows-plist-txt-xml = 590
+rows-plist-txt-xml = 630
 
 abbrev pub rows-pls : ℕ
-rows-pls = 591
+rows-pls = 631
 
 abbrev pub rows-ply : ℕ
-rows-ply = 592
+rows-ply = 632
 
 abbrev pub rows-png : ℕ
-rows-png = 593
+rows-png = 633
 
 abbrev pub rows-pnm : ℕ
-rows-pnm = 594
+rows-pnm = 634
 
 abbrev pub rows-pom : ℕ
-rows-pom = 595
+rows-pom = 635
+
+abbrev pub rows-por : ℕ
+rows-por = 636
 
 abbrev pub rows-ppd : ℕ
-rows-ppd = 596
+rows-ppd = 637
 
 abbrev pub rows-ppf : ℕ
-rows-ppf = 597
+rows-ppf = 638
 
 abbrev pub rows-ppk : ℕ
-rows-ppk = 598
+rows-ppk = 639
 
 abbrev pub rows-ppt : ℕ
-rows-ppt = 599
+rows-ppt = 640
 
 abbrev pub rows-pptm : ℕ
-rows-pptm = 600
+rows-pptm = 641
 
 abbrev pub rows-pptx : ℕ
-rows-pptx = 601
+rows-pptx = 642
 
 abbrev pub rows-ppu : ℕ
-rows-ppu = 602
+rows-ppu = 643
 
 abbrev pub rows-profdata : ℕ
-rows-profdata = 603
+rows-profdata = 644
 
 abbrev pub rows-profraw : ℕ
-rows-profraw = 604
+rows-profraw = 645
 
 abbrev pub rows-ps : ℕ
-rows-ps = 605
+rows-ps = 646
 
 abbrev pub rows-ps-sh-txt : ℕ
-rows-ps-sh-txt = 606
+rows-ps-sh-txt = 647
 
 abbrev pub rows-ps-txt : ℕ
-rows-ps-txt = 607
+rows-ps-txt = 648
 
 abbrev pub rows-ps1 : ℕ
-rows-ps1 = 608
+rows-ps1 = 649
 
 abbrev pub rows-psd : ℕ
-rows-psd = 609
+rows-psd = 650
 
 abbrev pub rows-psf : ℕ
-rows-psf = 610
+rows-psf = 651
 
 abbrev pub rows-psf1-psf2 : ℕ
-rows-psf1-psf2 = 611
+rows-psf1-psf2 = 652
 
 abbrev pub rows-psp : ℕ
-rows-psp = 612
+rows-psp = 653
 
 abbrev pub rows-pst : ℕ
-rows-pst = 613
+rows-pst = 654
 
 abbrev pub rows-psw : ℕ
-rows-psw = 614
+rows-psw = 655
 
 abbrev pub rows-psx : ℕ
-rows-psx = 615
+rows-psx = 656
+
+abbrev pub rows-ptm : ℕ
+rows-ptm = 657
 
 abbrev pub rows-pub : ℕ
-rows-pub = 616
+rows-pub = 658
 
 abbrev pub rows-puml : ℕ
-rows-puml = 617
+rows-puml = 659
 
 abbrev pub rows-pvf : ℕ
-rows-pvf = 618
+rows-pvf = 660
 
 abbrev pub rows-pvr : ℕ
-rows-pvr = 619
+rows-pvr = 661
 
 abbrev pub rows-pwg : ℕ
-rows-pwg = 620
+rows-pwg = 662
 
 abbrev pub rows-py : ℕ
-rows-py = 621
+rows-py = 663
 
 abbrev pub rows-py-sh-zip : ℕ
-rows-py-sh-zip = 622
+rows-py-sh-zip = 664
 
 abbrev pub rows-pyc : ℕ
-rows-pyc = 623
+rows-pyc = 665
 
 abbrev pub rows-pysu : ℕ
-rows-pysu = 624
+rows-pysu = 666
 
 abbrev pub rows-qcow2 : ℕ
-rows-qcow2 = 625
+rows-qcow2 = 667
 
 abbrev pub rows-qed : ℕ
-rows-qed = 626
+rows-qed = 668
 
 abbrev pub rows-qgz : ℕ
-rows-qgz = 627
+rows-qgz = 669
 
 abbrev pub rows-qml : ℕ
-rows-qml = 628
+rows-qml = 670
 
 abbrev pub rows-qoi : ℕ
-rows-qoi = 629
+rows-qoi = 671
 
 abbrev pub rows-qp : ℕ
-rows-qp = 630
+rows-qp = 672
 
 abbrev pub rows-qrc : ℕ
-rows-qrc = 631
+rows-qrc = 673
 
 abbrev pub rows-qti : ℕ
-rows-qti = 632
+rows-qti = 674
+
+abbrev pub rows-qtif : ℕ
+rows-qtif = 675
 
 abbrev pub rows-qtl : ℕ
-rows-qtl = 633
+rows-qtl = 676
 
 abbrev pub rows-r : ℕ
-rows-r = 634
+rows-r = 677
 
 abbrev pub rows-r3d : ℕ
-rows-r3d = 635
+rows-r3d = 678
 
 abbrev pub rows-ra : ℕ
-rows-ra = 636
+rows-ra = 679
 
 abbrev pub rows-raf : ℕ
-rows-raf = 637
+rows-raf = 680
 
 abbrev pub rows-raku : ℕ
-rows-raku = 638
+rows-raku = 681
 
 abbrev pub rows-raml : ℕ
-rows-raml = 639
+rows-raml = 682
 
 abbrev pub rows-rar : ℕ
-rows-rar = 640
+rows-rar = 683
 
 abbrev pub rows-ras : ℕ
-rows-ras = 641
+rows-ras = 684
 
 abbrev pub rows-rb : ℕ
-rows-rb = 642
+rows-rb = 685
 
 abbrev pub rows-rdata : ℕ
-rows-rdata = 643
+rows-rdata = 686
 
 abbrev pub rows-rdb : ℕ
-rows-rdb = 644
+rows-rdb = 687
 
 abbrev pub rows-rdf : ℕ
-rows-rdf = 645
+rows-rdf = 688
 
 abbrev pub rows-reg : ℕ
-rows-reg = 646
+rows-reg = 689
 
 abbrev pub rows-regf : ℕ
-rows-regf = 647
+rows-regf = 690
+
+abbrev pub rows-res : ℕ
+rows-res = 691
 
 abbrev pub rows-rf64 : ℕ
-rows-rf64 = 648
+rows-rf64 = 692
 
 abbrev pub rows-rifx-wav : ℕ
-rows-rifx-wav = 649
+rows-rifx-wav = 693
 
 abbrev pub rows-rkt : ℕ
-rows-rkt = 650
+rows-rkt = 694
 
 abbrev pub rows-rm : ℕ
-rows-rm = 651
+rows-rm = 695
 
 abbrev pub rows-rmeta : ℕ
-rows-rmeta = 652
+rows-rmeta = 696
 
 abbrev pub rows-rmi : ℕ
-rows-rmi = 653
+rows-rmi = 697
 
 abbrev pub rows-rng : ℕ
-rows-rng = 654
+rows-rng = 698
 
 abbrev pub rows-roff : ℕ
-rows-roff = 655
+rows-roff = 699
 
 abbrev pub rows-romfs : ℕ
-rows-romfs = 656
+rows-romfs = 700
 
 abbrev pub rows-root : ℕ
-rows-root = 657
+rows-root = 701
 
 abbrev pub rows-roq : ℕ
-rows-roq = 658
+rows-roq = 702
 
 abbrev pub rows-rpm : ℕ
-rows-rpm = 659
+rows-rpm = 703
 
 abbrev pub rows-rq : ℕ
-rows-rq = 660
+rows-rq = 704
 
 abbrev pub rows-rrd : ℕ
-rows-rrd = 661
+rows-rrd = 705
 
 abbrev pub rows-rss : ℕ
-rows-rss = 662
+rows-rss = 706
 
 abbrev pub rows-rtf : ℕ
-rows-rtf = 663
+rows-rtf = 707
 
 abbrev pub rows-rvz : ℕ
-rows-rvz = 664
+rows-rvz = 708
 
 abbrev pub rows-rw2 : ℕ
-rows-rw2 = 665
+rows-rw2 = 709
 
 abbrev pub rows-rz : ℕ
-rows-rz = 666
+rows-rz = 710
+
+abbrev pub rows-s3m : ℕ
+rows-s3m = 711
 
 abbrev pub rows-safetensors : ℕ
-rows-safetensors = 667
+rows-safetensors = 712
 
 abbrev pub rows-sam : ℕ
-rows-sam = 668
+rows-sam = 713
 
 abbrev pub rows-sami : ℕ
-rows-sami = 669
+rows-sami = 714
 
 abbrev pub rows-sap : ℕ
-rows-sap = 670
+rows-sap = 715
 
 abbrev pub rows-sar : ℕ
-rows-sar = 671
+rows-sar = 716
 
 abbrev pub rows-sav : ℕ
-rows-sav = 672
+rows-sav = 717
 
 abbrev pub rows-sbml : ℕ
-rows-sbml = 673
+rows-sbml = 718
 
 abbrev pub rows-scala : ℕ
-rows-scala = 674
+rows-scala = 719
 
 abbrev pub rows-scc : ℕ
-rows-scc = 675
+rows-scc = 720
 
 abbrev pub rows-scf : ℕ
-rows-scf = 676
+rows-scf = 721
 
 abbrev pub rows-sch : ℕ
-rows-sch = 677
+rows-sch = 722
 
 abbrev pub rows-scm : ℕ
-rows-scm = 678
+rows-scm = 723
 
 abbrev pub rows-scsyn : ℕ
-rows-scsyn = 679
+rows-scsyn = 724
+
+abbrev pub rows-sdb : ℕ
+rows-sdb = 725
 
 abbrev pub rows-sdi : ℕ
-rows-sdi = 680
+rows-sdi = 726
 
 abbrev pub rows-sdp : ℕ
-rows-sdp = 681
+rows-sdp = 727
 
 abbrev pub rows-sds : ℕ
-rows-sds = 682
+rows-sds = 728
 
 abbrev pub rows-sdw : ℕ
-rows-sdw = 683
+rows-sdw = 729
 
 abbrev pub rows-sed : ℕ
-rows-sed = 684
+rows-sed = 730
 
 abbrev pub rows-sereal : ℕ
-rows-sereal = 685
+rows-sereal = 731
 
 abbrev pub rows-sf2 : ℕ
-rows-sf2 = 686
+rows-sf2 = 732
 
 abbrev pub rows-sfd : ℕ
-rows-sfd = 687
+rows-sfd = 733
 
 abbrev pub rows-sgf : ℕ
-rows-sgf = 688
+rows-sgf = 734
 
 abbrev pub rows-sgi : ℕ
-rows-sgi = 689
+rows-sgi = 735
 
 abbrev pub rows-sh : ℕ
-rows-sh = 690
+rows-sh = 736
 
 abbrev pub rows-sh-txt : ℕ
-rows-sh-txt = 691
+rows-sh-txt = 737
 
 abbrev pub rows-shn : ℕ
-rows-shn = 692
+rows-shn = 738
 
 abbrev pub rows-shp : ℕ
-rows-shp = 693
+rows-shp = 739
 
 abbrev pub rows-shw : ℕ
-rows-shw = 694
+rows-shw = 740
 
 abbrev pub rows-shx : ℕ
-rows-shx = 695
+rows-shx = 741
 
 abbrev pub rows-sid : ℕ
-rows-sid = 696
+rows-sid = 742
 
 abbrev pub rows-sig : ℕ
-rows-sig = 697
+rows-sig = 743
 
 abbrev pub rows-simg : ℕ
-rows-simg = 698
+rows-simg = 744
+
+abbrev pub rows-sis : ℕ
+rows-sis = 745
 
 abbrev pub rows-sisx : ℕ
-rows-sisx = 699
+rows-sisx = 746
 
 abbrev pub rows-sit : ℕ
-rows-sit = 700
+rows-sit = 747
 
 abbrev pub rows-sk : ℕ
-rows-sk = 701
+rows-sk = 748
 
 abbrev pub rows-sla : ℕ
-rows-sla = 702
+rows-sla = 749
 
 abbrev pub rows-slk : ℕ
-rows-slk = 703
+rows-slk = 750
 
 abbrev pub rows-smil : ℕ
-rows-smil = 704
+rows-smil = 751
 
 abbrev pub rows-smk : ℕ
-rows-smk = 705
+rows-smk = 752
 
 abbrev pub rows-smp : ℕ
-rows-smp = 706
+rows-smp = 753
 
 abbrev pub rows-snoop : ℕ
-rows-snoop = 707
+rows-snoop = 754
 
 abbrev pub rows-so : ℕ
-rows-so = 708
+rows-so = 755
 
 abbrev pub rows-spc : ℕ
-rows-spc = 709
+rows-spc = 756
 
 abbrev pub rows-spd : ℕ
-rows-spd = 710
+rows-spd = 757
 
 abbrev pub rows-sph : ℕ
-rows-sph = 711
+rows-sph = 758
 
 abbrev pub rows-spv : ℕ
-rows-spv = 712
+rows-spv = 759
 
 abbrev pub rows-spx : ℕ
-rows-spx = 713
+rows-spx = 760
 
 abbrev pub rows-sqlite : ℕ
-rows-sqlite = 714
+rows-sqlite = 761
 
 abbrev pub rows-sqlite2 : ℕ
-rows-sqlite2 = 715
+rows-sqlite2 = 762
 
 abbrev pub rows-squashfs : ℕ
-rows-squashfs = 716
+rows-squashfs = 763
 
 abbrev pub rows-srpm : ℕ
-rows-srpm = 717
+rows-srpm = 764
 
 abbrev pub rows-srt : ℕ
-rows-srt = 718
+rows-srt = 765
 
 abbrev pub rows-srx : ℕ
-rows-srx = 719
+rows-srx = 766
 
 abbrev pub rows-ssa : ℕ
-rows-ssa = 720
+rows-ssa = 767
 
 abbrev pub rows-ssh1 : ℕ
-rows-ssh1 = 721
+rows-ssh1 = 768
 
 abbrev pub rows-ssh2pub-sshpub : ℕ
-rows-ssh2pub-sshpub = 722
+rows-ssh2pub-sshpub = 769
 
 abbrev pub rows-stex : ℕ
-rows-stex = 723
+rows-stex = 770
 
 abbrev pub rows-stl : ℕ
-rows-stl = 724
+rows-stl = 771
+
+abbrev pub rows-stm : ℕ
+rows-stm = 772
 
 abbrev pub rows-subviewer : ℕ
-rows-subviewer = 725
+rows-subviewer = 773
 
 abbrev pub rows-svg : ℕ
-rows-svg = 726
+rows-svg = 774
 
 abbrev pub rows-svm : ℕ
-rows-svm = 727
+rows-svm = 775
 
 abbrev pub rows-svndump : ℕ
-rows-svndump = 728
+rows-svndump = 776
 
 abbrev pub rows-swf : ℕ
-rows-swf = 729
+rows-swf = 777
 
 abbrev pub rows-swf-swfz : ℕ
-rows-swf-swfz = 730
+rows-swf-swfz = 778
 
 abbrev pub rows-sxc : ℕ
-rows-sxc = 731
+rows-sxc = 779
 
 abbrev pub rows-sxd : ℕ
-rows-sxd = 732
+rows-sxd = 780
 
 abbrev pub rows-sxi : ℕ
-rows-sxi = 733
+rows-sxi = 781
 
 abbrev pub rows-sxm : ℕ
-rows-sxm = 734
+rows-sxm = 782
 
 abbrev pub rows-sxw : ℕ
-rows-sxw = 735
+rows-sxw = 783
 
 abbrev pub rows-syzygy : ℕ
-rows-syzygy = 736
+rows-syzygy = 784
 
 abbrev pub rows-sz : ℕ
-rows-sz = 737
+rows-sz = 785
 
 abbrev pub rows-szdd : ℕ
-rows-szdd = 738
+rows-szdd = 786
 
 abbrev pub rows-szx : ℕ
-rows-szx = 739
+rows-szx = 787
 
 abbrev pub rows-t2t : ℕ
-rows-t2t = 740
+rows-t2t = 788
 
 abbrev pub rows-t602 : ℕ
-rows-t602 = 741
+rows-t602 = 789
 
 abbrev pub rows-tar : ℕ
-rows-tar = 742
+rows-tar = 790
 
 abbrev pub rows-tbi : ℕ
-rows-tbi = 743
+rows-tbi = 791
 
 abbrev pub rows-tcb : ℕ
-rows-tcb = 744
+rows-tcb = 792
 
 abbrev pub rows-tcf : ℕ
-rows-tcf = 745
+rows-tcf = 793
 
 abbrev pub rows-tch : ℕ
-rows-tch = 746
+rows-tch = 794
 
 abbrev pub rows-tcl : ℕ
-rows-tcl = 747
+rows-tcl = 795
 
 abbrev pub rows-tct : ℕ
-rows-tct = 748
+rows-tct = 796
 
 abbrev pub rows-tdb : ℕ
-rows-tdb = 749
+rows-tdb = 797
 
 abbrev pub rows-tei : ℕ
-rows-tei = 750
+rows-tei = 798
 
 abbrev pub rows-terminfo : ℕ
-rows-terminfo = 751
+rows-terminfo = 799
 
 abbrev pub rows-texi : ℕ
-rows-texi = 752
+rows-texi = 800
 
 abbrev pub rows-texlua : ℕ
-rows-texlua = 753
+rows-texlua = 801
+
+abbrev pub rows-tga : ℕ
+rows-tga = 802
 
 abbrev pub rows-tgif : ℕ
-rows-tgif = 754
+rows-tgif = 803
+
+abbrev pub rows-thomsap : ℕ
+rows-thomsap = 804
 
 abbrev pub rows-tib : ℕ
-rows-tib = 755
+rows-tib = 805
 
 abbrev pub rows-tif : ℕ
-rows-tif = 756
+rows-tif = 806
 
 abbrev pub rows-tnef : ℕ
-rows-tnef = 757
+rows-tnef = 807
 
 abbrev pub rows-torrent : ℕ
-rows-torrent = 758
+rows-torrent = 808
 
 abbrev pub rows-trd : ℕ
-rows-trd = 759
+rows-trd = 809
 
 abbrev pub rows-tres : ℕ
-rows-tres = 760
+rows-tres = 810
 
 abbrev pub rows-trustdb : ℕ
-rows-trustdb = 761
+rows-trustdb = 811
 
 abbrev pub rows-ts : ℕ
-rows-ts = 762
+rows-ts = 812
 
 abbrev pub rows-tscn : ℕ
-rows-tscn = 763
+rows-tscn = 813
 
 abbrev pub rows-tta : ℕ
-rows-tta = 764
+rows-tta = 814
 
 abbrev pub rows-ttc : ℕ
-rows-ttc = 765
+rows-ttc = 815
 
 abbrev pub rows-ttf : ℕ
-rows-ttf = 766
+rows-ttf = 816
 
 abbrev pub rows-ttml : ℕ
-rows-ttml = 767
+rows-ttml = 817
 
 abbrev pub rows-ttx : ℕ
-rows-ttx = 768
+rows-ttx = 818
 
 abbrev pub rows-txt : ℕ
-rows-txt = 769
+rows-txt = 819
 
 abbrev pub rows-txt-xml : ℕ
-rows-txt-xml = 770
+rows-txt-xml = 820
 
 abbrev pub rows-txt-yaml : ℕ
-rows-txt-yaml = 771
+rows-txt-yaml = 821
 
 abbrev pub rows-txw : ℕ
-rows-txw = 772
+rows-txw = 822
 
 abbrev pub rows-typelib : ℕ
-rows-typelib = 773
+rows-typelib = 823
 
 abbrev pub rows-tzif : ℕ
-rows-tzif = 774
+rows-tzif = 824
 
 abbrev pub rows-tzx : ℕ
-rows-tzx = 775
+rows-tzx = 825
 
 abbrev pub rows-ubi : ℕ
-rows-ubi = 776
+rows-ubi = 826
 
 abbrev pub rows-ubifs : ℕ
-rows-ubifs = 777
+rows-ubifs = 827
 
 abbrev pub rows-uf2 : ℕ
-rows-uf2 = 778
+rows-uf2 = 828
 
 abbrev pub rows-ui : ℕ
-rows-ui = 779
+rows-ui = 829
 
 abbrev pub rows-uimage : ℕ
-rows-uimage = 780
+rows-uimage = 830
 
 abbrev pub rows-ult : ℕ
-rows-ult = 781
+rows-ult = 831
 
 abbrev pub rows-ulx : ℕ
-rows-ulx = 782
+rows-ulx = 832
 
 abbrev pub rows-umx : ℕ
-rows-umx = 783
+rows-umx = 833
 
 abbrev pub rows-ups : ℕ
-rows-ups = 784
+rows-ups = 834
 
 abbrev pub rows-url : ℕ
-rows-url = 785
+rows-url = 835
 
 abbrev pub rows-usda : ℕ
-rows-usda = 786
+rows-usda = 836
 
 abbrev pub rows-usdc : ℕ
-rows-usdc = 787
+rows-usdc = 837
 
 abbrev pub rows-uu : ℕ
-rows-uu = 788
+rows-uu = 838
 
 abbrev pub rows-vcdiff : ℕ
-rows-vcdiff = 789
+rows-vcdiff = 839
 
 abbrev pub rows-vcf : ℕ
-rows-vcf = 790
+rows-vcf = 840
 
 abbrev pub rows-vcfg : ℕ
-rows-vcfg = 791
+rows-vcfg = 841
 
 abbrev pub rows-vdex : ℕ
-rows-vdex = 792
+rows-vdex = 842
 
 abbrev pub rows-vdi : ℕ
-rows-vdi = 793
+rows-vdi = 843
 
 abbrev pub rows-vdr : ℕ
-rows-vdr = 794
+rows-vdr = 844
 
 abbrev pub rows-vgm : ℕ
-rows-vgm = 795
+rows-vgm = 845
 
 abbrev pub rows-vhd : ℕ
-rows-vhd = 796
+rows-vhd = 846
 
 abbrev pub rows-vhdx : ℕ
-rows-vhdx = 797
+rows-vhdx = 847
 
 abbrev pub rows-vips : ℕ
-rows-vips = 798
+rows-vips = 848
 
 abbrev pub rows-vmdk-vmdkcow : ℕ
-rows-vmdk-vmdkcow = 799
+rows-vmdk-vmdkcow = 849
 
 abbrev pub rows-vnt : ℕ
-rows-vnt = 800
+rows-vnt = 850
 
 abbrev pub rows-voc : ℕ
-rows-voc = 801
+rows-voc = 851
 
 abbrev pub rows-vpk : ℕ
-rows-vpk = 802
+rows-vpk = 852
 
 abbrev pub rows-vsd : ℕ
-rows-vsd = 803
+rows-vsd = 853
 
 abbrev pub rows-vsdx : ℕ
-rows-vsdx = 804
+rows-vsdx = 854
 
 abbrev pub rows-vsdx-zip : ℕ
-rows-vsdx-zip = 805
+rows-vsdx-zip = 855
 
 abbrev pub rows-vtf : ℕ
-rows-vtf = 806
+rows-vtf = 856
 
 abbrev pub rows-vtt : ℕ
-rows-vtt = 807
+rows-vtt = 857
 
 abbrev pub rows-w64 : ℕ
-rows-w64 = 808
+rows-w64 = 858
 
 abbrev pub rows-wad : ℕ
-rows-wad = 809
+rows-wad = 859
 
 abbrev pub rows-warc : ℕ
-rows-warc = 810
+rows-warc = 860
 
-abbrev pub rows-wasm : ℕ
-rows-wasm = 811
+abbrev pub rows-wasm-wasmc : ℕ
+rows-wasm-wasmc = 861
 
 abbrev pub rows-wav : ℕ
-rows-wav = 812
+rows-wav = 862
+
+abbrev pub rows-wbfs : ℕ
+rows-wbfs = 863
 
 abbrev pub rows-webm : ℕ
-rows-webm = 813
+rows-webm = 864
 
 abbrev pub rows-webp : ℕ
-rows-webp = 814
+rows-webp = 865
 
 abbrev pub rows-wiiwad : ℕ
-rows-wiiwad = 815
+rows-wiiwad = 866
 
 abbrev pub rows-wim : ℕ
-rows-wim = 816
+rows-wim = 867
+
+abbrev pub rows-wk1 : ℕ
+rows-wk1 = 868
 
 abbrev pub rows-wmf : ℕ
-rows-wmf = 817
+rows-wmf = 869
 
 abbrev pub rows-wmv : ℕ
-rows-wmv = 818
+rows-wmv = 870
 
 abbrev pub rows-woff : ℕ
-rows-woff = 819
+rows-woff = 871
 
 abbrev pub rows-woff2 : ℕ
-rows-woff2 = 820
+rows-woff2 = 872
 
 abbrev pub rows-wpd : ℕ
-rows-wpd = 821
+rows-wpd = 873
 
 abbrev pub rows-wpg : ℕ
-rows-wpg = 822
+rows-wpg = 874
 
 abbrev pub rows-wpl : ℕ
-rows-wpl = 823
+rows-wpl = 875
 
 abbrev pub rows-wpm : ℕ
-rows-wpm = 824
+rows-wpm = 876
 
 abbrev pub rows-wps : ℕ
-rows-wps = 825
+rows-wps = 877
 
 abbrev pub rows-wreg : ℕ
-rows-wreg = 826
+rows-wreg = 878
 
 abbrev pub rows-wri : ℕ
-rows-wri = 827
+rows-wri = 879
 
 abbrev pub rows-wrl : ℕ
-rows-wrl = 828
+rows-wrl = 880
 
 abbrev pub rows-wsdl : ℕ
-rows-wsdl = 829
+rows-wsdl = 881
 
 abbrev pub rows-wtv : ℕ
-rows-wtv = 830
+rows-wtv = 882
 
 abbrev pub rows-wv : ℕ
-rows-wv = 831
+rows-wv = 883
 
 abbrev pub rows-wve : ℕ
-rows-wve = 832
+rows-wve = 884
 
 abbrev pub rows-x3d : ℕ
-rows-x3d = 833
+rows-x3d = 885
 
 abbrev pub rows-x3dv : ℕ
-rows-x3dv = 834
+rows-x3dv = 886
 
 abbrev pub rows-x3f : ℕ
-rows-x3f = 835
+rows-x3f = 887
 
 abbrev pub rows-xap : ℕ
-rows-xap = 836
+rows-xap = 888
 
 abbrev pub rows-xar : ℕ
-rows-xar = 837
+rows-xar = 889
 
 abbrev pub rows-xbe : ℕ
-rows-xbe = 838
+rows-xbe = 890
 
 abbrev pub rows-xbel : ℕ
-rows-xbel = 839
+rows-xbel = 891
 
 abbrev pub rows-xbt : ℕ
-rows-xbt = 840
+rows-xbt = 892
 
 abbrev pub rows-xcf : ℕ
-rows-xcf = 841
+rows-xcf = 893
 
 abbrev pub rows-xex : ℕ
-rows-xex = 842
+rows-xex = 894
 
 abbrev pub rows-xhtml : ℕ
-rows-xhtml = 843
+rows-xhtml = 895
 
 abbrev pub rows-xi : ℕ
-rows-xi = 844
+rows-xi = 896
 
 abbrev pub rows-xib : ℕ
-rows-xib = 845
+rows-xib = 897
 
 abbrev pub rows-xisf : ℕ
-rows-xisf = 846
+rows-xisf = 898
 
 abbrev pub rows-xliff : ℕ
-rows-xliff = 847
+rows-xliff = 899
 
 abbrev pub rows-xls : ℕ
-rows-xls = 848
+rows-xls = 900
 
 abbrev pub rows-xlsb : ℕ
-rows-xlsb = 849
+rows-xlsb = 901
 
 abbrev pub rows-xlsm : ℕ
-rows-xlsm = 850
+rows-xlsm = 902
 
 abbrev pub rows-xlsx : ℕ
-rows-xlsx = 851
+rows-xlsx = 903
 
 abbrev pub rows-xm : ℕ
-rows-xm = 852
+rows-xm = 904
 
 abbrev pub rows-xmcd : ℕ
-rows-xmcd = 853
+rows-xmcd = 905
 
 abbrev pub rows-xmf : ℕ
-rows-xmf = 854
+rows-xmf = 906
 
 abbrev pub rows-xmi : ℕ
-rows-xmi = 855
+rows-xmi = 907
 
 abbrev pub rows-xml : ℕ
-rows-xml = 856
+rows-xml = 908
 
 abbrev pub rows-xmp : ℕ
-rows-xmp = 857
+rows-xmp = 909
 
 abbrev pub rows-xpm : ℕ
-rows-xpm = 858
+rows-xpm = 910
 
 abbrev pub rows-xpm-xpm2 : ℕ
-rows-xpm-xpm2 = 859
+rows-xpm-xpm2 = 911
 
 abbrev pub rows-xsd : ℕ
-rows-xsd = 860
+rows-xsd = 912
 
 abbrev pub rows-xslt : ℕ
-rows-xslt = 861
+rows-xslt = 913
 
 abbrev pub rows-xspf : ℕ
-rows-xspf = 862
+rows-xspf = 914
 
 abbrev pub rows-xwd : ℕ
-rows-xwd = 863
+rows-xwd = 915
 
 abbrev pub rows-xz : ℕ
-rows-xz = 864
+rows-xz = 916
 
 abbrev pub rows-y4m : ℕ
-rows-y4m = 865
+rows-y4m = 917
 
 abbrev pub rows-yaml : ℕ
-rows-yaml = 866
+rows-yaml = 918
+
+abbrev pub rows-zck : ℕ
+rows-zck = 919
 
 abbrev pub rows-zim : ℕ
-rows-zim = 867
+rows-zim = 920
+
+abbrev pub rows-zimage : ℕ
+rows-zimage = 921
 
 abbrev pub rows-zip : ℕ
-rows-zip = 868
+rows-zip = 922
 
 abbrev pub rows-zoo : ℕ
-rows-zoo = 869
+rows-zoo = 923
 
 abbrev pub rows-zpaq : ℕ
-rows-zpaq = 870
+rows-zpaq = 924
 
 abbrev pub rows-zst : ℕ
-rows-zst = 871
+rows-zst = 925
 
 abbrev pub rows-zst-zstold : ℕ
-rows-zst-zstold = 872
+rows-zst-zstold = 926
 
 unfoldable pub lead_lists : List (List (List ℕ))
 lead_lists =
@@ -2680,6 +2842,7 @@ lead_lists =
 unfoldable pub sets_0 : List (List (List ℕ))
 sets_0 =
     none
+    ∷ (codes "32x" ∷ [])
     ∷ (codes "3dmodel" ∷ [])
     ∷ texts
     ∷ (codes "3dmodel" ∷ codes "abw" ∷ codes "amf" ∷ codes "atom" ∷ codes "aup" ∷ codes "busconfig" ∷ codes "catmeta" ∷ codes "cml" ∷ codes "dae" ∷ codes "dbk" ∷ codes "dbusintro" ∷ codes "dia" ∷ codes "diashape" ∷ codes "fb2" ∷ codes "fodg" ∷ codes "fodp" ∷ codes "fods" ∷ codes "fodt" ∷ codes "fontconfig" ∷ codes "glade" ∷ codes "gml" ∷ codes "gnucash" ∷ codes "gnumeric" ∷ codes "gpx" ∷ codes "gresource" ∷ codes "gschema" ∷ codes "gtkbuilder" ∷ codes "jnlp" ∷ codes "kml" ∷ codes "ldml" ∷ codes "lingts" ∷ codes "meta4" ∷ codes "metainfo" ∷ codes "metalink" ∷ codes "mimeinfo" ∷ codes "mml" ∷ codes "mpd" ∷ codes "msbuild" ∷ codes "mscx" ∷ codes "musicxml" ∷ codes "ncx" ∷ codes "nzb" ∷ codes "opf" ∷ codes "opml" ∷ codes "osm" ∷ codes "owx" ∷ codes "pkgmeta" ∷ codes "plist" ∷ codes "pom" ∷ codes "rdf" ∷ codes "rng" ∷ codes "rss" ∷ codes "sbml" ∷ codes "sch" ∷ codes "sitemap" ∷ codes "sla" ∷ codes "smil" ∷ codes "srx" ∷ codes "svg" ∷ codes "tei" ∷ codes "ttml" ∷ codes "ttx" ∷ codes "ui" ∷ codes "wordml" ∷ codes "wsdl" ∷ codes "x3d" ∷ codes "xbel" ∷ codes "xhtml" ∷ codes "xib" ∷ codes "xkbrules" ∷ codes "xliff" ∷ codes "xmi" ∷ codes "xmp" ∷ codes "xsd" ∷ codes "xslt" ∷ codes "xspf" ∷ [])
@@ -2696,12 +2859,15 @@ sets_0 =
     ∷ (codes "8svx" ∷ [])
     ∷ (codes "Z" ∷ [])
     ∷ (codes "a78" ∷ [])
+    ∷ (codes "aa" ∷ [])
     ∷ (codes "aac" ∷ [])
     ∷ (codes "aac" ∷ codes "adif" ∷ [])
+    ∷ (codes "aax" ∷ [])
     ∷ (codes "abc" ∷ [])
     ∷ (codes "abw" ∷ [])
     ∷ (codes "ac3" ∷ [])
     ∷ (codes "accdb" ∷ [])
+    ∷ (codes "ace" ∷ [])
     ∷ (codes "adf" ∷ [])
     ∷ (codes "aes" ∷ [])
     ∷ (codes "afm" ∷ [])
@@ -2718,10 +2884,12 @@ sets_0 =
     ∷ (codes "ani" ∷ [])
     ∷ (codes "anim" ∷ [])
     ∷ (codes "ape" ∷ [])
+    ∷ (codes "apfs" ∷ codes "bootimg" ∷ codes "cramfs" ∷ codes "erofs" ∷ codes "exfat" ∷ codes "f2fs" ∷ codes "fat" ∷ codes "gpt" ∷ codes "hfsplus" ∷ codes "jffs2" ∷ codes "lvm" ∷ codes "ntfs" ∷ codes "romfs" ∷ codes "simg" ∷ codes "ubi" ∷ codes "ubifs" ∷ codes "xfs" ∷ [])
     ∷ (codes "apk" ∷ [])
     ∷ (codes "apk" ∷ codes "jar" ∷ codes "zip" ∷ [])
     ∷ (codes "apm" ∷ [])
     ∷ (codes "apng" ∷ [])
+    ∷ (codes "aportis" ∷ codes "plucker" ∷ [])
     ∷ (codes "appimage" ∷ [])
     ∷ (codes "appimage" ∷ codes "core" ∷ codes "cubin" ∷ codes "o" ∷ codes "so" ∷ [])
     ∷ (codes "application/vnd.apple.keynote" ∷ [])
@@ -2781,7 +2949,6 @@ sets_0 =
     ∷ (codes "bmp" ∷ codes "dib" ∷ [])
     ∷ (codes "bookmarks" ∷ [])
     ∷ (codes "bootimg" ∷ [])
-    ∷ (codes "bootimg" ∷ codes "cramfs" ∷ codes "fat" ∷ codes "jffs2" ∷ codes "romfs" ∷ codes "simg" ∷ codes "ubi" ∷ codes "ubifs" ∷ codes "xfs" ∷ [])
     ∷ (codes "bpg" ∷ [])
     ∷ (codes "bplist" ∷ [])
     ∷ (codes "bps" ∷ [])
@@ -2798,20 +2965,21 @@ sets_0 =
     ∷ (codes "cab" ∷ [])
     ∷ (codes "caf" ∷ [])
     ∷ (codes "cbor" ∷ [])
+    ∷ (codes "cci" ∷ [])
     ∷ (codes "ccmx" ∷ [])
     ∷ (codes "cdf" ∷ [])
     ∷ (codes "cdr" ∷ [])
-    ∷ (codes "cdxa" ∷ [])
+    ∷ []
+
+unfoldable pub sets_1 : List (List (List ℕ))
+sets_1 =
+    (codes "cdxa" ∷ [])
     ∷ (codes "cer" ∷ [])
     ∷ (codes "cer" ∷ codes "crl" ∷ [])
     ∷ (codes "cer" ∷ codes "p10" ∷ codes "p8" ∷ codes "pkipath" ∷ [])
     ∷ (codes "chd" ∷ [])
     ∷ (codes "chm" ∷ [])
-    ∷ []
-
-unfoldable pub sets_1 : List (List (List ℕ))
-sets_1 =
-    (codes "chrt" ∷ [])
+    ∷ (codes "chrt" ∷ [])
     ∷ (codes "cin" ∷ [])
     ∷ (codes "class" ∷ [])
     ∷ (codes "clj" ∷ [])
@@ -2847,11 +3015,13 @@ sets_1 =
     ∷ (codes "cwk" ∷ [])
     ∷ (codes "czi" ∷ [])
     ∷ (codes "dae" ∷ [])
+    ∷ (codes "dar" ∷ [])
     ∷ (codes "dart" ∷ [])
     ∷ (codes "dbf" ∷ [])
     ∷ (codes "dbk" ∷ [])
     ∷ (codes "dbm" ∷ [])
     ∷ (codes "dbpf" ∷ [])
+    ∷ (codes "dc" ∷ codes "gcm" ∷ codes "saturn" ∷ codes "segacd" ∷ [])
     ∷ (codes "dcm" ∷ [])
     ∷ (codes "dcr" ∷ [])
     ∷ (codes "dcx" ∷ [])
@@ -2889,11 +3059,13 @@ sets_1 =
     ∷ (codes "dts" ∷ [])
     ∷ (codes "dtsi" ∷ [])
     ∷ (codes "dv" ∷ [])
+    ∷ (codes "dvb" ∷ [])
     ∷ (codes "dvi" ∷ [])
     ∷ (codes "dwg" ∷ [])
     ∷ (codes "e57" ∷ [])
     ∷ (codes "eac3" ∷ [])
     ∷ (codes "edf" ∷ [])
+    ∷ (codes "edid" ∷ [])
     ∷ (codes "eet" ∷ [])
     ∷ (codes "egg" ∷ [])
     ∷ (codes "elc" ∷ [])
@@ -2910,6 +3082,7 @@ sets_1 =
     ∷ (codes "exr" ∷ [])
     ∷ (codes "exs" ∷ [])
     ∷ (codes "ext2" ∷ [])
+    ∷ (codes "f4a" ∷ [])
     ∷ (codes "f4v" ∷ [])
     ∷ (codes "fb2" ∷ [])
     ∷ (codes "fbx" ∷ codes "fbxtext" ∷ [])
@@ -2928,6 +3101,11 @@ sets_1 =
     ∷ (codes "flatpak" ∷ [])
     ∷ (codes "flatpakref" ∷ [])
     ∷ (codes "flatpakrepo" ∷ [])
+    ∷ []
+
+unfoldable pub sets_2 : List (List (List ℕ))
+sets_2 =
+    (codes "fli" ∷ [])
     ∷ (codes "flif" ∷ [])
     ∷ (codes "flv" ∷ [])
     ∷ (codes "flw" ∷ [])
@@ -2938,15 +3116,14 @@ sets_1 =
     ∷ (codes "fodt" ∷ [])
     ∷ (codes "fpx" ∷ [])
     ∷ (codes "g64" ∷ [])
+    ∷ (codes "gb" ∷ codes "gbc" ∷ [])
+    ∷ (codes "gba" ∷ [])
     ∷ (codes "gbr" ∷ [])
-    ∷ []
-
-unfoldable pub sets_2 : List (List (List ℕ))
-sets_2 =
-    (codes "gbs" ∷ [])
+    ∷ (codes "gbs" ∷ [])
     ∷ (codes "gcda" ∷ [])
     ∷ (codes "gcda" ∷ codes "gcno" ∷ [])
     ∷ (codes "gch" ∷ [])
+    ∷ (codes "gcm" ∷ [])
     ∷ (codes "gconv" ∷ [])
     ∷ (codes "gd2" ∷ [])
     ∷ (codes "gdbm" ∷ [])
@@ -2993,6 +3170,8 @@ sets_2 =
     ∷ (codes "gz" ∷ codes "xml" ∷ [])
     ∷ (codes "gz" ∷ codes "zip" ∷ [])
     ∷ (codes "gz" ∷ codes "zst" ∷ [])
+    ∷ (codes "h264" ∷ [])
+    ∷ (codes "h265" ∷ [])
     ∷ (codes "hdd" ∷ [])
     ∷ (codes "hdf4" ∷ [])
     ∷ (codes "hdf5" ∷ [])
@@ -3002,8 +3181,10 @@ sets_2 =
     ∷ (codes "heics" ∷ [])
     ∷ (codes "heics" ∷ codes "heif" ∷ [])
     ∷ (codes "heif" ∷ [])
+    ∷ (codes "heifs" ∷ [])
     ∷ (codes "hfe" ∷ [])
     ∷ (codes "hgbundle" ∷ [])
+    ∷ (codes "hi" ∷ [])
     ∷ (codes "hlp" ∷ [])
     ∷ (codes "hprof" ∷ [])
     ∷ (codes "hqx" ∷ [])
@@ -3023,14 +3204,17 @@ sets_2 =
     ∷ (codes "icns" ∷ [])
     ∷ (codes "ico" ∷ [])
     ∷ (codes "ics" ∷ [])
+    ∷ (codes "icures" ∷ [])
     ∷ (codes "iff" ∷ [])
     ∷ (codes "ifo" ∷ [])
+    ∷ (codes "igs" ∷ [])
     ∷ (codes "ilbm" ∷ [])
     ∷ (codes "imy" ∷ [])
     ∷ (codes "indd" ∷ [])
     ∷ (codes "info" ∷ [])
     ∷ (codes "innolog" ∷ [])
     ∷ (codes "ips" ∷ [])
+    ∷ (codes "ircam" ∷ [])
     ∷ (codes "it" ∷ [])
     ∷ (codes "it87" ∷ [])
     ∷ (codes "itc" ∷ [])
@@ -3049,7 +3233,11 @@ sets_2 =
     ∷ (codes "jl" ∷ [])
     ∷ (codes "jls" ∷ [])
     ∷ (codes "jmod" ∷ [])
-    ∷ (codes "jng" ∷ [])
+    ∷ []
+
+unfoldable pub sets_3 : List (List (List ℕ))
+sets_3 =
+    (codes "jng" ∷ [])
     ∷ (codes "jnlp" ∷ [])
     ∷ (codes "journal" ∷ [])
     ∷ (codes "jp2" ∷ [])
@@ -3068,14 +3256,11 @@ sets_2 =
     ∷ (codes "jxr" ∷ [])
     ∷ (codes "karbon" ∷ [])
     ∷ (codes "kate" ∷ codes "oga" ∷ codes "ogm" ∷ codes "ogv" ∷ codes "ogx" ∷ codes "opus" ∷ codes "spx" ∷ codes "vorbis" ∷ [])
+    ∷ (codes "kbx" ∷ [])
     ∷ (codes "kdb" ∷ [])
     ∷ (codes "kdbx" ∷ [])
     ∷ (codes "kdump" ∷ [])
-    ∷ []
-
-unfoldable pub sets_3 : List (List (List ℕ))
-sets_3 =
-    (codes "kfo" ∷ [])
+    ∷ (codes "kfo" ∷ [])
     ∷ (codes "kil" ∷ [])
     ∷ (codes "kml" ∷ [])
     ∷ (codes "kmz" ∷ [])
@@ -3096,9 +3281,11 @@ sets_3 =
     ∷ (codes "lisp" ∷ [])
     ∷ (codes "lit" ∷ [])
     ∷ (codes "ll" ∷ [])
+    ∷ (codes "lmdb" ∷ [])
     ∷ (codes "lnk" ∷ [])
     ∷ (codes "lnx" ∷ [])
     ∷ (codes "locarch" ∷ [])
+    ∷ (codes "locate" ∷ [])
     ∷ (codes "lrf" ∷ [])
     ∷ (codes "lrz" ∷ [])
     ∷ (codes "lss" ∷ [])
@@ -3124,11 +3311,13 @@ sets_3 =
     ∷ (codes "m4b" ∷ codes "m4v" ∷ codes "mp4" ∷ [])
     ∷ (codes "m4u" ∷ [])
     ∷ (codes "m4v" ∷ [])
+    ∷ (codes "macbin" ∷ [])
     ∷ (codes "mach" ∷ [])
     ∷ (codes "mat" ∷ [])
     ∷ (codes "maud" ∷ [])
     ∷ (codes "mbm" ∷ [])
     ∷ (codes "mbtiles" ∷ [])
+    ∷ (codes "md" ∷ [])
     ∷ (codes "mdb" ∷ [])
     ∷ (codes "mdi" ∷ [])
     ∷ (codes "mdl" ∷ [])
@@ -3146,6 +3335,7 @@ sets_3 =
     ∷ (codes "mk" ∷ [])
     ∷ (codes "mkv" ∷ [])
     ∷ (codes "ml" ∷ [])
+    ∷ (codes "mlp" ∷ [])
     ∷ (codes "mm" ∷ [])
     ∷ (codes "mmf" ∷ [])
     ∷ (codes "mml" ∷ [])
@@ -3154,6 +3344,7 @@ sets_3 =
     ∷ (codes "mo" ∷ [])
     ∷ (codes "mo3" ∷ [])
     ∷ (codes "mobi" ∷ [])
+    ∷ (codes "mod" ∷ [])
     ∷ (codes "model/step" ∷ [])
     ∷ (codes "mol2" ∷ [])
     ∷ (codes "mov" ∷ [])
@@ -3166,12 +3357,19 @@ sets_3 =
     ∷ (codes "mpg" ∷ [])
     ∷ (codes "mpp" ∷ [])
     ∷ (codes "mpq" ∷ [])
+    ∷ (codes "mqv" ∷ [])
+    ∷ (codes "mrc" ∷ [])
+    ∷ (codes "mrw" ∷ [])
     ∷ (codes "ms3d" ∷ [])
     ∷ (codes "msa" ∷ [])
     ∷ (codes "msbuild" ∷ [])
     ∷ (codes "mscx" ∷ [])
     ∷ (codes "mscz" ∷ [])
-    ∷ (codes "msg" ∷ [])
+    ∷ []
+
+unfoldable pub sets_4 : List (List (List ℕ))
+sets_4 =
+    (codes "msg" ∷ [])
     ∷ (codes "mtm" ∷ [])
     ∷ (codes "mtn" ∷ [])
     ∷ (codes "mup" ∷ [])
@@ -3183,14 +3381,19 @@ sets_3 =
     ∷ (codes "n64" ∷ [])
     ∷ (codes "nbold" ∷ [])
     ∷ (codes "nc" ∷ [])
+    ∷ (codes "ncch" ∷ [])
     ∷ (codes "ncx" ∷ [])
     ∷ (codes "ndjson" ∷ [])
+    ∷ (codes "nds" ∷ [])
     ∷ (codes "neko" ∷ [])
     ∷ (codes "nes" ∷ [])
     ∷ (codes "netmon" ∷ [])
     ∷ (codes "nex" ∷ [])
     ∷ (codes "nft" ∷ [])
+    ∷ (codes "ngc" ∷ [])
+    ∷ (codes "ngp" ∷ [])
     ∷ (codes "niff" ∷ [])
+    ∷ (codes "nii" ∷ [])
     ∷ (codes "npy" ∷ [])
     ∷ (codes "nsc" ∷ [])
     ∷ (codes "nsf" ∷ [])
@@ -3203,11 +3406,7 @@ sets_3 =
     ∷ (codes "odb" ∷ [])
     ∷ (codes "odc" ∷ [])
     ∷ (codes "odf" ∷ [])
-    ∷ []
-
-unfoldable pub sets_4 : List (List (List ℕ))
-sets_4 =
-    (codes "odg" ∷ [])
+    ∷ (codes "odg" ∷ [])
     ∷ (codes "odg" ∷ codes "zip" ∷ [])
     ∷ (codes "odi" ∷ [])
     ∷ (codes "odm" ∷ [])
@@ -3224,6 +3423,7 @@ sets_4 =
     ∷ (codes "ogm" ∷ [])
     ∷ (codes "ogv" ∷ [])
     ∷ (codes "okt" ∷ [])
+    ∷ (codes "omni" ∷ [])
     ∷ (codes "openssh" ∷ [])
     ∷ (codes "openssl" ∷ [])
     ∷ (codes "opf" ∷ [])
@@ -3279,11 +3479,13 @@ sets_4 =
     ∷ (codes "php" ∷ [])
     ∷ (codes "php" ∷ codes "svg" ∷ codes "txt" ∷ codes "xhtml" ∷ codes "xml" ∷ [])
     ∷ (codes "pic" ∷ [])
+    ∷ (codes "pict" ∷ [])
     ∷ (codes "pjl" ∷ [])
     ∷ (codes "pkgstream" ∷ [])
     ∷ (codes "pkl" ∷ [])
     ∷ (codes "pkpass" ∷ [])
     ∷ (codes "pl" ∷ [])
+    ∷ (codes "pla" ∷ [])
     ∷ (codes "plist" ∷ [])
     ∷ (codes "plist" ∷ codes "txt" ∷ codes "xml" ∷ [])
     ∷ (codes "pls" ∷ [])
@@ -3291,10 +3493,15 @@ sets_4 =
     ∷ (codes "png" ∷ [])
     ∷ (codes "pnm" ∷ [])
     ∷ (codes "pom" ∷ [])
+    ∷ (codes "por" ∷ [])
     ∷ (codes "ppd" ∷ [])
     ∷ (codes "ppf" ∷ [])
     ∷ (codes "ppk" ∷ [])
-    ∷ (codes "ppt" ∷ [])
+    ∷ []
+
+unfoldable pub sets_5 : List (List (List ℕ))
+sets_5 =
+    (codes "ppt" ∷ [])
     ∷ (codes "pptm" ∷ [])
     ∷ (codes "pptx" ∷ [])
     ∷ (codes "ppu" ∷ [])
@@ -3311,6 +3518,7 @@ sets_4 =
     ∷ (codes "pst" ∷ [])
     ∷ (codes "psw" ∷ [])
     ∷ (codes "psx" ∷ [])
+    ∷ (codes "ptm" ∷ [])
     ∷ (codes "pub" ∷ [])
     ∷ (codes "puml" ∷ [])
     ∷ (codes "pvf" ∷ [])
@@ -3328,6 +3536,7 @@ sets_4 =
     ∷ (codes "qp" ∷ [])
     ∷ (codes "qrc" ∷ [])
     ∷ (codes "qti" ∷ [])
+    ∷ (codes "qtif" ∷ [])
     ∷ (codes "qtl" ∷ [])
     ∷ (codes "r" ∷ [])
     ∷ (codes "r3d" ∷ [])
@@ -3335,11 +3544,7 @@ sets_4 =
     ∷ (codes "raf" ∷ [])
     ∷ (codes "raku" ∷ [])
     ∷ (codes "raml" ∷ [])
-    ∷ []
-
-unfoldable pub sets_5 : List (List (List ℕ))
-sets_5 =
-    (codes "rar" ∷ [])
+    ∷ (codes "rar" ∷ [])
     ∷ (codes "ras" ∷ [])
     ∷ (codes "rb" ∷ [])
     ∷ (codes "rdata" ∷ [])
@@ -3347,6 +3552,7 @@ sets_5 =
     ∷ (codes "rdf" ∷ [])
     ∷ (codes "reg" ∷ [])
     ∷ (codes "regf" ∷ [])
+    ∷ (codes "res" ∷ [])
     ∷ (codes "rf64" ∷ [])
     ∷ (codes "rifx" ∷ codes "wav" ∷ [])
     ∷ (codes "rkt" ∷ [])
@@ -3366,6 +3572,7 @@ sets_5 =
     ∷ (codes "rvz" ∷ [])
     ∷ (codes "rw2" ∷ [])
     ∷ (codes "rz" ∷ [])
+    ∷ (codes "s3m" ∷ [])
     ∷ (codes "safetensors" ∷ [])
     ∷ (codes "sam" ∷ [])
     ∷ (codes "sami" ∷ [])
@@ -3379,6 +3586,7 @@ sets_5 =
     ∷ (codes "sch" ∷ [])
     ∷ (codes "scm" ∷ [])
     ∷ (codes "scsyn" ∷ [])
+    ∷ (codes "sdb" ∷ [])
     ∷ (codes "sdi" ∷ [])
     ∷ (codes "sdp" ∷ [])
     ∷ (codes "sds" ∷ [])
@@ -3398,6 +3606,7 @@ sets_5 =
     ∷ (codes "sid" ∷ [])
     ∷ (codes "sig" ∷ [])
     ∷ (codes "simg" ∷ [])
+    ∷ (codes "sis" ∷ [])
     ∷ (codes "sisx" ∷ [])
     ∷ (codes "sit" ∷ [])
     ∷ (codes "sk" ∷ [])
@@ -3420,10 +3629,15 @@ sets_5 =
     ∷ (codes "srt" ∷ [])
     ∷ (codes "srx" ∷ [])
     ∷ (codes "ssa" ∷ [])
-    ∷ (codes "ssh1" ∷ [])
+    ∷ []
+
+unfoldable pub sets_6 : List (List (List ℕ))
+sets_6 =
+    (codes "ssh1" ∷ [])
     ∷ (codes "ssh2pub" ∷ codes "sshpub" ∷ [])
     ∷ (codes "stex" ∷ [])
     ∷ (codes "stl" ∷ [])
+    ∷ (codes "stm" ∷ [])
     ∷ (codes "subviewer" ∷ [])
     ∷ (codes "svg" ∷ [])
     ∷ (codes "svm" ∷ [])
@@ -3453,7 +3667,9 @@ sets_5 =
     ∷ (codes "terminfo" ∷ [])
     ∷ (codes "texi" ∷ [])
     ∷ (codes "texlua" ∷ [])
+    ∷ (codes "tga" ∷ [])
     ∷ (codes "tgif" ∷ [])
+    ∷ (codes "thomsap" ∷ [])
     ∷ (codes "tib" ∷ [])
     ∷ (codes "tif" ∷ [])
     ∷ (codes "tnef" ∷ [])
@@ -3467,11 +3683,7 @@ sets_5 =
     ∷ (codes "ttc" ∷ [])
     ∷ (codes "ttf" ∷ [])
     ∷ (codes "ttml" ∷ [])
-    ∷ []
-
-unfoldable pub sets_6 : List (List (List ℕ))
-sets_6 =
-    (codes "ttx" ∷ [])
+    ∷ (codes "ttx" ∷ [])
     ∷ (codes "txt" ∷ [])
     ∷ (codes "txt" ∷ codes "xml" ∷ [])
     ∷ (codes "txt" ∷ codes "yaml" ∷ [])
@@ -3514,12 +3726,14 @@ sets_6 =
     ∷ (codes "w64" ∷ [])
     ∷ (codes "wad" ∷ [])
     ∷ (codes "warc" ∷ [])
-    ∷ (codes "wasm" ∷ [])
+    ∷ (codes "wasm" ∷ codes "wasmc" ∷ [])
     ∷ (codes "wav" ∷ [])
+    ∷ (codes "wbfs" ∷ [])
     ∷ (codes "webm" ∷ [])
     ∷ (codes "webp" ∷ [])
     ∷ (codes "wiiwad" ∷ [])
     ∷ (codes "wim" ∷ [])
+    ∷ (codes "wk1" ∷ [])
     ∷ (codes "wmf" ∷ [])
     ∷ (codes "wmv" ∷ [])
     ∷ (codes "woff" ∷ [])
@@ -3547,7 +3761,11 @@ sets_6 =
     ∷ (codes "xcf" ∷ [])
     ∷ (codes "xex" ∷ [])
     ∷ (codes "xhtml" ∷ [])
-    ∷ (codes "xi" ∷ [])
+    ∷ []
+
+unfoldable pub sets_7 : List (List (List ℕ))
+sets_7 =
+    (codes "xi" ∷ [])
     ∷ (codes "xib" ∷ [])
     ∷ (codes "xisf" ∷ [])
     ∷ (codes "xliff" ∷ [])
@@ -3570,7 +3788,9 @@ sets_6 =
     ∷ (codes "xz" ∷ [])
     ∷ (codes "y4m" ∷ [])
     ∷ (codes "yaml" ∷ [])
+    ∷ (codes "zck" ∷ [])
     ∷ (codes "zim" ∷ [])
+    ∷ (codes "zimage" ∷ [])
     ∷ (codes "zip" ∷ [])
     ∷ (codes "zoo" ∷ [])
     ∷ (codes "zpaq" ∷ [])
@@ -3579,4 +3799,4 @@ sets_6 =
     ∷ []
 
 unfoldable pub sets : List (List (List ℕ))
-sets = sets_0 ++ (sets_1 ++ (sets_2 ++ (sets_3 ++ (sets_4 ++ (sets_5 ++ (sets_6))))))
+sets = sets_0 ++ (sets_1 ++ (sets_2 ++ (sets_3 ++ (sets_4 ++ (sets_5 ++ (sets_6 ++ (sets_7)))))))

@@ -404,110 +404,110 @@ is-application-vnd-las = 132
 abbrev pub is-application-vnd-laszip : ℕ
 is-application-vnd-laszip = 133
 
-abbrev pub is-application-vnd-lotus-1-2-3 : ℕ
-is-application-vnd-lotus-1-2-3 = 134
+abbrev pub is-application-vnd-lotus-1-2-3-as-known : ℕ
+is-application-vnd-lotus-1-2-3-as-known = 134
+
+abbrev pub is-application-vnd-lotus-1-2-3-as-row-wk1 : ℕ
+is-application-vnd-lotus-1-2-3-as-row-wk1 = 135
 
 abbrev pub is-application-vnd-lotus-wordpro : ℕ
-is-application-vnd-lotus-wordpro = 135
+is-application-vnd-lotus-wordpro = 136
 
 abbrev pub is-application-vnd-mbtiles : ℕ
-is-application-vnd-mbtiles = 136
+is-application-vnd-mbtiles = 137
 
 abbrev pub is-application-vnd-microsoft-portable-executable : ℕ
-is-application-vnd-microsoft-portable-executable = 137
+is-application-vnd-microsoft-portable-executable = 138
 
 abbrev pub is-application-vnd-mif : ℕ
-is-application-vnd-mif = 138
+is-application-vnd-mif = 139
 
 abbrev pub is-application-vnd-mozilla-webapp-json : ℕ
-is-application-vnd-mozilla-webapp-json = 139
+is-application-vnd-mozilla-webapp-json = 140
 
 abbrev pub is-application-vnd-mozilla-xul-xml : ℕ
-is-application-vnd-mozilla-xul-xml = 140
+is-application-vnd-mozilla-xul-xml = 141
 
 abbrev pub is-application-vnd-ms-asf : ℕ
-is-application-vnd-ms-asf = 141
+is-application-vnd-ms-asf = 142
 
 abbrev pub is-application-vnd-ms-cab-compressed : ℕ
-is-application-vnd-ms-cab-compressed = 142
+is-application-vnd-ms-cab-compressed = 143
 
 abbrev pub is-application-vnd-ms-excel : ℕ
-is-application-vnd-ms-excel = 143
+is-application-vnd-ms-excel = 144
 
 abbrev pub is-application-vnd-ms-excel-addin-macroenabled-12 : ℕ
-is-application-vnd-ms-excel-addin-macroenabled-12 = 144
+is-application-vnd-ms-excel-addin-macroenabled-12 = 145
 
 abbrev pub is-application-vnd-ms-excel-sheet-binary-macroenabled-12 : ℕ
-is-application-vnd-ms-excel-sheet-binary-macroenabled-12 = 145
+is-application-vnd-ms-excel-sheet-binary-macroenabled-12 = 146
 
 abbrev pub is-application-vnd-ms-excel-sheet-macroenabled-12 : ℕ
-is-application-vnd-ms-excel-sheet-macroenabled-12 = 146
+is-application-vnd-ms-excel-sheet-macroenabled-12 = 147
 
 abbrev pub is-application-vnd-ms-excel-template-macroenabled-12 : ℕ
-is-application-vnd-ms-excel-template-macroenabled-12 = 147
+is-application-vnd-ms-excel-template-macroenabled-12 = 148
 
 abbrev pub is-application-vnd-ms-htmlhelp : ℕ
-is-application-vnd-ms-htmlhelp = 148
+is-application-vnd-ms-htmlhelp = 149
 
 abbrev pub is-application-vnd-ms-outlook : ℕ
-is-application-vnd-ms-outlook = 149
+is-application-vnd-ms-outlook = 150
 
 abbrev pub is-application-vnd-ms-outlook-pst : ℕ
-is-application-vnd-ms-outlook-pst = 150
+is-application-vnd-ms-outlook-pst = 151
 
 abbrev pub is-application-vnd-ms-package-3dmanufacturing-3dmodel-xml : ℕ
-is-application-vnd-ms-package-3dmanufacturing-3dmodel-xml = 151
+is-application-vnd-ms-package-3dmanufacturing-3dmodel-xml = 152
 
 abbrev pub is-application-vnd-ms-powerpoint : ℕ
-is-application-vnd-ms-powerpoint = 152
+is-application-vnd-ms-powerpoint = 153
 
 abbrev pub is-application-vnd-ms-powerpoint-presentation-macroenabled-12 : ℕ
-is-application-vnd-ms-powerpoint-presentation-macroenabled-12 = 153
+is-application-vnd-ms-powerpoint-presentation-macroenabled-12 = 154
 
 abbrev pub is-application-vnd-ms-powerpoint-slideshow-macroenabled-12 : ℕ
-is-application-vnd-ms-powerpoint-slideshow-macroenabled-12 = 154
+is-application-vnd-ms-powerpoint-slideshow-macroenabled-12 = 155
 
 abbrev pub is-application-vnd-ms-powerpoint-template-macroenabled-12 : ℕ
-is-application-vnd-ms-powerpoint-template-macroenabled-12 = 155
+is-application-vnd-ms-powerpoint-template-macroenabled-12 = 156
 
 abbrev pub is-application-vnd-ms-project : ℕ
-is-application-vnd-ms-project = 156
+is-application-vnd-ms-project = 157
 
 abbrev pub is-application-vnd-ms-publisher : ℕ
-is-application-vnd-ms-publisher = 157
+is-application-vnd-ms-publisher = 158
 
 abbrev pub is-application-vnd-ms-tnef : ℕ
-is-application-vnd-ms-tnef = 158
+is-application-vnd-ms-tnef = 159
 
 abbrev pub is-application-vnd-ms-visio-drawing-macroenabled-main-xml : ℕ
-is-application-vnd-ms-visio-drawing-macroenabled-main-xml = 159
+is-application-vnd-ms-visio-drawing-macroenabled-main-xml = 160
 
 abbrev pub is-application-vnd-ms-visio-drawing-main-xml : ℕ
-is-application-vnd-ms-visio-drawing-main-xml = 160
+is-application-vnd-ms-visio-drawing-main-xml = 161
 
 abbrev pub is-application-vnd-ms-visio-stencil-main-xml : ℕ
-is-application-vnd-ms-visio-stencil-main-xml = 161
+is-application-vnd-ms-visio-stencil-main-xml = 162
 
 abbrev pub is-application-vnd-ms-visio-template-main-xml : ℕ
-is-application-vnd-ms-visio-template-main-xml = 162
+is-application-vnd-ms-visio-template-main-xml = 163
 
 abbrev pub is-application-vnd-ms-word-document-macroenabled-12 : ℕ
-is-application-vnd-ms-word-document-macroenabled-12 = 163
+is-application-vnd-ms-word-document-macroenabled-12 = 164
 
 abbrev pub is-application-vnd-ms-word-template-macroenabled-12 : ℕ
-is-application-vnd-ms-word-template-macroenabled-12 = 164
+is-application-vnd-ms-word-template-macroenabled-12 = 165
 
 abbrev pub is-application-vnd-ms-works : ℕ
-is-application-vnd-ms-works = 165
+is-application-vnd-ms-works = 166
 
 abbrev pub is-application-vnd-ms-wpl : ℕ
-is-application-vnd-ms-wpl = 166
+is-application-vnd-ms-wpl = 167
 
 abbrev pub is-application-vnd-ms-xpsdocument : ℕ
-is-application-vnd-ms-xpsdocument = 167
-
-abbrev pub is-application-vnd-nintendo-nitro-rom : ℕ
-is-application-vnd-nintendo-nitro-rom = 168
+is-application-vnd-ms-xpsdocument = 168
 
 abbrev pub is-application-vnd-nintendo-snes-rom : ℕ
 is-application-vnd-nintendo-snes-rom = 169
@@ -644,3428 +644,3554 @@ is-application-vnd-sun-xml-math = 212
 abbrev pub is-application-vnd-sun-xml-writer : ℕ
 is-application-vnd-sun-xml-writer = 213
 
+abbrev pub is-application-vnd-symbian-install : ℕ
+is-application-vnd-symbian-install = 214
+
 abbrev pub is-application-vnd-tcpdump-pcap : ℕ
-is-application-vnd-tcpdump-pcap = 214
+is-application-vnd-tcpdump-pcap = 215
 
 abbrev pub is-application-vnd-visio : ℕ
-is-application-vnd-visio = 215
+is-application-vnd-visio = 216
 
 abbrev pub is-application-vnd-wolfram-mathematica : ℕ
-is-application-vnd-wolfram-mathematica = 216
+is-application-vnd-wolfram-mathematica = 217
 
 abbrev pub is-application-vnd-wordperfect : ℕ
-is-application-vnd-wordperfect = 217
+is-application-vnd-wordperfect = 218
 
 abbrev pub is-application-voicexml-xml : ℕ
-is-application-voicexml-xml = 218
+is-application-voicexml-xml = 219
 
 abbrev pub is-application-vsix : ℕ
-is-application-vsix = 219
+is-application-vsix = 220
 
 abbrev pub is-application-warc : ℕ
-is-application-warc = 220
+is-application-warc = 221
 
 abbrev pub is-application-wasm : ℕ
-is-application-wasm = 221
+is-application-wasm = 222
 
 abbrev pub is-application-winhlp : ℕ
-is-application-winhlp = 222
+is-application-winhlp = 223
 
 abbrev pub is-application-wsdl-xml : ℕ
-is-application-wsdl-xml = 223
+is-application-wsdl-xml = 224
 
 abbrev pub is-application-x-7z-compressed : ℕ
-is-application-x-7z-compressed = 224
+is-application-x-7z-compressed = 225
 
 abbrev pub is-application-x-abiword : ℕ
-is-application-x-abiword = 225
+is-application-x-abiword = 226
 
 abbrev pub is-application-x-ableton-live-set : ℕ
-is-application-x-ableton-live-set = 226
+is-application-x-ableton-live-set = 227
 
-abbrev pub is-application-x-ace : ℕ
-is-application-x-ace = 227
+abbrev pub is-application-x-ace-compressed : ℕ
+is-application-x-ace-compressed = 228
 
 abbrev pub is-application-x-acronis-tib : ℕ
-is-application-x-acronis-tib = 228
+is-application-x-acronis-tib = 229
 
 abbrev pub is-application-x-admx : ℕ
-is-application-x-admx = 229
+is-application-x-admx = 230
 
 abbrev pub is-application-x-aes-encrypted : ℕ
-is-application-x-aes-encrypted = 230
+is-application-x-aes-encrypted = 231
 
 abbrev pub is-application-x-age-encryption : ℕ
-is-application-x-age-encryption = 231
+is-application-x-age-encryption = 232
 
 abbrev pub is-application-x-alz : ℕ
-is-application-x-alz = 232
+is-application-x-alz = 233
 
 abbrev pub is-application-x-amf : ℕ
-is-application-x-amf = 233
+is-application-x-amf = 234
 
 abbrev pub is-application-x-amiga-disk-format : ℕ
-is-application-x-amiga-disk-format = 234
+is-application-x-amiga-disk-format = 235
 
 abbrev pub is-application-x-android-archive : ℕ
-is-application-x-android-archive = 235
+is-application-x-android-archive = 236
 
 abbrev pub is-application-x-android-binary-xml : ℕ
-is-application-x-android-binary-xml = 236
+is-application-x-android-binary-xml = 237
 
 abbrev pub is-application-x-android-boot-image : ℕ
-is-application-x-android-boot-image = 237
+is-application-x-android-boot-image = 238
 
 abbrev pub is-application-x-android-resources : ℕ
-is-application-x-android-resources = 238
+is-application-x-android-resources = 239
 
 abbrev pub is-application-x-android-sparse-image : ℕ
-is-application-x-android-sparse-image = 239
+is-application-x-android-sparse-image = 240
 
 abbrev pub is-application-x-android-vdex : ℕ
-is-application-x-android-vdex = 240
+is-application-x-android-vdex = 241
 
 abbrev pub is-application-x-ant-xml : ℕ
-is-application-x-ant-xml = 241
+is-application-x-ant-xml = 242
 
 abbrev pub is-application-x-apkm : ℕ
-is-application-x-apkm = 242
+is-application-x-apkm = 243
+
+abbrev pub is-application-x-aportisdoc : ℕ
+is-application-x-aportisdoc = 244
 
 abbrev pub is-application-x-appdata-xml : ℕ
-is-application-x-appdata-xml = 243
+is-application-x-appdata-xml = 245
 
 abbrev pub is-application-x-apple-diskimage : ℕ
-is-application-x-apple-diskimage = 244
+is-application-x-apple-diskimage = 246
 
 abbrev pub is-application-x-apple-xib : ℕ
-is-application-x-apple-xib = 245
+is-application-x-apple-xib = 247
 
 abbrev pub is-application-x-appleworks : ℕ
-is-application-x-appleworks = 246
+is-application-x-appleworks = 248
 
 abbrev pub is-application-x-applix-spreadsheet : ℕ
-is-application-x-applix-spreadsheet = 247
+is-application-x-applix-spreadsheet = 249
 
 abbrev pub is-application-x-applix-word : ℕ
-is-application-x-applix-word = 248
+is-application-x-applix-word = 250
 
 abbrev pub is-application-x-apt-cache : ℕ
-is-application-x-apt-cache = 249
+is-application-x-apt-cache = 251
 
 abbrev pub is-application-x-arb-json : ℕ
-is-application-x-arb-json = 250
+is-application-x-arb-json = 252
 
 abbrev pub is-application-x-arc : ℕ
-is-application-x-arc = 251
-
-abbrev pub is-application-x-archive-dar : ℕ
-is-application-x-archive-dar = 252
+is-application-x-arc = 253
 
 abbrev pub is-application-x-arj : ℕ
-is-application-x-arj = 253
+is-application-x-arj = 254
 
 abbrev pub is-application-x-asar : ℕ
-is-application-x-asar = 254
+is-application-x-asar = 255
 
 abbrev pub is-application-x-asp : ℕ
-is-application-x-asp = 255
+is-application-x-asp = 256
 
 abbrev pub is-application-x-aspx : ℕ
-is-application-x-aspx = 256
+is-application-x-aspx = 257
 
 abbrev pub is-application-x-atari-7800-rom : ℕ
-is-application-x-atari-7800-rom = 257
+is-application-x-atari-7800-rom = 258
 
 abbrev pub is-application-x-atari-lynx-rom : ℕ
-is-application-x-atari-lynx-rom = 258
+is-application-x-atari-lynx-rom = 259
 
 abbrev pub is-application-x-atari-msa : ℕ
-is-application-x-atari-msa = 259
+is-application-x-atari-msa = 260
 
 abbrev pub is-application-x-audacity-project : ℕ
-is-application-x-audacity-project = 260
+is-application-x-audacity-project = 261
 
 abbrev pub is-application-x-audacity-project-sqlite3 : ℕ
-is-application-x-audacity-project-sqlite3 = 261
+is-application-x-audacity-project-sqlite3 = 262
 
 abbrev pub is-application-x-autodesk-max : ℕ
-is-application-x-autodesk-max = 262
+is-application-x-autodesk-max = 263
 
 abbrev pub is-application-x-avro : ℕ
-is-application-x-avro = 263
+is-application-x-avro = 264
 
 abbrev pub is-application-x-avro-schema-json : ℕ
-is-application-x-avro-schema-json = 264
+is-application-x-avro-schema-json = 265
 
 abbrev pub is-application-x-bai : ℕ
-is-application-x-bai = 265
+is-application-x-bai = 266
 
 abbrev pub is-application-x-bam : ℕ
-is-application-x-bam = 266
+is-application-x-bam = 267
 
 abbrev pub is-application-x-bash : ℕ
-is-application-x-bash = 267
+is-application-x-bash = 268
 
 abbrev pub is-application-x-bdf : ℕ
-is-application-x-bdf = 268
+is-application-x-bdf = 269
 
 abbrev pub is-application-x-bentley-dgn : ℕ
-is-application-x-bentley-dgn = 269
+is-application-x-bentley-dgn = 270
 
 abbrev pub is-application-x-bittorrent : ℕ
-is-application-x-bittorrent = 270
+is-application-x-bittorrent = 271
 
 abbrev pub is-application-x-blender : ℕ
-is-application-x-blender = 271
+is-application-x-blender = 272
 
 abbrev pub is-application-x-blorb : ℕ
-is-application-x-blorb = 272
+is-application-x-blorb = 273
 
 abbrev pub is-application-x-bplist : ℕ
-is-application-x-bplist = 273
+is-application-x-bplist = 274
 
 abbrev pub is-application-x-bps-patch : ℕ
-is-application-x-bps-patch = 274
+is-application-x-bps-patch = 275
 
 abbrev pub is-application-x-bsdiff : ℕ
-is-application-x-bsdiff = 275
+is-application-x-bsdiff = 276
 
 abbrev pub is-application-x-bufr : ℕ
-is-application-x-bufr = 276
+is-application-x-bufr = 277
 
 abbrev pub is-application-x-build-grp : ℕ
-is-application-x-build-grp = 277
+is-application-x-build-grp = 278
 
 abbrev pub is-application-x-bzip-compressed-tar : ℕ
-is-application-x-bzip-compressed-tar = 278
+is-application-x-bzip-compressed-tar = 279
 
 abbrev pub is-application-x-bzip2 : ℕ
-is-application-x-bzip2 = 279
+is-application-x-bzip2 = 280
 
 abbrev pub is-application-x-cb7 : ℕ
-is-application-x-cb7 = 280
+is-application-x-cb7 = 281
 
 abbrev pub is-application-x-cbt : ℕ
-is-application-x-cbt = 281
+is-application-x-cbt = 282
 
 abbrev pub is-application-x-ccmx : ℕ
-is-application-x-ccmx = 282
+is-application-x-ccmx = 283
 
 abbrev pub is-application-x-cd-image : ℕ
-is-application-x-cd-image = 283
+is-application-x-cd-image = 284
 
 abbrev pub is-application-x-cdf : ℕ
-is-application-x-cdf = 284
+is-application-x-cdf = 285
 
 abbrev pub is-application-x-cern-root : ℕ
-is-application-x-cern-root = 285
+is-application-x-cern-root = 286
 
 abbrev pub is-application-x-clang-pch : ℕ
-is-application-x-clang-pch = 286
+is-application-x-clang-pch = 287
 
 abbrev pub is-application-x-cmi : ℕ
-is-application-x-cmi = 287
+is-application-x-cmi = 288
 
 abbrev pub is-application-x-com-executable : ℕ
-is-application-x-com-executable = 288
+is-application-x-com-executable = 289
 
 abbrev pub is-application-x-compress : ℕ
-is-application-x-compress = 289
+is-application-x-compress = 290
 
 abbrev pub is-application-x-compressed-iso : ℕ
-is-application-x-compressed-iso = 290
+is-application-x-compressed-iso = 291
 
 abbrev pub is-application-x-compressed-tar : ℕ
-is-application-x-compressed-tar = 291
+is-application-x-compressed-tar = 292
 
 abbrev pub is-application-x-core : ℕ
-is-application-x-core = 292
+is-application-x-core = 293
 
 abbrev pub is-application-x-corelpresentations : ℕ
-is-application-x-corelpresentations = 293
+is-application-x-corelpresentations = 294
 
 abbrev pub is-application-x-cpio : ℕ
-is-application-x-cpio = 294
+is-application-x-cpio = 295
 
 abbrev pub is-application-x-cram : ℕ
-is-application-x-cram = 295
+is-application-x-cram = 296
 
 abbrev pub is-application-x-cramfs : ℕ
-is-application-x-cramfs = 296
+is-application-x-cramfs = 297
 
 abbrev pub is-application-x-csh : ℕ
-is-application-x-csh = 297
+is-application-x-csh = 298
 
 abbrev pub is-application-x-csi : ℕ
-is-application-x-csi = 298
+is-application-x-csi = 299
 
 abbrev pub is-application-x-cubin : ℕ
-is-application-x-cubin = 299
+is-application-x-cubin = 300
 
 abbrev pub is-application-x-cue : ℕ
-is-application-x-cue = 300
+is-application-x-cue = 301
+
+abbrev pub is-application-x-dar : ℕ
+is-application-x-dar = 302
 
 abbrev pub is-application-x-dbm : ℕ
-is-application-x-dbm = 301
+is-application-x-dbm = 303
 
 abbrev pub is-application-x-designer : ℕ
-is-application-x-designer = 302
+is-application-x-designer = 304
 
 abbrev pub is-application-x-desktop : ℕ
-is-application-x-desktop = 303
+is-application-x-desktop = 305
 
 abbrev pub is-application-x-devhelp-xml : ℕ
-is-application-x-devhelp-xml = 304
+is-application-x-devhelp-xml = 306
 
 abbrev pub is-application-x-device-tree-blob : ℕ
-is-application-x-device-tree-blob = 305
+is-application-x-device-tree-blob = 307
 
 abbrev pub is-application-x-dfont : ℕ
-is-application-x-dfont = 306
+is-application-x-dfont = 308
 
 abbrev pub is-application-x-dia-diagram : ℕ
-is-application-x-dia-diagram = 307
+is-application-x-dia-diagram = 309
 
 abbrev pub is-application-x-dia-shape : ℕ
-is-application-x-dia-shape = 308
+is-application-x-dia-shape = 310
 
 abbrev pub is-application-x-dictzip : ℕ
-is-application-x-dictzip = 309
+is-application-x-dictzip = 311
 
 abbrev pub is-application-x-dif : ℕ
-is-application-x-dif = 310
+is-application-x-dif = 312
 
 abbrev pub is-application-x-director : ℕ
-is-application-x-director = 311
+is-application-x-director = 313
 
 abbrev pub is-application-x-dmp : ℕ
-is-application-x-dmp = 312
+is-application-x-dmp = 314
 
 abbrev pub is-application-x-docbook-xml : ℕ
-is-application-x-docbook-xml = 313
+is-application-x-docbook-xml = 315
 
 abbrev pub is-application-x-doom-wad : ℕ
-is-application-x-doom-wad = 314
+is-application-x-doom-wad = 316
 
 abbrev pub is-application-x-drawio-xml : ℕ
-is-application-x-drawio-xml = 315
+is-application-x-drawio-xml = 317
 
 abbrev pub is-application-x-dtb : ℕ
-is-application-x-dtb = 316
+is-application-x-dtb = 318
 
 abbrev pub is-application-x-dtbncx-xml : ℕ
-is-application-x-dtbncx-xml = 317
+is-application-x-dtbncx-xml = 319
 
 abbrev pub is-application-x-dvi : ℕ
-is-application-x-dvi = 318
+is-application-x-dvi = 320
 
 abbrev pub is-application-x-eclipse-xml : ℕ
-is-application-x-eclipse-xml = 319
+is-application-x-eclipse-xml = 321
 
 abbrev pub is-application-x-edf : ℕ
-is-application-x-edf = 320
+is-application-x-edf = 322
+
+abbrev pub is-application-x-edid-dump : ℕ
+is-application-x-edid-dump = 323
 
 abbrev pub is-application-x-eet : ℕ
-is-application-x-eet = 321
+is-application-x-eet = 324
 
 abbrev pub is-application-x-egg : ℕ
-is-application-x-egg = 322
+is-application-x-egg = 325
 
 abbrev pub is-application-x-elc : ℕ
-is-application-x-elc = 323
+is-application-x-elc = 326
 
 abbrev pub is-application-x-emz : ℕ
-is-application-x-emz = 324
+is-application-x-emz = 327
 
 abbrev pub is-application-x-entitlements : ℕ
-is-application-x-entitlements = 325
+is-application-x-entitlements = 328
 
 abbrev pub is-application-x-erb : ℕ
-is-application-x-erb = 326
+is-application-x-erb = 329
 
 abbrev pub is-application-x-erlang-beam : ℕ
-is-application-x-erlang-beam = 327
+is-application-x-erlang-beam = 330
 
 abbrev pub is-application-x-executable-as-row-elf : ℕ
-is-application-x-executable-as-row-elf = 328
+is-application-x-executable-as-row-elf = 331
 
 abbrev pub is-application-x-executable-as-row-obj : ℕ
-is-application-x-executable-as-row-obj = 329
+is-application-x-executable-as-row-obj = 332
 
 abbrev pub is-application-x-ext-filesystem : ℕ
-is-application-x-ext-filesystem = 330
+is-application-x-ext-filesystem = 333
 
 abbrev pub is-application-x-fbx : ℕ
-is-application-x-fbx = 331
+is-application-x-fbx = 334
 
 abbrev pub is-application-x-fds-disk : ℕ
-is-application-x-fds-disk = 332
+is-application-x-fds-disk = 335
 
 abbrev pub is-application-x-fictionbook-xml : ℕ
-is-application-x-fictionbook-xml = 333
+is-application-x-fictionbook-xml = 336
 
 abbrev pub is-application-x-fishscript : ℕ
-is-application-x-fishscript = 334
+is-application-x-fishscript = 337
 
 abbrev pub is-application-x-flash-authoring : ℕ
-is-application-x-flash-authoring = 335
+is-application-x-flash-authoring = 338
 
 abbrev pub is-application-x-fluid : ℕ
-is-application-x-fluid = 336
+is-application-x-fluid = 339
 
 abbrev pub is-application-x-font-afm : ℕ
-is-application-x-font-afm = 337
+is-application-x-font-afm = 340
 
 abbrev pub is-application-x-font-bdf : ℕ
-is-application-x-font-bdf = 338
+is-application-x-font-bdf = 341
 
 abbrev pub is-application-x-font-linux-psf : ℕ
-is-application-x-font-linux-psf = 339
+is-application-x-font-linux-psf = 342
 
 abbrev pub is-application-x-font-pcf : ℕ
-is-application-x-font-pcf = 340
+is-application-x-font-pcf = 343
 
 abbrev pub is-application-x-font-pf2 : ℕ
-is-application-x-font-pf2 = 341
+is-application-x-font-pf2 = 344
 
 abbrev pub is-application-x-font-speedo : ℕ
-is-application-x-font-speedo = 342
+is-application-x-font-speedo = 345
 
 abbrev pub is-application-x-font-ttx : ℕ
-is-application-x-font-ttx = 343
+is-application-x-font-ttx = 346
 
 abbrev pub is-application-x-font-type1 : ℕ
-is-application-x-font-type1 = 344
+is-application-x-font-type1 = 347
 
 abbrev pub is-application-x-fontconfig-cache : ℕ
-is-application-x-fontconfig-cache = 345
+is-application-x-fontconfig-cache = 348
 
 abbrev pub is-application-x-freecad : ℕ
-is-application-x-freecad = 346
+is-application-x-freecad = 349
 
 abbrev pub is-application-x-freemind : ℕ
-is-application-x-freemind = 347
+is-application-x-freemind = 350
 
 abbrev pub is-application-x-g64-disk : ℕ
-is-application-x-g64-disk = 348
+is-application-x-g64-disk = 351
+
+abbrev pub is-application-x-gameboy-color-rom : ℕ
+is-application-x-gameboy-color-rom = 352
 
 abbrev pub is-application-x-gameboy-rom : ℕ
-is-application-x-gameboy-rom = 349
+is-application-x-gameboy-rom = 353
 
-abbrev pub is-application-x-gba-rom : ℕ
-is-application-x-gba-rom = 350
+abbrev pub is-application-x-gamecube-rom : ℕ
+is-application-x-gamecube-rom = 354
+
+abbrev pub is-application-x-gba-rom-as-known : ℕ
+is-application-x-gba-rom-as-known = 355
+
+abbrev pub is-application-x-gba-rom-as-row-gba : ℕ
+is-application-x-gba-rom-as-row-gba = 356
 
 abbrev pub is-application-x-gcc-pch : ℕ
-is-application-x-gcc-pch = 351
+is-application-x-gcc-pch = 357
 
 abbrev pub is-application-x-gconv-cache : ℕ
-is-application-x-gconv-cache = 352
+is-application-x-gconv-cache = 358
 
 abbrev pub is-application-x-gcov-data : ℕ
-is-application-x-gcov-data = 353
+is-application-x-gcov-data = 359
 
 abbrev pub is-application-x-gcov-notes : ℕ
-is-application-x-gcov-notes = 354
+is-application-x-gcov-notes = 360
 
 abbrev pub is-application-x-gdbm : ℕ
-is-application-x-gdbm = 355
+is-application-x-gdbm = 361
 
 abbrev pub is-application-x-gdf : ℕ
-is-application-x-gdf = 356
+is-application-x-gdf = 362
 
 abbrev pub is-application-x-gds : ℕ
-is-application-x-gds = 357
+is-application-x-gds = 363
 
 abbrev pub is-application-x-gdscript : ℕ
-is-application-x-gdscript = 358
+is-application-x-gdscript = 364
 
-abbrev pub is-application-x-genesis-rom : ℕ
-is-application-x-genesis-rom = 359
+abbrev pub is-application-x-genesis-32x-rom : ℕ
+is-application-x-genesis-32x-rom = 365
+
+abbrev pub is-application-x-genesis-rom-as-known : ℕ
+is-application-x-genesis-rom-as-known = 366
+
+abbrev pub is-application-x-genesis-rom-as-row-md : ℕ
+is-application-x-genesis-rom-as-row-md = 367
 
 abbrev pub is-application-x-gettext-translation : ℕ
-is-application-x-gettext-translation = 360
+is-application-x-gettext-translation = 368
 
 abbrev pub is-application-x-gguf : ℕ
-is-application-x-gguf = 361
+is-application-x-gguf = 369
+
+abbrev pub is-application-x-ghc-interface : ℕ
+is-application-x-ghc-interface = 370
 
 abbrev pub is-application-x-gir-xml : ℕ
-is-application-x-gir-xml = 362
+is-application-x-gir-xml = 371
 
 abbrev pub is-application-x-gir-typelib : ℕ
-is-application-x-gir-typelib = 363
+is-application-x-gir-typelib = 372
 
 abbrev pub is-application-x-git : ℕ
-is-application-x-git = 364
+is-application-x-git = 373
 
 abbrev pub is-application-x-git-bundle : ℕ
-is-application-x-git-bundle = 365
+is-application-x-git-bundle = 374
 
 abbrev pub is-application-x-git-index : ℕ
-is-application-x-git-index = 366
+is-application-x-git-index = 375
 
 abbrev pub is-application-x-git-pack-index : ℕ
-is-application-x-git-pack-index = 367
+is-application-x-git-pack-index = 376
 
 abbrev pub is-application-x-glade : ℕ
-is-application-x-glade = 368
+is-application-x-glade = 377
 
 abbrev pub is-application-x-glibc-locale-archive : ℕ
-is-application-x-glibc-locale-archive = 369
+is-application-x-glibc-locale-archive = 378
 
 abbrev pub is-application-x-glulx : ℕ
-is-application-x-glulx = 370
+is-application-x-glulx = 379
 
 abbrev pub is-application-x-gnucash : ℕ
-is-application-x-gnucash = 371
+is-application-x-gnucash = 380
 
 abbrev pub is-application-x-gnumeric : ℕ
-is-application-x-gnumeric = 372
+is-application-x-gnumeric = 381
+
+abbrev pub is-application-x-gnupg-keybox : ℕ
+is-application-x-gnupg-keybox = 382
 
 abbrev pub is-application-x-gnupg-trustdb : ℕ
-is-application-x-gnupg-trustdb = 373
+is-application-x-gnupg-trustdb = 383
 
 abbrev pub is-application-x-gnuplot : ℕ
-is-application-x-gnuplot = 374
+is-application-x-gnuplot = 384
 
 abbrev pub is-application-x-go-object : ℕ
-is-application-x-go-object = 375
+is-application-x-go-object = 385
 
 abbrev pub is-application-x-go-sgf : ℕ
-is-application-x-go-sgf = 376
+is-application-x-go-sgf = 386
 
 abbrev pub is-application-x-godot-package : ℕ
-is-application-x-godot-package = 377
+is-application-x-godot-package = 387
 
 abbrev pub is-application-x-godot-resource : ℕ
-is-application-x-godot-resource = 378
+is-application-x-godot-resource = 388
 
 abbrev pub is-application-x-godot-scene : ℕ
-is-application-x-godot-scene = 379
+is-application-x-godot-scene = 389
 
 abbrev pub is-application-x-google-chrome-extension : ℕ
-is-application-x-google-chrome-extension = 380
+is-application-x-google-chrome-extension = 390
 
 abbrev pub is-application-x-grib : ℕ
-is-application-x-grib = 381
+is-application-x-grib = 391
 
 abbrev pub is-application-x-grib2 : ℕ
-is-application-x-grib2 = 382
+is-application-x-grib2 = 392
 
 abbrev pub is-application-x-grub-keyboard : ℕ
-is-application-x-grub-keyboard = 383
+is-application-x-grub-keyboard = 393
 
 abbrev pub is-application-x-gschema-xml : ℕ
-is-application-x-gschema-xml = 384
+is-application-x-gschema-xml = 394
 
 abbrev pub is-application-x-gschema-compiled : ℕ
-is-application-x-gschema-compiled = 385
+is-application-x-gschema-compiled = 395
 
 abbrev pub is-application-x-gtk-builder : ℕ
-is-application-x-gtk-builder = 386
+is-application-x-gtk-builder = 396
 
 abbrev pub is-application-x-guitar-pro : ℕ
-is-application-x-guitar-pro = 387
+is-application-x-guitar-pro = 397
 
 abbrev pub is-application-x-gvdb : ℕ
-is-application-x-gvdb = 388
+is-application-x-gvdb = 398
 
 abbrev pub is-application-x-har-json : ℕ
-is-application-x-har-json = 389
+is-application-x-har-json = 399
 
 abbrev pub is-application-x-haskell-interface : ℕ
-is-application-x-haskell-interface = 390
+is-application-x-haskell-interface = 400
 
 abbrev pub is-application-x-hdf : ℕ
-is-application-x-hdf = 391
+is-application-x-hdf = 401
 
 abbrev pub is-application-x-hdf5 : ℕ
-is-application-x-hdf5 = 392
+is-application-x-hdf5 = 402
 
 abbrev pub is-application-x-hfe-floppy-image : ℕ
-is-application-x-hfe-floppy-image = 393
+is-application-x-hfe-floppy-image = 403
 
 abbrev pub is-application-x-hg-bundle : ℕ
-is-application-x-hg-bundle = 394
+is-application-x-hg-bundle = 404
 
 abbrev pub is-application-x-hwp : ℕ
-is-application-x-hwp = 395
+is-application-x-hwp = 405
 
 abbrev pub is-application-x-hwpx : ℕ
-is-application-x-hwpx = 396
+is-application-x-hwpx = 406
 
 abbrev pub is-application-x-hxml : ℕ
-is-application-x-hxml = 397
+is-application-x-hxml = 407
 
 abbrev pub is-application-x-ia-arc : ℕ
-is-application-x-ia-arc = 398
+is-application-x-ia-arc = 408
+
+abbrev pub is-application-x-icu-data : ℕ
+is-application-x-icu-data = 409
 
 abbrev pub is-application-x-iff : ℕ
-is-application-x-iff = 399
+is-application-x-iff = 410
 
 abbrev pub is-application-x-indesign : ℕ
-is-application-x-indesign = 400
+is-application-x-indesign = 411
 
 abbrev pub is-application-x-innodb : ℕ
-is-application-x-innodb = 401
+is-application-x-innodb = 412
 
 abbrev pub is-application-x-innosetup : ℕ
-is-application-x-innosetup = 402
+is-application-x-innosetup = 413
 
 abbrev pub is-application-x-intel-aml : ℕ
-is-application-x-intel-aml = 403
+is-application-x-intel-aml = 414
 
 abbrev pub is-application-x-intellij-xml : ℕ
-is-application-x-intellij-xml = 404
+is-application-x-intellij-xml = 415
 
 abbrev pub is-application-x-ios-app : ℕ
-is-application-x-ios-app = 405
+is-application-x-ios-app = 416
 
 abbrev pub is-application-x-ips-patch : ℕ
-is-application-x-ips-patch = 406
+is-application-x-ips-patch = 417
 
 abbrev pub is-application-x-ipynb-json : ℕ
-is-application-x-ipynb-json = 407
+is-application-x-ipynb-json = 418
 
 abbrev pub is-application-x-it87 : ℕ
-is-application-x-it87 = 408
+is-application-x-it87 = 419
 
 abbrev pub is-application-x-jasper-xml : ℕ
-is-application-x-jasper-xml = 409
+is-application-x-jasper-xml = 420
 
 abbrev pub is-application-x-java-enterprise-archive : ℕ
-is-application-x-java-enterprise-archive = 410
+is-application-x-java-enterprise-archive = 421
 
 abbrev pub is-application-x-java-flight-recording : ℕ
-is-application-x-java-flight-recording = 411
+is-application-x-java-flight-recording = 422
 
 abbrev pub is-application-x-java-hprof : ℕ
-is-application-x-java-hprof = 412
+is-application-x-java-hprof = 423
 
 abbrev pub is-application-x-java-image : ℕ
-is-application-x-java-image = 413
+is-application-x-java-image = 424
 
 abbrev pub is-application-x-java-jce-keystore : ℕ
-is-application-x-java-jce-keystore = 414
+is-application-x-java-jce-keystore = 425
 
 abbrev pub is-application-x-java-jmod : ℕ
-is-application-x-java-jmod = 415
+is-application-x-java-jmod = 426
 
 abbrev pub is-application-x-java-jnlp-file : ℕ
-is-application-x-java-jnlp-file = 416
+is-application-x-java-jnlp-file = 427
 
 abbrev pub is-application-x-java-keystore : ℕ
-is-application-x-java-keystore = 417
+is-application-x-java-keystore = 428
 
 abbrev pub is-application-x-java-pack200 : ℕ
-is-application-x-java-pack200 = 418
+is-application-x-java-pack200 = 429
 
 abbrev pub is-application-x-java-serialized-object : ℕ
-is-application-x-java-serialized-object = 419
+is-application-x-java-serialized-object = 430
 
 abbrev pub is-application-x-java-web-archive : ℕ
-is-application-x-java-web-archive = 420
+is-application-x-java-web-archive = 431
 
 abbrev pub is-application-x-jffs2 : ℕ
-is-application-x-jffs2 = 421
+is-application-x-jffs2 = 432
 
 abbrev pub is-application-x-jmeter-xml : ℕ
-is-application-x-jmeter-xml = 422
+is-application-x-jmeter-xml = 433
 
 abbrev pub is-application-x-jsa : ℕ
-is-application-x-jsa = 423
+is-application-x-jsa = 434
 
 abbrev pub is-application-x-jsonc : ℕ
-is-application-x-jsonc = 424
+is-application-x-jsonc = 435
 
 abbrev pub is-application-x-jsp : ℕ
-is-application-x-jsp = 425
+is-application-x-jsp = 436
 
 abbrev pub is-application-x-karbon : ℕ
-is-application-x-karbon = 426
+is-application-x-karbon = 437
 
 abbrev pub is-application-x-kchart : ℕ
-is-application-x-kchart = 427
+is-application-x-kchart = 438
 
 abbrev pub is-application-x-kdenlive : ℕ
-is-application-x-kdenlive = 428
+is-application-x-kdenlive = 439
 
 abbrev pub is-application-x-kdump : ℕ
-is-application-x-kdump = 429
+is-application-x-kdump = 440
 
 abbrev pub is-application-x-keepass : ℕ
-is-application-x-keepass = 430
+is-application-x-keepass = 441
 
 abbrev pub is-application-x-keepass2 : ℕ
-is-application-x-keepass2 = 431
+is-application-x-keepass2 = 442
 
 abbrev pub is-application-x-kerberos-keytab : ℕ
-is-application-x-kerberos-keytab = 432
+is-application-x-kerberos-keytab = 443
 
 abbrev pub is-application-x-kformula : ℕ
-is-application-x-kformula = 433
+is-application-x-kformula = 444
 
 abbrev pub is-application-x-killustrator : ℕ
-is-application-x-killustrator = 434
+is-application-x-killustrator = 445
 
 abbrev pub is-application-x-kivio : ℕ
-is-application-x-kivio = 435
+is-application-x-kivio = 446
 
 abbrev pub is-application-x-kontour : ℕ
-is-application-x-kontour = 436
+is-application-x-kontour = 447
 
 abbrev pub is-application-x-kpresenter : ℕ
-is-application-x-kpresenter = 437
+is-application-x-kpresenter = 448
 
 abbrev pub is-application-x-krita : ℕ
-is-application-x-krita = 438
+is-application-x-krita = 449
 
 abbrev pub is-application-x-ksh : ℕ
-is-application-x-ksh = 439
+is-application-x-ksh = 450
 
 abbrev pub is-application-x-kspread : ℕ
-is-application-x-kspread = 440
+is-application-x-kspread = 451
 
 abbrev pub is-application-x-kword : ℕ
-is-application-x-kword = 441
+is-application-x-kword = 452
 
 abbrev pub is-application-x-ld-so-cache : ℕ
-is-application-x-ld-so-cache = 442
+is-application-x-ld-so-cache = 453
 
 abbrev pub is-application-x-ldml-xml : ℕ
-is-application-x-ldml-xml = 443
+is-application-x-ldml-xml = 454
 
 abbrev pub is-application-x-leveldb-table : ℕ
-is-application-x-leveldb-table = 444
+is-application-x-leveldb-table = 455
 
-abbrev pub is-application-x-linux-kernel : ℕ
-is-application-x-linux-kernel = 445
+abbrev pub is-application-x-linux-kernel-as-row-bzimage : ℕ
+is-application-x-linux-kernel-as-row-bzimage = 456
+
+abbrev pub is-application-x-linux-kernel-as-row-zimage : ℕ
+is-application-x-linux-kernel-as-row-zimage = 457
 
 abbrev pub is-application-x-llvm : ℕ
-is-application-x-llvm = 446
+is-application-x-llvm = 458
 
 abbrev pub is-application-x-llvm-profdata : ℕ
-is-application-x-llvm-profdata = 447
+is-application-x-llvm-profdata = 459
 
 abbrev pub is-application-x-llvm-profraw : ℕ
-is-application-x-llvm-profraw = 448
+is-application-x-llvm-profraw = 460
+
+abbrev pub is-application-x-lmdb : ℕ
+is-application-x-lmdb = 461
 
 abbrev pub is-application-x-locale-archive : ℕ
-is-application-x-locale-archive = 449
+is-application-x-locale-archive = 462
+
+abbrev pub is-application-x-locate-database : ℕ
+is-application-x-locate-database = 463
 
 abbrev pub is-application-x-lottie-json : ℕ
-is-application-x-lottie-json = 450
+is-application-x-lottie-json = 464
 
 abbrev pub is-application-x-lrzip : ℕ
-is-application-x-lrzip = 451
+is-application-x-lrzip = 465
 
 abbrev pub is-application-x-lua-bytecode : ℕ
-is-application-x-lua-bytecode = 452
+is-application-x-lua-bytecode = 466
 
 abbrev pub is-application-x-luks : ℕ
-is-application-x-luks = 453
+is-application-x-luks = 467
 
 abbrev pub is-application-x-lyx : ℕ
-is-application-x-lyx = 454
+is-application-x-lyx = 468
 
 abbrev pub is-application-x-lz4 : ℕ
-is-application-x-lz4 = 455
+is-application-x-lz4 = 469
 
 abbrev pub is-application-x-lz4-json : ℕ
-is-application-x-lz4-json = 456
+is-application-x-lz4-json = 470
 
 abbrev pub is-application-x-lz4-compressed-tar : ℕ
-is-application-x-lz4-compressed-tar = 457
+is-application-x-lz4-compressed-tar = 471
 
 abbrev pub is-application-x-lzfse : ℕ
-is-application-x-lzfse = 458
+is-application-x-lzfse = 472
 
 abbrev pub is-application-x-lzh-compressed : ℕ
-is-application-x-lzh-compressed = 459
+is-application-x-lzh-compressed = 473
 
 abbrev pub is-application-x-lzip : ℕ
-is-application-x-lzip = 460
+is-application-x-lzip = 474
 
 abbrev pub is-application-x-lzip-compressed-tar : ℕ
-is-application-x-lzip-compressed-tar = 461
+is-application-x-lzip-compressed-tar = 475
 
 abbrev pub is-application-x-lzma : ℕ
-is-application-x-lzma = 462
+is-application-x-lzma = 476
 
 abbrev pub is-application-x-lzma-compressed-tar : ℕ
-is-application-x-lzma-compressed-tar = 463
+is-application-x-lzma-compressed-tar = 477
 
 abbrev pub is-application-x-lzop : ℕ
-is-application-x-lzop = 464
+is-application-x-lzop = 478
 
 abbrev pub is-application-x-m4 : ℕ
-is-application-x-m4 = 465
+is-application-x-m4 = 479
+
+abbrev pub is-application-x-macbinary : ℕ
+is-application-x-macbinary = 480
 
 abbrev pub is-application-x-mach-binary : ℕ
-is-application-x-mach-binary = 466
+is-application-x-mach-binary = 481
 
 abbrev pub is-application-x-magic-database : ℕ
-is-application-x-magic-database = 467
+is-application-x-magic-database = 482
 
 abbrev pub is-application-x-mame-chd : ℕ
-is-application-x-mame-chd = 468
+is-application-x-mame-chd = 483
 
 abbrev pub is-application-x-matlab-data : ℕ
-is-application-x-matlab-data = 469
+is-application-x-matlab-data = 484
 
 abbrev pub is-application-x-maxis-dbpf : ℕ
-is-application-x-maxis-dbpf = 470
+is-application-x-maxis-dbpf = 485
 
 abbrev pub is-application-x-maya-binary : ℕ
-is-application-x-maya-binary = 471
+is-application-x-maya-binary = 486
 
 abbrev pub is-application-x-mimecache : ℕ
-is-application-x-mimecache = 472
+is-application-x-mimecache = 487
 
 abbrev pub is-application-x-minecraft-world : ℕ
-is-application-x-minecraft-world = 473
+is-application-x-minecraft-world = 488
 
 abbrev pub is-application-x-minisign : ℕ
-is-application-x-minisign = 474
+is-application-x-minisign = 489
 
 abbrev pub is-application-x-mobipocket-ebook : ℕ
-is-application-x-mobipocket-ebook = 475
+is-application-x-mobipocket-ebook = 490
 
 abbrev pub is-application-x-monotone-database : ℕ
-is-application-x-monotone-database = 476
+is-application-x-monotone-database = 491
 
 abbrev pub is-application-x-mpq : ℕ
-is-application-x-mpq = 477
+is-application-x-mpq = 492
 
 abbrev pub is-application-x-ms-compress-kwaj : ℕ
-is-application-x-ms-compress-kwaj = 478
+is-application-x-ms-compress-kwaj = 493
 
 abbrev pub is-application-x-ms-compress-szdd : ℕ
-is-application-x-ms-compress-szdd = 479
+is-application-x-ms-compress-szdd = 494
 
 abbrev pub is-application-x-ms-crash-dump : ℕ
-is-application-x-ms-crash-dump = 480
+is-application-x-ms-crash-dump = 495
 
 abbrev pub is-application-x-ms-evtx : ℕ
-is-application-x-ms-evtx = 481
+is-application-x-ms-evtx = 496
 
 abbrev pub is-application-x-ms-pdb : ℕ
-is-application-x-ms-pdb = 482
+is-application-x-ms-pdb = 497
 
 abbrev pub is-application-x-ms-reader : ℕ
-is-application-x-ms-reader = 483
+is-application-x-ms-reader = 498
 
 abbrev pub is-application-x-ms-registry : ℕ
-is-application-x-ms-registry = 484
+is-application-x-ms-registry = 499
 
 abbrev pub is-application-x-ms-registry-hive : ℕ
-is-application-x-ms-registry-hive = 485
+is-application-x-ms-registry-hive = 500
+
+abbrev pub is-application-x-ms-resource : ℕ
+is-application-x-ms-resource = 501
+
+abbrev pub is-application-x-ms-sdb : ℕ
+is-application-x-ms-sdb = 502
 
 abbrev pub is-application-x-ms-sdi : ℕ
-is-application-x-ms-sdi = 486
+is-application-x-ms-sdi = 503
 
 abbrev pub is-application-x-ms-shortcut : ℕ
-is-application-x-ms-shortcut = 487
+is-application-x-ms-shortcut = 504
 
 abbrev pub is-application-x-ms-wim : ℕ
-is-application-x-ms-wim = 488
+is-application-x-ms-wim = 505
 
 abbrev pub is-application-x-msaccess-as-row-accdb : ℕ
-is-application-x-msaccess-as-row-accdb = 489
+is-application-x-msaccess-as-row-accdb = 506
 
 abbrev pub is-application-x-msaccess-as-row-mdb : ℕ
-is-application-x-msaccess-as-row-mdb = 490
+is-application-x-msaccess-as-row-mdb = 507
 
 abbrev pub is-application-x-msbuild-xml : ℕ
-is-application-x-msbuild-xml = 491
+is-application-x-msbuild-xml = 508
 
 abbrev pub is-application-x-msi : ℕ
-is-application-x-msi = 492
+is-application-x-msi = 509
 
 abbrev pub is-application-x-mswinurl : ℕ
-is-application-x-mswinurl = 493
+is-application-x-mswinurl = 510
 
 abbrev pub is-application-x-mswrite : ℕ
-is-application-x-mswrite = 494
+is-application-x-mswrite = 511
 
 abbrev pub is-application-x-musescore : ℕ
-is-application-x-musescore = 495
+is-application-x-musescore = 512
 
 abbrev pub is-application-x-musescore-xml : ℕ
-is-application-x-musescore-xml = 496
+is-application-x-musescore-xml = 513
 
 abbrev pub is-application-x-mxml : ℕ
-is-application-x-mxml = 497
+is-application-x-mxml = 514
 
 abbrev pub is-application-x-mysql-myisam : ℕ
-is-application-x-mysql-myisam = 498
+is-application-x-mysql-myisam = 515
 
 abbrev pub is-application-x-n64-rom : ℕ
-is-application-x-n64-rom = 499
+is-application-x-n64-rom = 516
 
 abbrev pub is-application-x-natvis-xml : ℕ
-is-application-x-natvis-xml = 500
+is-application-x-natvis-xml = 517
 
 abbrev pub is-application-x-navi-animation : ℕ
-is-application-x-navi-animation = 501
+is-application-x-navi-animation = 518
 
 abbrev pub is-application-x-ndjson : ℕ
-is-application-x-ndjson = 502
+is-application-x-ndjson = 519
 
 abbrev pub is-application-x-nekovm-bytecode : ℕ
-is-application-x-nekovm-bytecode = 503
+is-application-x-nekovm-bytecode = 520
+
+abbrev pub is-application-x-neo-geo-pocket-color-rom : ℕ
+is-application-x-neo-geo-pocket-color-rom = 521
+
+abbrev pub is-application-x-neo-geo-pocket-rom : ℕ
+is-application-x-neo-geo-pocket-rom = 522
 
 abbrev pub is-application-x-netcdf : ℕ
-is-application-x-netcdf = 504
+is-application-x-netcdf = 523
 
 abbrev pub is-application-x-netmon : ℕ
-is-application-x-netmon = 505
+is-application-x-netmon = 524
 
 abbrev pub is-application-x-netshow-channel : ℕ
-is-application-x-netshow-channel = 506
+is-application-x-netshow-channel = 525
 
 abbrev pub is-application-x-nintendo-3ds-executable : ℕ
-is-application-x-nintendo-3ds-executable = 507
+is-application-x-nintendo-3ds-executable = 526
+
+abbrev pub is-application-x-nintendo-3ds-rom : ℕ
+is-application-x-nintendo-3ds-rom = 527
+
+abbrev pub is-application-x-nintendo-ds-rom : ℕ
+is-application-x-nintendo-ds-rom = 528
+
+abbrev pub is-application-x-nintendo-ncch : ℕ
+is-application-x-nintendo-ncch = 529
 
 abbrev pub is-application-x-nintendo-nes-rom : ℕ
-is-application-x-nintendo-nes-rom = 508
+is-application-x-nintendo-nes-rom = 530
 
 abbrev pub is-application-x-nintendo-nso : ℕ
-is-application-x-nintendo-nso = 509
+is-application-x-nintendo-nso = 531
 
 abbrev pub is-application-x-npy : ℕ
-is-application-x-npy = 510
+is-application-x-npy = 532
 
 abbrev pub is-application-x-npz : ℕ
-is-application-x-npz = 511
+is-application-x-npz = 533
 
 abbrev pub is-application-x-nuget-package : ℕ
-is-application-x-nuget-package = 512
+is-application-x-nuget-package = 534
 
 abbrev pub is-application-x-nuspec-xml : ℕ
-is-application-x-nuspec-xml = 513
+is-application-x-nuspec-xml = 535
 
 abbrev pub is-application-x-nzb : ℕ
-is-application-x-nzb = 514
+is-application-x-nzb = 536
 
 abbrev pub is-application-x-object : ℕ
-is-application-x-object = 515
+is-application-x-object = 537
 
 abbrev pub is-application-x-ocaml-cma : ℕ
-is-application-x-ocaml-cma = 516
+is-application-x-ocaml-cma = 538
 
 abbrev pub is-application-x-ocaml-cmi : ℕ
-is-application-x-ocaml-cmi = 517
+is-application-x-ocaml-cmi = 539
 
 abbrev pub is-application-x-ocaml-cmo : ℕ
-is-application-x-ocaml-cmo = 518
+is-application-x-ocaml-cmo = 540
 
 abbrev pub is-application-x-ocaml-cmt : ℕ
-is-application-x-ocaml-cmt = 519
+is-application-x-ocaml-cmt = 541
 
 abbrev pub is-application-x-ocaml-cmx : ℕ
-is-application-x-ocaml-cmx = 520
+is-application-x-ocaml-cmx = 542
 
 abbrev pub is-application-x-ocaml-cmxa : ℕ
-is-application-x-ocaml-cmxa = 521
+is-application-x-ocaml-cmxa = 543
 
 abbrev pub is-application-x-openssh-private-key : ℕ
-is-application-x-openssh-private-key = 522
+is-application-x-openssh-private-key = 544
 
 abbrev pub is-application-x-openssl-encrypted : ℕ
-is-application-x-openssl-encrypted = 523
+is-application-x-openssl-encrypted = 545
 
 abbrev pub is-application-x-openzim : ℕ
-is-application-x-openzim = 524
+is-application-x-openzim = 546
 
 abbrev pub is-application-x-orc : ℕ
-is-application-x-orc = 525
+is-application-x-orc = 547
 
 abbrev pub is-application-x-os2-hlp : ℕ
-is-application-x-os2-hlp = 526
+is-application-x-os2-hlp = 548
 
 abbrev pub is-application-x-os2-inf : ℕ
-is-application-x-os2-inf = 527
+is-application-x-os2-inf = 549
 
 abbrev pub is-application-x-os2-msg : ℕ
-is-application-x-os2-msg = 528
+is-application-x-os2-msg = 550
 
 abbrev pub is-application-x-osm-pbf : ℕ
-is-application-x-osm-pbf = 529
+is-application-x-osm-pbf = 551
 
 abbrev pub is-application-x-ova : ℕ
-is-application-x-ova = 530
+is-application-x-ova = 552
 
 abbrev pub is-application-x-pak : ℕ
-is-application-x-pak = 531
+is-application-x-pak = 553
 
 abbrev pub is-application-x-par : ℕ
-is-application-x-par = 532
+is-application-x-par = 554
 
 abbrev pub is-application-x-par2 : ℕ
-is-application-x-par2 = 533
+is-application-x-par2 = 555
 
 abbrev pub is-application-x-parallels-disk : ℕ
-is-application-x-parallels-disk = 534
+is-application-x-parallels-disk = 556
 
 abbrev pub is-application-x-pascal-resource-strings-json : ℕ
-is-application-x-pascal-resource-strings-json = 535
+is-application-x-pascal-resource-strings-json = 557
 
 abbrev pub is-application-x-pascal-unit : ℕ
-is-application-x-pascal-unit = 536
+is-application-x-pascal-unit = 558
 
 abbrev pub is-application-x-pcapng : ℕ
-is-application-x-pcapng = 537
+is-application-x-pcapng = 559
 
 abbrev pub is-application-x-pef-executable : ℕ
-is-application-x-pef-executable = 538
+is-application-x-pef-executable = 560
 
 abbrev pub is-application-x-pem-key : ℕ
-is-application-x-pem-key = 539
+is-application-x-pem-key = 561
 
 abbrev pub is-application-x-perf-data : ℕ
-is-application-x-perf-data = 540
+is-application-x-perf-data = 562
 
 abbrev pub is-application-x-phylip : ℕ
-is-application-x-phylip = 541
+is-application-x-phylip = 563
 
 abbrev pub is-application-x-plist : ℕ
-is-application-x-plist = 542
+is-application-x-plist = 564
 
 abbrev pub is-application-x-ply : ℕ
-is-application-x-ply = 543
+is-application-x-ply = 565
 
 abbrev pub is-application-x-pocket-word : ℕ
-is-application-x-pocket-word = 544
+is-application-x-pocket-word = 566
 
 abbrev pub is-application-x-postgresql-dump : ℕ
-is-application-x-postgresql-dump = 545
+is-application-x-postgresql-dump = 567
 
 abbrev pub is-application-x-pov : ℕ
-is-application-x-pov = 546
+is-application-x-pov = 568
 
 abbrev pub is-application-x-powershell : ℕ
-is-application-x-powershell = 547
+is-application-x-powershell = 569
 
 abbrev pub is-application-x-ppf-patch : ℕ
-is-application-x-ppf-patch = 548
+is-application-x-ppf-patch = 570
 
 abbrev pub is-application-x-ps1xml : ℕ
-is-application-x-ps1xml = 549
+is-application-x-ps1xml = 571
 
 abbrev pub is-application-x-psx-executable : ℕ
-is-application-x-psx-executable = 550
+is-application-x-psx-executable = 572
 
 abbrev pub is-application-x-putty-private-key : ℕ
-is-application-x-putty-private-key = 551
+is-application-x-putty-private-key = 573
 
 abbrev pub is-application-x-pyspread-spreadsheet : ℕ
-is-application-x-pyspread-spreadsheet = 552
+is-application-x-pyspread-spreadsheet = 574
 
 abbrev pub is-application-x-python-bytecode : ℕ
-is-application-x-python-bytecode = 553
+is-application-x-python-bytecode = 575
 
 abbrev pub is-application-x-python-pickle : ℕ
-is-application-x-python-pickle = 554
+is-application-x-python-pickle = 576
 
 abbrev pub is-application-x-python-zipapp : ℕ
-is-application-x-python-zipapp = 555
+is-application-x-python-zipapp = 577
 
 abbrev pub is-application-x-pytorch : ℕ
-is-application-x-pytorch = 556
+is-application-x-pytorch = 578
 
 abbrev pub is-application-x-qed-disk : ℕ
-is-application-x-qed-disk = 557
+is-application-x-qed-disk = 579
 
 abbrev pub is-application-x-qemu-disk : ℕ
-is-application-x-qemu-disk = 558
+is-application-x-qemu-disk = 580
 
 abbrev pub is-application-x-qgis-project-as-own : ℕ
-is-application-x-qgis-project-as-own = 559
+is-application-x-qgis-project-as-own = 581
 
 abbrev pub is-application-x-qgis-project-as-row-qgz : ℕ
-is-application-x-qgis-project-as-row-qgz = 560
+is-application-x-qgis-project-as-row-qgz = 582
 
 abbrev pub is-application-x-qpress : ℕ
-is-application-x-qpress = 561
+is-application-x-qpress = 583
 
 abbrev pub is-application-x-qt-resource : ℕ
-is-application-x-qt-resource = 562
+is-application-x-qt-resource = 584
 
 abbrev pub is-application-x-qtiplot : ℕ
-is-application-x-qtiplot = 563
+is-application-x-qtiplot = 585
 
 abbrev pub is-application-x-quake-bsp : ℕ
-is-application-x-quake-bsp = 564
+is-application-x-quake-bsp = 586
 
 abbrev pub is-application-x-quake-model : ℕ
-is-application-x-quake-model = 565
+is-application-x-quake-model = 587
 
 abbrev pub is-application-x-quattropro : ℕ
-is-application-x-quattropro = 566
+is-application-x-quattropro = 588
 
 abbrev pub is-application-x-quicktime-media-link : ℕ
-is-application-x-quicktime-media-link = 567
+is-application-x-quicktime-media-link = 589
 
 abbrev pub is-application-x-r-data : ℕ
-is-application-x-r-data = 568
+is-application-x-r-data = 590
 
 abbrev pub is-application-x-raw-disk-image : ℕ
-is-application-x-raw-disk-image = 569
+is-application-x-raw-disk-image = 591
 
 abbrev pub is-application-x-redis-dump : ℕ
-is-application-x-redis-dump = 570
+is-application-x-redis-dump = 592
 
 abbrev pub is-application-x-resx-xml : ℕ
-is-application-x-resx-xml = 571
+is-application-x-resx-xml = 593
 
 abbrev pub is-application-x-rhino : ℕ
-is-application-x-rhino = 572
+is-application-x-rhino = 594
 
 abbrev pub is-application-x-romfs : ℕ
-is-application-x-romfs = 573
+is-application-x-romfs = 595
 
 abbrev pub is-application-x-rpm : ℕ
-is-application-x-rpm = 574
+is-application-x-rpm = 596
 
 abbrev pub is-application-x-rrd : ℕ
-is-application-x-rrd = 575
+is-application-x-rrd = 597
 
 abbrev pub is-application-x-ruby-gem : ℕ
-is-application-x-ruby-gem = 576
+is-application-x-ruby-gem = 598
 
 abbrev pub is-application-x-rust-metadata : ℕ
-is-application-x-rust-metadata = 577
+is-application-x-rust-metadata = 599
 
 abbrev pub is-application-x-rust-rlib : ℕ
-is-application-x-rust-rlib = 578
+is-application-x-rust-rlib = 600
 
 abbrev pub is-application-x-rzip : ℕ
-is-application-x-rzip = 579
+is-application-x-rzip = 601
 
 abbrev pub is-application-x-safetensors : ℕ
-is-application-x-safetensors = 580
+is-application-x-safetensors = 602
 
 abbrev pub is-application-x-sami : ℕ
-is-application-x-sami = 581
+is-application-x-sami = 603
 
 abbrev pub is-application-x-sas-data : ℕ
-is-application-x-sas-data = 582
+is-application-x-sas-data = 604
 
 abbrev pub is-application-x-scf : ℕ
-is-application-x-scf = 583
+is-application-x-scf = 605
 
 abbrev pub is-application-x-schematron-xml : ℕ
-is-application-x-schematron-xml = 584
+is-application-x-schematron-xml = 606
 
 abbrev pub is-application-x-scxml-xml : ℕ
-is-application-x-scxml-xml = 585
+is-application-x-scxml-xml = 607
 
 abbrev pub is-application-x-setupscript : ℕ
-is-application-x-setupscript = 586
+is-application-x-setupscript = 608
 
 abbrev pub is-application-x-shapefile-index : ℕ
-is-application-x-shapefile-index = 587
+is-application-x-shapefile-index = 609
 
 abbrev pub is-application-x-shared-library-la : ℕ
-is-application-x-shared-library-la = 588
+is-application-x-shared-library-la = 610
 
 abbrev pub is-application-x-sharedlib : ℕ
-is-application-x-sharedlib = 589
+is-application-x-sharedlib = 611
 
 abbrev pub is-application-x-shockwave-flash : ℕ
-is-application-x-shockwave-flash = 590
+is-application-x-shockwave-flash = 612
 
 abbrev pub is-application-x-shorten : ℕ
-is-application-x-shorten = 591
+is-application-x-shorten = 613
 
 abbrev pub is-application-x-silverlight-app : ℕ
-is-application-x-silverlight-app = 592
+is-application-x-silverlight-app = 614
 
 abbrev pub is-application-x-sketch : ℕ
-is-application-x-sketch = 593
+is-application-x-sketch = 615
 
 abbrev pub is-application-x-sketchup : ℕ
-is-application-x-sketchup = 594
+is-application-x-sketchup = 616
 
 abbrev pub is-application-x-snappy-framed : ℕ
-is-application-x-snappy-framed = 595
+is-application-x-snappy-framed = 617
 
 abbrev pub is-application-x-snoop : ℕ
-is-application-x-snoop = 596
+is-application-x-snoop = 618
 
 abbrev pub is-application-x-sony-bbeb : ℕ
-is-application-x-sony-bbeb = 597
+is-application-x-sony-bbeb = 619
 
 abbrev pub is-application-x-source-rpm : ℕ
-is-application-x-source-rpm = 598
+is-application-x-source-rpm = 620
 
 abbrev pub is-application-x-spectrum-szx : ℕ
-is-application-x-spectrum-szx = 599
+is-application-x-spectrum-szx = 621
 
 abbrev pub is-application-x-spectrum-tzx : ℕ
-is-application-x-spectrum-tzx = 600
+is-application-x-spectrum-tzx = 622
 
 abbrev pub is-application-x-spirv : ℕ
-is-application-x-spirv = 601
+is-application-x-spirv = 623
+
+abbrev pub is-application-x-spss-por : ℕ
+is-application-x-spss-por = 624
 
 abbrev pub is-application-x-spss-sav : ℕ
-is-application-x-spss-sav = 602
+is-application-x-spss-sav = 625
 
 abbrev pub is-application-x-sqlite2 : ℕ
-is-application-x-sqlite2 = 603
+is-application-x-sqlite2 = 626
 
 abbrev pub is-application-x-ssh-public-key : ℕ
-is-application-x-ssh-public-key = 604
+is-application-x-ssh-public-key = 627
 
 abbrev pub is-application-x-ssh1-private-key : ℕ
-is-application-x-ssh1-private-key = 605
+is-application-x-ssh1-private-key = 628
 
 abbrev pub is-application-x-stata-dta : ℕ
-is-application-x-stata-dta = 606
+is-application-x-stata-dta = 629
 
 abbrev pub is-application-x-storyboard-xml : ℕ
-is-application-x-storyboard-xml = 607
+is-application-x-storyboard-xml = 630
 
 abbrev pub is-application-x-stuffit : ℕ
-is-application-x-stuffit = 608
+is-application-x-stuffit = 631
 
 abbrev pub is-application-x-sublime-syntax : ℕ
-is-application-x-sublime-syntax = 609
+is-application-x-sublime-syntax = 632
 
 abbrev pub is-application-x-subrip : ℕ
-is-application-x-subrip = 610
+is-application-x-subrip = 633
 
 abbrev pub is-application-x-supercollider-synthdef : ℕ
-is-application-x-supercollider-synthdef = 611
+is-application-x-supercollider-synthdef = 634
 
 abbrev pub is-application-x-svn-dump : ℕ
-is-application-x-svn-dump = 612
+is-application-x-svn-dump = 635
 
 abbrev pub is-application-x-svr4-package : ℕ
-is-application-x-svr4-package = 613
+is-application-x-svr4-package = 636
 
 abbrev pub is-application-x-swiftmodule : ℕ
-is-application-x-swiftmodule = 614
+is-application-x-swiftmodule = 637
 
 abbrev pub is-application-x-systemd-journal : ℕ
-is-application-x-systemd-journal = 615
+is-application-x-systemd-journal = 638
 
 abbrev pub is-application-x-t602 : ℕ
-is-application-x-t602 = 616
+is-application-x-t602 = 639
 
 abbrev pub is-application-x-tabix : ℕ
-is-application-x-tabix = 617
+is-application-x-tabix = 640
 
 abbrev pub is-application-x-tar : ℕ
-is-application-x-tar = 618
+is-application-x-tar = 641
 
 abbrev pub is-application-x-tarz : ℕ
-is-application-x-tarz = 619
+is-application-x-tarz = 642
 
 abbrev pub is-application-x-tdb : ℕ
-is-application-x-tdb = 620
+is-application-x-tdb = 643
 
 abbrev pub is-application-x-terminfo : ℕ
-is-application-x-terminfo = 621
+is-application-x-terminfo = 644
 
 abbrev pub is-application-x-terraform-state-json : ℕ
-is-application-x-terraform-state-json = 622
+is-application-x-terraform-state-json = 645
 
 abbrev pub is-application-x-tex-pk : ℕ
-is-application-x-tex-pk = 623
+is-application-x-tex-pk = 646
 
 abbrev pub is-application-x-tex-tfm : ℕ
-is-application-x-tex-tfm = 624
+is-application-x-tex-tfm = 647
 
 abbrev pub is-application-x-tflite : ℕ
-is-application-x-tflite = 625
+is-application-x-tflite = 648
 
 abbrev pub is-application-x-tgif : ℕ
-is-application-x-tgif = 626
+is-application-x-tgif = 649
 
 abbrev pub is-application-x-theme : ℕ
-is-application-x-theme = 627
+is-application-x-theme = 650
 
 abbrev pub is-application-x-theme-xml : ℕ
-is-application-x-theme-xml = 628
+is-application-x-theme-xml = 651
+
+abbrev pub is-application-x-thomson-sap-image : ℕ
+is-application-x-thomson-sap-image = 652
 
 abbrev pub is-application-x-thumbs-db : ℕ
-is-application-x-thumbs-db = 629
+is-application-x-thumbs-db = 653
 
 abbrev pub is-application-x-tmx-xml : ℕ
-is-application-x-tmx-xml = 630
+is-application-x-tmx-xml = 654
 
 abbrev pub is-application-x-tokyocabinet-btree : ℕ
-is-application-x-tokyocabinet-btree = 631
+is-application-x-tokyocabinet-btree = 655
 
 abbrev pub is-application-x-tokyocabinet-fixed : ℕ
-is-application-x-tokyocabinet-fixed = 632
+is-application-x-tokyocabinet-fixed = 656
 
 abbrev pub is-application-x-tokyocabinet-hash : ℕ
-is-application-x-tokyocabinet-hash = 633
+is-application-x-tokyocabinet-hash = 657
 
 abbrev pub is-application-x-tokyocabinet-table : ℕ
-is-application-x-tokyocabinet-table = 634
+is-application-x-tokyocabinet-table = 658
 
 abbrev pub is-application-x-trid-trd : ℕ
-is-application-x-trid-trd = 635
+is-application-x-trid-trd = 659
 
 abbrev pub is-application-x-ubi : ℕ
-is-application-x-ubi = 636
+is-application-x-ubi = 660
 
 abbrev pub is-application-x-ubifs : ℕ
-is-application-x-ubifs = 637
+is-application-x-ubifs = 661
 
 abbrev pub is-application-x-uf2 : ℕ
-is-application-x-uf2 = 638
+is-application-x-uf2 = 662
 
 abbrev pub is-application-x-uimage : ℕ
-is-application-x-uimage = 639
+is-application-x-uimage = 663
 
 abbrev pub is-application-x-unity-asmdef-json : ℕ
-is-application-x-unity-asmdef-json = 640
+is-application-x-unity-asmdef-json = 664
 
 abbrev pub is-application-x-unity-asset : ℕ
-is-application-x-unity-asset = 641
+is-application-x-unity-asset = 665
 
 abbrev pub is-application-x-unix-archive : ℕ
-is-application-x-unix-archive = 642
+is-application-x-unix-archive = 666
 
 abbrev pub is-application-x-unreal-package : ℕ
-is-application-x-unreal-package = 643
+is-application-x-unreal-package = 667
 
 abbrev pub is-application-x-uproject-json : ℕ
-is-application-x-uproject-json = 644
+is-application-x-uproject-json = 668
 
 abbrev pub is-application-x-ups-patch : ℕ
-is-application-x-ups-patch = 645
+is-application-x-ups-patch = 669
 
 abbrev pub is-application-x-urdf-xml : ℕ
-is-application-x-urdf-xml = 646
+is-application-x-urdf-xml = 670
 
 abbrev pub is-application-x-usdc : ℕ
-is-application-x-usdc = 647
+is-application-x-usdc = 671
 
 abbrev pub is-application-x-usdz : ℕ
-is-application-x-usdz = 648
+is-application-x-usdz = 672
 
 abbrev pub is-application-x-valve-pak : ℕ
-is-application-x-valve-pak = 649
+is-application-x-valve-pak = 673
 
 abbrev pub is-application-x-vcdiff : ℕ
-is-application-x-vcdiff = 650
+is-application-x-vcdiff = 674
 
 abbrev pub is-application-x-vdi-disk : ℕ
-is-application-x-vdi-disk = 651
+is-application-x-vdi-disk = 675
 
 abbrev pub is-application-x-vhd-disk : ℕ
-is-application-x-vhd-disk = 652
+is-application-x-vhd-disk = 676
 
 abbrev pub is-application-x-vhdx-disk : ℕ
-is-application-x-vhdx-disk = 653
+is-application-x-vhdx-disk = 677
 
 abbrev pub is-application-x-vim-spell : ℕ
-is-application-x-vim-spell = 654
+is-application-x-vim-spell = 678
 
 abbrev pub is-application-x-vim-swap : ℕ
-is-application-x-vim-swap = 655
+is-application-x-vim-swap = 679
 
 abbrev pub is-application-x-virtualbox-saved-state : ℕ
-is-application-x-virtualbox-saved-state = 656
+is-application-x-virtualbox-saved-state = 680
 
 abbrev pub is-application-x-vmdk-disk : ℕ
-is-application-x-vmdk-disk = 657
+is-application-x-vmdk-disk = 681
 
 abbrev pub is-application-x-wheel-zip : ℕ
-is-application-x-wheel-zip = 658
+is-application-x-wheel-zip = 682
 
-abbrev pub is-application-x-wii-rom : ℕ
-is-application-x-wii-rom = 659
+abbrev pub is-application-x-wii-rom-as-row-rvz : ℕ
+is-application-x-wii-rom-as-row-rvz = 683
+
+abbrev pub is-application-x-wii-rom-as-row-wbfs : ℕ
+is-application-x-wii-rom-as-row-wbfs = 684
 
 abbrev pub is-application-x-wii-wad : ℕ
-is-application-x-wii-wad = 660
+is-application-x-wii-wad = 685
 
 abbrev pub is-application-x-windows-dump : ℕ
-is-application-x-windows-dump = 661
+is-application-x-windows-dump = 686
 
 abbrev pub is-application-x-wix-xml : ℕ
-is-application-x-wix-xml = 662
+is-application-x-wix-xml = 687
 
 abbrev pub is-application-x-wmz : ℕ
-is-application-x-wmz = 663
+is-application-x-wmz = 688
 
 abbrev pub is-application-x-wordperfect-wpm : ℕ
-is-application-x-wordperfect-wpm = 664
+is-application-x-wordperfect-wpm = 689
 
 abbrev pub is-application-x-x509-ca-cert-as-known : ℕ
-is-application-x-x509-ca-cert-as-known = 665
+is-application-x-x509-ca-cert-as-known = 690
 
 abbrev pub is-application-x-x509-ca-cert-as-row-der : ℕ
-is-application-x-x509-ca-cert-as-row-der = 666
+is-application-x-x509-ca-cert-as-row-der = 691
 
 abbrev pub is-application-x-x509-ca-cert-as-row-pem : ℕ
-is-application-x-x509-ca-cert-as-row-pem = 667
+is-application-x-x509-ca-cert-as-row-pem = 692
 
 abbrev pub is-application-x-xar : ℕ
-is-application-x-xar = 668
+is-application-x-xar = 693
 
 abbrev pub is-application-x-xbel : ℕ
-is-application-x-xbel = 669
+is-application-x-xbel = 694
 
 abbrev pub is-application-x-xbmc-xbt : ℕ
-is-application-x-xbmc-xbt = 670
+is-application-x-xbmc-xbt = 695
 
 abbrev pub is-application-x-xmp-xml : ℕ
-is-application-x-xmp-xml = 671
+is-application-x-xmp-xml = 696
 
 abbrev pub is-application-x-xpinstall : ℕ
-is-application-x-xpinstall = 672
+is-application-x-xpinstall = 697
 
 abbrev pub is-application-x-xz : ℕ
-is-application-x-xz = 673
+is-application-x-xz = 698
 
 abbrev pub is-application-x-xz-compressed-tar : ℕ
-is-application-x-xz-compressed-tar = 674
+is-application-x-xz-compressed-tar = 699
+
+abbrev pub is-application-x-zchunk : ℕ
+is-application-x-zchunk = 700
 
 abbrev pub is-application-x-zcml : ℕ
-is-application-x-zcml = 675
+is-application-x-zcml = 701
+
+abbrev pub is-application-x-zip : ℕ
+is-application-x-zip = 702
 
 abbrev pub is-application-x-zip-compressed-fb2 : ℕ
-is-application-x-zip-compressed-fb2 = 676
+is-application-x-zip-compressed-fb2 = 703
 
 abbrev pub is-application-x-zoo : ℕ
-is-application-x-zoo = 677
+is-application-x-zoo = 704
 
 abbrev pub is-application-x-zpaq : ℕ
-is-application-x-zpaq = 678
+is-application-x-zpaq = 705
 
 abbrev pub is-application-x-zsh : ℕ
-is-application-x-zsh = 679
+is-application-x-zsh = 706
 
 abbrev pub is-application-x-zstd-compressed-tar : ℕ
-is-application-x-zstd-compressed-tar = 680
+is-application-x-zstd-compressed-tar = 707
 
 abbrev pub is-application-xaml-xml : ℕ
-is-application-xaml-xml = 681
+is-application-xaml-xml = 708
 
 abbrev pub is-application-xhtml-xml : ℕ
-is-application-xhtml-xml = 682
+is-application-xhtml-xml = 709
 
 abbrev pub is-application-xliff-xml : ℕ
-is-application-xliff-xml = 683
+is-application-xliff-xml = 710
 
 abbrev pub is-application-xml : ℕ
-is-application-xml = 684
+is-application-xml = 711
 
 abbrev pub is-application-xml-dtd : ℕ
-is-application-xml-dtd = 685
+is-application-xml-dtd = 712
 
 abbrev pub is-application-xml-external-parsed-entity : ℕ
-is-application-xml-external-parsed-entity = 686
+is-application-xml-external-parsed-entity = 713
 
 abbrev pub is-application-xproc-xml : ℕ
-is-application-xproc-xml = 687
+is-application-xproc-xml = 714
 
 abbrev pub is-application-xquery : ℕ
-is-application-xquery = 688
+is-application-xquery = 715
 
 abbrev pub is-application-xslt-xml : ℕ
-is-application-xslt-xml = 689
+is-application-xslt-xml = 716
 
 abbrev pub is-application-xspf-xml : ℕ
-is-application-xspf-xml = 690
+is-application-xspf-xml = 717
 
 abbrev pub is-application-yaml : ℕ
-is-application-yaml = 691
+is-application-yaml = 718
 
 abbrev pub is-application-zip : ℕ
-is-application-zip = 692
+is-application-zip = 719
 
 abbrev pub is-application-zstd : ℕ
-is-application-zstd = 693
+is-application-zstd = 720
 
 abbrev pub is-audio-aac : ℕ
-is-audio-aac = 694
+is-audio-aac = 721
 
 abbrev pub is-audio-ac3 : ℕ
-is-audio-ac3 = 695
+is-audio-ac3 = 722
 
 abbrev pub is-audio-amr : ℕ
-is-audio-amr = 696
+is-audio-amr = 723
 
 abbrev pub is-audio-basic : ℕ
-is-audio-basic = 697
+is-audio-basic = 724
 
 abbrev pub is-audio-eac3 : ℕ
-is-audio-eac3 = 698
+is-audio-eac3 = 725
 
 abbrev pub is-audio-m4a : ℕ
-is-audio-m4a = 699
+is-audio-m4a = 726
 
 abbrev pub is-audio-mid : ℕ
-is-audio-mid = 700
+is-audio-mid = 727
 
 abbrev pub is-audio-midi : ℕ
-is-audio-midi = 701
+is-audio-midi = 728
 
 abbrev pub is-audio-mobile-xmf : ℕ
-is-audio-mobile-xmf = 702
+is-audio-mobile-xmf = 729
+
+abbrev pub is-audio-mp4 : ℕ
+is-audio-mp4 = 730
 
 abbrev pub is-audio-mpeg : ℕ
-is-audio-mpeg = 703
+is-audio-mpeg = 731
 
 abbrev pub is-audio-ogg-as-row-oga : ℕ
-is-audio-ogg-as-row-oga = 704
+is-audio-ogg-as-row-oga = 732
 
 abbrev pub is-audio-ogg-as-row-ogg : ℕ
-is-audio-ogg-as-row-ogg = 705
+is-audio-ogg-as-row-ogg = 733
 
 abbrev pub is-audio-opus : ℕ
-is-audio-opus = 706
+is-audio-opus = 734
 
 abbrev pub is-audio-prs-sid : ℕ
-is-audio-prs-sid = 707
+is-audio-prs-sid = 735
 
 abbrev pub is-audio-sf2 : ℕ
-is-audio-sf2 = 708
+is-audio-sf2 = 736
 
 abbrev pub is-audio-vnd-audible : ℕ
-is-audio-vnd-audible = 709
+is-audio-vnd-audible = 737
+
+abbrev pub is-audio-vnd-audible-aax : ℕ
+is-audio-vnd-audible-aax = 738
+
+abbrev pub is-audio-vnd-dolby-mlp : ℕ
+is-audio-vnd-dolby-mlp = 739
 
 abbrev pub is-audio-vnd-dts : ℕ
-is-audio-vnd-dts = 710
+is-audio-vnd-dts = 740
 
 abbrev pub is-audio-vnd-rn-realaudio : ℕ
-is-audio-vnd-rn-realaudio = 711
+is-audio-vnd-rn-realaudio = 741
 
 abbrev pub is-audio-webm : ℕ
-is-audio-webm = 712
+is-audio-webm = 742
 
 abbrev pub is-audio-x-8svx : ℕ
-is-audio-x-8svx = 713
+is-audio-x-8svx = 743
 
 abbrev pub is-audio-x-aifc : ℕ
-is-audio-x-aifc = 714
+is-audio-x-aifc = 744
 
 abbrev pub is-audio-x-aiff : ℕ
-is-audio-x-aiff = 715
+is-audio-x-aiff = 745
 
 abbrev pub is-audio-x-ape : ℕ
-is-audio-x-ape = 716
+is-audio-x-ape = 746
 
 abbrev pub is-audio-x-avr : ℕ
-is-audio-x-avr = 717
+is-audio-x-avr = 747
 
 abbrev pub is-audio-x-ay : ℕ
-is-audio-x-ay = 718
+is-audio-x-ay = 748
 
 abbrev pub is-audio-x-bcstm : ℕ
-is-audio-x-bcstm = 719
+is-audio-x-bcstm = 749
 
 abbrev pub is-audio-x-bcwav : ℕ
-is-audio-x-bcwav = 720
+is-audio-x-bcwav = 750
 
 abbrev pub is-audio-x-bfstm : ℕ
-is-audio-x-bfstm = 721
+is-audio-x-bfstm = 751
 
 abbrev pub is-audio-x-brstm : ℕ
-is-audio-x-brstm = 722
+is-audio-x-brstm = 752
 
 abbrev pub is-audio-x-caf : ℕ
-is-audio-x-caf = 723
+is-audio-x-caf = 753
 
 abbrev pub is-audio-x-dbm : ℕ
-is-audio-x-dbm = 724
+is-audio-x-dbm = 754
 
 abbrev pub is-audio-x-dff : ℕ
-is-audio-x-dff = 725
+is-audio-x-dff = 755
 
 abbrev pub is-audio-x-dsf : ℕ
-is-audio-x-dsf = 726
+is-audio-x-dsf = 756
 
 abbrev pub is-audio-x-dss : ℕ
-is-audio-x-dss = 727
+is-audio-x-dss = 757
 
 abbrev pub is-audio-x-flac : ℕ
-is-audio-x-flac = 728
+is-audio-x-flac = 758
 
 abbrev pub is-audio-x-gbs : ℕ
-is-audio-x-gbs = 729
+is-audio-x-gbs = 759
 
 abbrev pub is-audio-x-gsm : ℕ
-is-audio-x-gsm = 730
+is-audio-x-gsm = 760
+
+abbrev pub is-audio-x-ircam : ℕ
+is-audio-x-ircam = 761
+
+abbrev pub is-audio-x-iriver-pla : ℕ
+is-audio-x-iriver-pla = 762
 
 abbrev pub is-audio-x-it : ℕ
-is-audio-x-it = 731
+is-audio-x-it = 763
 
 abbrev pub is-audio-x-m4b : ℕ
-is-audio-x-m4b = 732
+is-audio-x-m4b = 764
 
 abbrev pub is-audio-x-matroska : ℕ
-is-audio-x-matroska = 733
+is-audio-x-matroska = 765
 
 abbrev pub is-audio-x-maud : ℕ
-is-audio-x-maud = 734
+is-audio-x-maud = 766
 
 abbrev pub is-audio-x-mids : ℕ
-is-audio-x-mids = 735
+is-audio-x-mids = 767
 
 abbrev pub is-audio-x-mo3 : ℕ
-is-audio-x-mo3 = 736
+is-audio-x-mo3 = 768
 
-abbrev pub is-audio-x-mod : ℕ
-is-audio-x-mod = 737
+abbrev pub is-audio-x-mod-as-known : ℕ
+is-audio-x-mod-as-known = 769
+
+abbrev pub is-audio-x-mod-as-row-mod : ℕ
+is-audio-x-mod-as-row-mod = 770
 
 abbrev pub is-audio-x-mpegurl : ℕ
-is-audio-x-mpegurl = 738
+is-audio-x-mpegurl = 771
 
 abbrev pub is-audio-x-ms-asx : ℕ
-is-audio-x-ms-asx = 739
+is-audio-x-ms-asx = 772
 
 abbrev pub is-audio-x-ms-wma : ℕ
-is-audio-x-ms-wma = 740
+is-audio-x-ms-wma = 773
 
 abbrev pub is-audio-x-musepack : ℕ
-is-audio-x-musepack = 741
+is-audio-x-musepack = 774
 
 abbrev pub is-audio-x-nist : ℕ
-is-audio-x-nist = 742
+is-audio-x-nist = 775
 
 abbrev pub is-audio-x-nsf : ℕ
-is-audio-x-nsf = 743
+is-audio-x-nsf = 776
 
 abbrev pub is-audio-x-okt : ℕ
-is-audio-x-okt = 744
+is-audio-x-okt = 777
 
 abbrev pub is-audio-x-paf : ℕ
-is-audio-x-paf = 745
+is-audio-x-paf = 778
 
 abbrev pub is-audio-x-psf : ℕ
-is-audio-x-psf = 746
+is-audio-x-psf = 779
 
 abbrev pub is-audio-x-psion-wve : ℕ
-is-audio-x-psion-wve = 747
+is-audio-x-psion-wve = 780
+
+abbrev pub is-audio-x-ptm : ℕ
+is-audio-x-ptm = 781
 
 abbrev pub is-audio-x-pvf : ℕ
-is-audio-x-pvf = 748
+is-audio-x-pvf = 782
 
 abbrev pub is-audio-x-rf64 : ℕ
-is-audio-x-rf64 = 749
+is-audio-x-rf64 = 783
 
 abbrev pub is-audio-x-s3m : ℕ
-is-audio-x-s3m = 750
+is-audio-x-s3m = 784
 
 abbrev pub is-audio-x-sample-vision : ℕ
-is-audio-x-sample-vision = 751
+is-audio-x-sample-vision = 785
 
 abbrev pub is-audio-x-sap : ℕ
-is-audio-x-sap = 752
+is-audio-x-sap = 786
 
 abbrev pub is-audio-x-scpls : ℕ
-is-audio-x-scpls = 753
+is-audio-x-scpls = 787
 
 abbrev pub is-audio-x-sds : ℕ
-is-audio-x-sds = 754
+is-audio-x-sds = 788
 
 abbrev pub is-audio-x-sfbk : ℕ
-is-audio-x-sfbk = 755
+is-audio-x-sfbk = 789
 
 abbrev pub is-audio-x-spc : ℕ
-is-audio-x-spc = 756
+is-audio-x-spc = 790
 
 abbrev pub is-audio-x-speex-ogg : ℕ
-is-audio-x-speex-ogg = 757
+is-audio-x-speex-ogg = 791
+
+abbrev pub is-audio-x-stm : ℕ
+is-audio-x-stm = 792
 
 abbrev pub is-audio-x-tta : ℕ
-is-audio-x-tta = 758
+is-audio-x-tta = 793
 
 abbrev pub is-audio-x-ult : ℕ
-is-audio-x-ult = 759
+is-audio-x-ult = 794
 
 abbrev pub is-audio-x-vgm : ℕ
-is-audio-x-vgm = 760
+is-audio-x-vgm = 795
 
 abbrev pub is-audio-x-voc : ℕ
-is-audio-x-voc = 761
+is-audio-x-voc = 796
 
 abbrev pub is-audio-x-w64 : ℕ
-is-audio-x-w64 = 762
+is-audio-x-w64 = 797
 
 abbrev pub is-audio-x-wav : ℕ
-is-audio-x-wav = 763
+is-audio-x-wav = 798
 
 abbrev pub is-audio-x-wavpack : ℕ
-is-audio-x-wavpack = 764
+is-audio-x-wavpack = 799
 
 abbrev pub is-audio-x-xbox-executable : ℕ
-is-audio-x-xbox-executable = 765
+is-audio-x-xbox-executable = 800
 
 abbrev pub is-audio-x-xbox360-executable : ℕ
-is-audio-x-xbox360-executable = 766
+is-audio-x-xbox360-executable = 801
 
 abbrev pub is-audio-x-xi : ℕ
-is-audio-x-xi = 767
+is-audio-x-xi = 802
 
 abbrev pub is-audio-x-xm : ℕ
-is-audio-x-xm = 768
+is-audio-x-xm = 803
 
 abbrev pub is-audio-x-yamaha-txw : ℕ
-is-audio-x-yamaha-txw = 769
+is-audio-x-yamaha-txw = 804
 
 abbrev pub is-chemical-x-cdx : ℕ
-is-chemical-x-cdx = 770
+is-chemical-x-cdx = 805
 
 abbrev pub is-chemical-x-cif : ℕ
-is-chemical-x-cif = 771
+is-chemical-x-cif = 806
 
 abbrev pub is-chemical-x-cml : ℕ
-is-chemical-x-cml = 772
+is-chemical-x-cml = 807
 
 abbrev pub is-chemical-x-mdl-molfile : ℕ
-is-chemical-x-mdl-molfile = 773
+is-chemical-x-mdl-molfile = 808
 
 abbrev pub is-chemical-x-mdl-sdfile : ℕ
-is-chemical-x-mdl-sdfile = 774
+is-chemical-x-mdl-sdfile = 809
 
 abbrev pub is-chemical-x-mol2 : ℕ
-is-chemical-x-mol2 = 775
+is-chemical-x-mol2 = 810
 
 abbrev pub is-chemical-x-pdb : ℕ
-is-chemical-x-pdb = 776
+is-chemical-x-pdb = 811
 
 abbrev pub is-chemical-x-xyz : ℕ
-is-chemical-x-xyz = 777
+is-chemical-x-xyz = 812
 
 abbrev pub is-font-collection : ℕ
-is-font-collection = 778
+is-font-collection = 813
 
 abbrev pub is-font-x-dos-cpi : ℕ
-is-font-x-dos-cpi = 779
+is-font-x-dos-cpi = 814
 
 abbrev pub is-font-x-drdos-cpi : ℕ
-is-font-x-drdos-cpi = 780
+is-font-x-drdos-cpi = 815
 
 abbrev pub is-image-apng : ℕ
-is-image-apng = 781
+is-image-apng = 816
 
 abbrev pub is-image-astc : ℕ
-is-image-astc = 782
+is-image-astc = 817
 
 abbrev pub is-image-avif : ℕ
-is-image-avif = 783
+is-image-avif = 818
 
 abbrev pub is-image-bmp : ℕ
-is-image-bmp = 784
+is-image-bmp = 819
 
 abbrev pub is-image-bpg : ℕ
-is-image-bpg = 785
+is-image-bpg = 820
 
 abbrev pub is-image-cineon : ℕ
-is-image-cineon = 786
+is-image-cineon = 821
 
 abbrev pub is-image-dpx : ℕ
-is-image-dpx = 787
+is-image-dpx = 822
 
 abbrev pub is-image-emf : ℕ
-is-image-emf = 788
+is-image-emf = 823
 
 abbrev pub is-image-fits : ℕ
-is-image-fits = 789
+is-image-fits = 824
 
 abbrev pub is-image-flif : ℕ
-is-image-flif = 790
+is-image-flif = 825
 
 abbrev pub is-image-geotiff : ℕ
-is-image-geotiff = 791
+is-image-geotiff = 826
 
 abbrev pub is-image-gif : ℕ
-is-image-gif = 792
+is-image-gif = 827
 
 abbrev pub is-image-heic : ℕ
-is-image-heic = 793
+is-image-heic = 828
 
 abbrev pub is-image-heic-sequence : ℕ
-is-image-heic-sequence = 794
+is-image-heic-sequence = 829
 
 abbrev pub is-image-heif : ℕ
-is-image-heif = 795
+is-image-heif = 830
+
+abbrev pub is-image-heif-sequence : ℕ
+is-image-heif-sequence = 831
 
 abbrev pub is-image-jls : ℕ
-is-image-jls = 796
+is-image-jls = 832
 
 abbrev pub is-image-jp2 : ℕ
-is-image-jp2 = 797
+is-image-jp2 = 833
 
 abbrev pub is-image-jpeg : ℕ
-is-image-jpeg = 798
+is-image-jpeg = 834
 
 abbrev pub is-image-jph : ℕ
-is-image-jph = 799
+is-image-jph = 835
 
 abbrev pub is-image-jpm : ℕ
-is-image-jpm = 800
+is-image-jpm = 836
 
 abbrev pub is-image-jpx : ℕ
-is-image-jpx = 801
+is-image-jpx = 837
 
 abbrev pub is-image-jxl : ℕ
-is-image-jxl = 802
+is-image-jxl = 838
 
 abbrev pub is-image-ktx : ℕ
-is-image-ktx = 803
+is-image-ktx = 839
 
 abbrev pub is-image-ktx2 : ℕ
-is-image-ktx2 = 804
+is-image-ktx2 = 840
 
 abbrev pub is-image-openraster : ℕ
-is-image-openraster = 805
+is-image-openraster = 841
 
 abbrev pub is-image-png : ℕ
-is-image-png = 806
+is-image-png = 842
 
 abbrev pub is-image-pwg-raster : ℕ
-is-image-pwg-raster = 807
+is-image-pwg-raster = 843
 
 abbrev pub is-image-svg-xml : ℕ
-is-image-svg-xml = 808
+is-image-svg-xml = 844
 
 abbrev pub is-image-svg-xml-compressed : ℕ
-is-image-svg-xml-compressed = 809
+is-image-svg-xml-compressed = 845
 
 abbrev pub is-image-tiff : ℕ
-is-image-tiff = 810
+is-image-tiff = 846
 
 abbrev pub is-image-vnd-adobe-photoshop : ℕ
-is-image-vnd-adobe-photoshop = 811
+is-image-vnd-adobe-photoshop = 847
 
 abbrev pub is-image-vnd-djvu : ℕ
-is-image-vnd-djvu = 812
+is-image-vnd-djvu = 848
 
 abbrev pub is-image-vnd-dwg : ℕ
-is-image-vnd-dwg = 813
+is-image-vnd-dwg = 849
 
 abbrev pub is-image-vnd-dxf : ℕ
-is-image-vnd-dxf = 814
+is-image-vnd-dxf = 850
 
 abbrev pub is-image-vnd-fpx : ℕ
-is-image-vnd-fpx = 815
+is-image-vnd-fpx = 851
 
 abbrev pub is-image-vnd-microsoft-icon : ℕ
-is-image-vnd-microsoft-icon = 816
+is-image-vnd-microsoft-icon = 852
 
 abbrev pub is-image-vnd-ms-dds : ℕ
-is-image-vnd-ms-dds = 817
+is-image-vnd-ms-dds = 853
 
 abbrev pub is-image-vnd-ms-modi : ℕ
-is-image-vnd-ms-modi = 818
+is-image-vnd-ms-modi = 854
 
 abbrev pub is-image-vnd-ms-photo : ℕ
-is-image-vnd-ms-photo = 819
+is-image-vnd-ms-photo = 855
 
 abbrev pub is-image-vnd-radiance : ℕ
-is-image-vnd-radiance = 820
+is-image-vnd-radiance = 856
 
 abbrev pub is-image-vnd-valve-source-texture : ℕ
-is-image-vnd-valve-source-texture = 821
+is-image-vnd-valve-source-texture = 857
 
 abbrev pub is-image-vnd-zbrush-pcx : ℕ
-is-image-vnd-zbrush-pcx = 822
+is-image-vnd-zbrush-pcx = 858
 
 abbrev pub is-image-webp : ℕ
-is-image-webp = 823
+is-image-webp = 859
 
 abbrev pub is-image-wmf : ℕ
-is-image-wmf = 824
+is-image-wmf = 860
 
 abbrev pub is-image-x-3ds : ℕ
-is-image-x-3ds = 825
+is-image-x-3ds = 861
 
 abbrev pub is-image-x-adobe-dng : ℕ
-is-image-x-adobe-dng = 826
+is-image-x-adobe-dng = 862
 
 abbrev pub is-image-x-applix-graphics : ℕ
-is-image-x-applix-graphics = 827
+is-image-x-applix-graphics = 863
 
 abbrev pub is-image-x-award-bioslogo2 : ℕ
-is-image-x-award-bioslogo2 = 828
+is-image-x-award-bioslogo2 = 864
 
 abbrev pub is-image-x-blp : ℕ
-is-image-x-blp = 829
+is-image-x-blp = 865
 
 abbrev pub is-image-x-canon-cr2 : ℕ
-is-image-x-canon-cr2 = 830
+is-image-x-canon-cr2 = 866
 
 abbrev pub is-image-x-canon-cr3 : ℕ
-is-image-x-canon-cr3 = 831
+is-image-x-canon-cr3 = 867
 
 abbrev pub is-image-x-canon-crw : ℕ
-is-image-x-canon-crw = 832
+is-image-x-canon-crw = 868
 
 abbrev pub is-image-x-cmu-raster : ℕ
-is-image-x-cmu-raster = 833
+is-image-x-cmu-raster = 869
 
 abbrev pub is-image-x-cmx : ℕ
-is-image-x-cmx = 834
+is-image-x-cmx = 870
 
 abbrev pub is-image-x-corel-cpt : ℕ
-is-image-x-corel-cpt = 835
+is-image-x-corel-cpt = 871
 
 abbrev pub is-image-x-dcx : ℕ
-is-image-x-dcx = 836
+is-image-x-dcx = 872
 
 abbrev pub is-image-x-epoc-mbm : ℕ
-is-image-x-epoc-mbm = 837
+is-image-x-epoc-mbm = 873
 
 abbrev pub is-image-x-eps : ℕ
-is-image-x-eps = 838
+is-image-x-eps = 874
 
 abbrev pub is-image-x-epson-erf : ℕ
-is-image-x-epson-erf = 839
+is-image-x-epson-erf = 875
 
 abbrev pub is-image-x-exr : ℕ
-is-image-x-exr = 840
+is-image-x-exr = 876
 
 abbrev pub is-image-x-farbfeld : ℕ
-is-image-x-farbfeld = 841
+is-image-x-farbfeld = 877
 
 abbrev pub is-image-x-fuji-raf : ℕ
-is-image-x-fuji-raf = 842
+is-image-x-fuji-raf = 878
 
 abbrev pub is-image-x-gd2 : ℕ
-is-image-x-gd2 = 843
+is-image-x-gd2 = 879
 
 abbrev pub is-image-x-gimp-gbr : ℕ
-is-image-x-gimp-gbr = 844
+is-image-x-gimp-gbr = 880
 
 abbrev pub is-image-x-gimp-pat : ℕ
-is-image-x-gimp-pat = 845
+is-image-x-gimp-pat = 881
 
 abbrev pub is-image-x-godot-stex : ℕ
-is-image-x-godot-stex = 846
+is-image-x-godot-stex = 882
 
 abbrev pub is-image-x-hasselblad-3fr : ℕ
-is-image-x-hasselblad-3fr = 847
+is-image-x-hasselblad-3fr = 883
 
 abbrev pub is-image-x-hsi : ℕ
-is-image-x-hsi = 848
+is-image-x-hsi = 884
 
 abbrev pub is-image-x-icns : ℕ
-is-image-x-icns = 849
+is-image-x-icns = 885
 
 abbrev pub is-image-x-ilbm : ℕ
-is-image-x-ilbm = 850
+is-image-x-ilbm = 886
 
 abbrev pub is-image-x-itc : ℕ
-is-image-x-itc = 851
+is-image-x-itc = 887
 
 abbrev pub is-image-x-jbig2 : ℕ
-is-image-x-jbig2 = 852
+is-image-x-jbig2 = 888
 
 abbrev pub is-image-x-jng : ℕ
-is-image-x-jng = 853
+is-image-x-jng = 889
 
 abbrev pub is-image-x-jp2-codestream : ℕ
-is-image-x-jp2-codestream = 854
+is-image-x-jp2-codestream = 890
 
 abbrev pub is-image-x-kodak-dcr : ℕ
-is-image-x-kodak-dcr = 855
+is-image-x-kodak-dcr = 891
 
 abbrev pub is-image-x-kodak-kdc : ℕ
-is-image-x-kodak-kdc = 856
+is-image-x-kodak-kdc = 892
 
 abbrev pub is-image-x-lss16 : ℕ
-is-image-x-lss16 = 857
+is-image-x-lss16 = 893
 
 abbrev pub is-image-x-lwo : ℕ
-is-image-x-lwo = 858
+is-image-x-lwo = 894
 
 abbrev pub is-image-x-lytro-lfp : ℕ
-is-image-x-lytro-lfp = 859
+is-image-x-lytro-lfp = 895
 
 abbrev pub is-image-x-mamiya-mef : ℕ
-is-image-x-mamiya-mef = 860
+is-image-x-mamiya-mef = 896
 
 abbrev pub is-image-x-miff : ℕ
-is-image-x-miff = 861
+is-image-x-miff = 897
 
 abbrev pub is-image-x-minolta-mrw : ℕ
-is-image-x-minolta-mrw = 862
+is-image-x-minolta-mrw = 898
+
+abbrev pub is-image-x-mrc : ℕ
+is-image-x-mrc = 899
 
 abbrev pub is-image-x-mvg : ℕ
-is-image-x-mvg = 863
+is-image-x-mvg = 900
 
 abbrev pub is-image-x-niff : ℕ
-is-image-x-niff = 864
+is-image-x-niff = 901
 
 abbrev pub is-image-x-nikon-nef : ℕ
-is-image-x-nikon-nef = 865
+is-image-x-nikon-nef = 902
 
 abbrev pub is-image-x-nikon-nrw : ℕ
-is-image-x-nikon-nrw = 866
+is-image-x-nikon-nrw = 903
 
 abbrev pub is-image-x-olympus-orf : ℕ
-is-image-x-olympus-orf = 867
+is-image-x-olympus-orf = 904
 
 abbrev pub is-image-x-paintnet : ℕ
-is-image-x-paintnet = 868
+is-image-x-paintnet = 905
 
 abbrev pub is-image-x-paintshoppro : ℕ
-is-image-x-paintshoppro = 869
+is-image-x-paintshoppro = 906
 
 abbrev pub is-image-x-panasonic-rw2 : ℕ
-is-image-x-panasonic-rw2 = 870
+is-image-x-panasonic-rw2 = 907
 
 abbrev pub is-image-x-pentax-pef : ℕ
-is-image-x-pentax-pef = 871
+is-image-x-pentax-pef = 908
 
 abbrev pub is-image-x-pgf : ℕ
-is-image-x-pgf = 872
+is-image-x-pgf = 909
 
 abbrev pub is-image-x-pic : ℕ
-is-image-x-pic = 873
+is-image-x-pic = 910
 
 abbrev pub is-image-x-pict : ℕ
-is-image-x-pict = 874
+is-image-x-pict = 911
 
 abbrev pub is-image-x-portable-anymap : ℕ
-is-image-x-portable-anymap = 875
+is-image-x-portable-anymap = 912
 
 abbrev pub is-image-x-portable-arbitrarymap : ℕ
-is-image-x-portable-arbitrarymap = 876
+is-image-x-portable-arbitrarymap = 913
 
 abbrev pub is-image-x-portable-bitmap : ℕ
-is-image-x-portable-bitmap = 877
+is-image-x-portable-bitmap = 914
 
 abbrev pub is-image-x-portable-floatmap : ℕ
-is-image-x-portable-floatmap = 878
+is-image-x-portable-floatmap = 915
 
 abbrev pub is-image-x-portable-graymap : ℕ
-is-image-x-portable-graymap = 879
+is-image-x-portable-graymap = 916
 
 abbrev pub is-image-x-portable-pixmap : ℕ
-is-image-x-portable-pixmap = 880
+is-image-x-portable-pixmap = 917
 
 abbrev pub is-image-x-pvr : ℕ
-is-image-x-pvr = 881
+is-image-x-pvr = 918
 
 abbrev pub is-image-x-qoi : ℕ
-is-image-x-qoi = 882
+is-image-x-qoi = 919
+
+abbrev pub is-image-x-quicktime : ℕ
+is-image-x-quicktime = 920
 
 abbrev pub is-image-x-samsung-srw : ℕ
-is-image-x-samsung-srw = 883
+is-image-x-samsung-srw = 921
 
 abbrev pub is-image-x-sgi : ℕ
-is-image-x-sgi = 884
+is-image-x-sgi = 922
 
 abbrev pub is-image-x-sigma-x3f : ℕ
-is-image-x-sigma-x3f = 885
+is-image-x-sigma-x3f = 923
 
 abbrev pub is-image-x-skencil : ℕ
-is-image-x-skencil = 886
+is-image-x-skencil = 924
 
 abbrev pub is-image-x-sony-arw : ℕ
-is-image-x-sony-arw = 887
+is-image-x-sony-arw = 925
 
 abbrev pub is-image-x-sony-sr2 : ℕ
-is-image-x-sony-sr2 = 888
+is-image-x-sony-sr2 = 926
 
 abbrev pub is-image-x-sony-srf : ℕ
-is-image-x-sony-srf = 889
+is-image-x-sony-srf = 927
 
 abbrev pub is-image-x-svm : ℕ
-is-image-x-svm = 890
+is-image-x-svm = 928
 
-abbrev pub is-image-x-tga : ℕ
-is-image-x-tga = 891
+abbrev pub is-image-x-tga-as-known : ℕ
+is-image-x-tga-as-known = 929
+
+abbrev pub is-image-x-tga-as-row-tga : ℕ
+is-image-x-tga-as-row-tga = 930
 
 abbrev pub is-image-x-vips : ℕ
-is-image-x-vips = 892
+is-image-x-vips = 931
 
 abbrev pub is-image-x-win-bitmap : ℕ
-is-image-x-win-bitmap = 893
+is-image-x-win-bitmap = 932
 
 abbrev pub is-image-x-wpg : ℕ
-is-image-x-wpg = 894
+is-image-x-wpg = 933
 
 abbrev pub is-image-x-xbitmap : ℕ
-is-image-x-xbitmap = 895
+is-image-x-xbitmap = 934
 
 abbrev pub is-image-x-xcf : ℕ
-is-image-x-xcf = 896
+is-image-x-xcf = 935
 
 abbrev pub is-image-x-xfig : ℕ
-is-image-x-xfig = 897
+is-image-x-xfig = 936
 
 abbrev pub is-image-x-xisf : ℕ
-is-image-x-xisf = 898
+is-image-x-xisf = 937
 
 abbrev pub is-image-x-xpixmap : ℕ
-is-image-x-xpixmap = 899
+is-image-x-xpixmap = 938
 
 abbrev pub is-image-x-xwindowdump : ℕ
-is-image-x-xwindowdump = 900
+is-image-x-xwindowdump = 939
 
 abbrev pub is-image-x-zeiss-czi : ℕ
-is-image-x-zeiss-czi = 901
+is-image-x-zeiss-czi = 940
+
+abbrev pub is-image-x-nifti : ℕ
+is-image-x-nifti = 941
 
 abbrev pub is-message-http : ℕ
-is-message-http = 902
+is-message-http = 942
 
 abbrev pub is-message-rfc822 : ℕ
-is-message-rfc822 = 903
+is-message-rfc822 = 943
 
 abbrev pub is-model-3mf : ℕ
-is-model-3mf = 904
+is-model-3mf = 944
 
 abbrev pub is-model-e57 : ℕ
-is-model-e57 = 905
+is-model-e57 = 945
 
 abbrev pub is-model-gltf-json : ℕ
-is-model-gltf-json = 906
+is-model-gltf-json = 946
 
 abbrev pub is-model-gltf-binary : ℕ
-is-model-gltf-binary = 907
+is-model-gltf-binary = 947
 
 abbrev pub is-model-iges : ℕ
-is-model-iges = 908
+is-model-iges = 948
 
 abbrev pub is-model-mtl : ℕ
-is-model-mtl = 909
+is-model-mtl = 949
 
 abbrev pub is-model-obj : ℕ
-is-model-obj = 910
+is-model-obj = 950
 
 abbrev pub is-model-step : ℕ
-is-model-step = 911
+is-model-step = 951
 
 abbrev pub is-model-stl : ℕ
-is-model-stl = 912
+is-model-stl = 952
 
 abbrev pub is-model-vnd-collada-xml : ℕ
-is-model-vnd-collada-xml = 913
+is-model-vnd-collada-xml = 953
 
 abbrev pub is-model-vnd-usda : ℕ
-is-model-vnd-usda = 914
+is-model-vnd-usda = 954
 
 abbrev pub is-model-vrml : ℕ
-is-model-vrml = 915
+is-model-vrml = 955
 
 abbrev pub is-model-x-milkshape : ℕ
-is-model-x-milkshape = 916
+is-model-x-milkshape = 956
 
 abbrev pub is-model-x3d-xml : ℕ
-is-model-x3d-xml = 917
+is-model-x3d-xml = 957
 
 abbrev pub is-model-x3d-vrml : ℕ
-is-model-x3d-vrml = 918
+is-model-x3d-vrml = 958
 
 abbrev pub is-multipart-related : ℕ
-is-multipart-related = 919
+is-multipart-related = 959
 
 abbrev pub is-text-cache-manifest : ℕ
-is-text-cache-manifest = 920
+is-text-cache-manifest = 960
 
 abbrev pub is-text-calendar : ℕ
-is-text-calendar = 921
+is-text-calendar = 961
 
 abbrev pub is-text-cql : ℕ
-is-text-cql = 922
+is-text-cql = 962
 
 abbrev pub is-text-css : ℕ
-is-text-css = 923
+is-text-css = 963
 
 abbrev pub is-text-csv : ℕ
-is-text-csv = 924
+is-text-csv = 964
 
 abbrev pub is-text-html : ℕ
-is-text-html = 925
+is-text-html = 965
 
 abbrev pub is-text-javascript : ℕ
-is-text-javascript = 926
+is-text-javascript = 966
 
 abbrev pub is-text-markdown : ℕ
-is-text-markdown = 927
+is-text-markdown = 967
 
 abbrev pub is-text-mdx : ℕ
-is-text-mdx = 928
+is-text-mdx = 968
 
 abbrev pub is-text-n3 : ℕ
-is-text-n3 = 929
+is-text-n3 = 969
 
 abbrev pub is-text-org : ℕ
-is-text-org = 930
+is-text-org = 970
 
 abbrev pub is-text-plain : ℕ
-is-text-plain = 931
+is-text-plain = 971
 
 abbrev pub is-text-rust : ℕ
-is-text-rust = 932
+is-text-rust = 972
 
 abbrev pub is-text-sgml : ℕ
-is-text-sgml = 933
+is-text-sgml = 973
 
 abbrev pub is-text-spreadsheet : ℕ
-is-text-spreadsheet = 934
+is-text-spreadsheet = 974
 
 abbrev pub is-text-tab-separated-values : ℕ
-is-text-tab-separated-values = 935
+is-text-tab-separated-values = 975
 
 abbrev pub is-text-troff : ℕ
-is-text-troff = 936
+is-text-troff = 976
 
 abbrev pub is-text-turtle : ℕ
-is-text-turtle = 937
+is-text-turtle = 977
 
 abbrev pub is-text-uri-list : ℕ
-is-text-uri-list = 938
+is-text-uri-list = 978
 
 abbrev pub is-text-vbscript : ℕ
-is-text-vbscript = 939
+is-text-vbscript = 979
 
 abbrev pub is-text-vcard : ℕ
-is-text-vcard = 940
+is-text-vcard = 980
 
 abbrev pub is-text-velocity : ℕ
-is-text-velocity = 941
+is-text-velocity = 981
 
 abbrev pub is-text-vnd-abc : ℕ
-is-text-vnd-abc = 942
+is-text-vnd-abc = 982
 
 abbrev pub is-text-vnd-familysearch-gedcom : ℕ
-is-text-vnd-familysearch-gedcom = 943
+is-text-vnd-familysearch-gedcom = 983
 
 abbrev pub is-text-vnd-graphviz : ℕ
-is-text-vnd-graphviz = 944
+is-text-vnd-graphviz = 984
 
 abbrev pub is-text-vnd-sun-j2me-app-descriptor : ℕ
-is-text-vnd-sun-j2me-app-descriptor = 945
+is-text-vnd-sun-j2me-app-descriptor = 985
 
 abbrev pub is-text-vnd-trolltech-linguist : ℕ
-is-text-vnd-trolltech-linguist = 946
+is-text-vnd-trolltech-linguist = 986
 
 abbrev pub is-text-vnd-wap-wml : ℕ
-is-text-vnd-wap-wml = 947
+is-text-vnd-wap-wml = 987
 
 abbrev pub is-text-vtt : ℕ
-is-text-vtt = 948
+is-text-vtt = 988
 
 abbrev pub is-text-wgsl : ℕ
-is-text-wgsl = 949
+is-text-wgsl = 989
 
 abbrev pub is-text-x-abap : ℕ
-is-text-x-abap = 950
+is-text-x-abap = 990
 
 abbrev pub is-text-x-adasrc : ℕ
-is-text-x-adasrc = 951
+is-text-x-adasrc = 991
 
 abbrev pub is-text-x-agda : ℕ
-is-text-x-agda = 952
+is-text-x-agda = 992
 
 abbrev pub is-text-x-aidl : ℕ
-is-text-x-aidl = 953
+is-text-x-aidl = 993
 
 abbrev pub is-text-x-ampl : ℕ
-is-text-x-ampl = 954
+is-text-x-ampl = 994
 
 abbrev pub is-text-x-antlr : ℕ
-is-text-x-antlr = 955
+is-text-x-antlr = 995
 
 abbrev pub is-text-x-apacheconf : ℕ
-is-text-x-apacheconf = 956
+is-text-x-apacheconf = 996
 
 abbrev pub is-text-x-apex : ℕ
-is-text-x-apex = 957
+is-text-x-apex = 997
 
 abbrev pub is-text-x-apl : ℕ
-is-text-x-apl = 958
+is-text-x-apl = 998
 
 abbrev pub is-text-x-applescript : ℕ
-is-text-x-applescript = 959
+is-text-x-applescript = 999
 
 abbrev pub is-text-x-asciidoc : ℕ
-is-text-x-asciidoc = 960
+is-text-x-asciidoc = 1000
 
 abbrev pub is-text-x-asm : ℕ
-is-text-x-asm = 961
+is-text-x-asm = 1001
 
 abbrev pub is-text-x-asn1 : ℕ
-is-text-x-asn1 = 962
+is-text-x-asn1 = 1002
 
 abbrev pub is-text-x-astro : ℕ
-is-text-x-astro = 963
+is-text-x-astro = 1003
 
 abbrev pub is-text-x-asymptote : ℕ
-is-text-x-asymptote = 964
+is-text-x-asymptote = 1004
 
 abbrev pub is-text-x-autoconf : ℕ
-is-text-x-autoconf = 965
+is-text-x-autoconf = 1005
 
 abbrev pub is-text-x-autohotkey : ℕ
-is-text-x-autohotkey = 966
+is-text-x-autohotkey = 1006
 
 abbrev pub is-text-x-autoit : ℕ
-is-text-x-autoit = 967
+is-text-x-autoit = 1007
 
 abbrev pub is-text-x-automake : ℕ
-is-text-x-automake = 968
+is-text-x-automake = 1008
 
 abbrev pub is-text-x-awk : ℕ
-is-text-x-awk = 969
+is-text-x-awk = 1009
 
 abbrev pub is-text-x-ballerina : ℕ
-is-text-x-ballerina = 970
+is-text-x-ballerina = 1010
 
 abbrev pub is-text-x-basic : ℕ
-is-text-x-basic = 971
+is-text-x-basic = 1011
 
 abbrev pub is-text-x-bats : ℕ
-is-text-x-bats = 972
+is-text-x-bats = 1012
 
 abbrev pub is-text-x-bc : ℕ
-is-text-x-bc = 973
+is-text-x-bc = 1013
 
 abbrev pub is-text-x-bed : ℕ
-is-text-x-bed = 974
+is-text-x-bed = 1014
 
 abbrev pub is-text-x-bibtex : ℕ
-is-text-x-bibtex = 975
+is-text-x-bibtex = 1015
 
 abbrev pub is-text-x-bicep : ℕ
-is-text-x-bicep = 976
+is-text-x-bicep = 1016
 
 abbrev pub is-text-x-bitbake : ℕ
-is-text-x-bitbake = 977
+is-text-x-bitbake = 1017
 
 abbrev pub is-text-x-blade : ℕ
-is-text-x-blade = 978
+is-text-x-blade = 1018
 
 abbrev pub is-text-x-bluespec : ℕ
-is-text-x-bluespec = 979
+is-text-x-bluespec = 1019
 
 abbrev pub is-text-x-boo : ℕ
-is-text-x-boo = 980
+is-text-x-boo = 1020
 
 abbrev pub is-text-x-bpftrace : ℕ
-is-text-x-bpftrace = 981
+is-text-x-bpftrace = 1021
 
 abbrev pub is-text-x-bugs : ℕ
-is-text-x-bugs = 982
+is-text-x-bugs = 1022
 
 abbrev pub is-text-x-c-hdr : ℕ
-is-text-x-c-hdr = 983
+is-text-x-c-hdr = 1023
 
 abbrev pub is-text-x-c-src : ℕ
-is-text-x-c-src = 984
+is-text-x-c-src = 1024
 
 abbrev pub is-text-x-cabal : ℕ
-is-text-x-cabal = 985
+is-text-x-cabal = 1025
 
 abbrev pub is-text-x-cairo : ℕ
-is-text-x-cairo = 986
+is-text-x-cairo = 1026
 
 abbrev pub is-text-x-capnp : ℕ
-is-text-x-capnp = 987
+is-text-x-capnp = 1027
 
 abbrev pub is-text-x-cfm : ℕ
-is-text-x-cfm = 988
+is-text-x-cfm = 1028
 
 abbrev pub is-text-x-chapel : ℕ
-is-text-x-chapel = 989
+is-text-x-chapel = 1029
 
 abbrev pub is-text-x-chdr : ℕ
-is-text-x-chdr = 990
+is-text-x-chdr = 1030
 
 abbrev pub is-text-x-checksums : ℕ
-is-text-x-checksums = 991
+is-text-x-checksums = 1031
 
 abbrev pub is-text-x-chuck : ℕ
-is-text-x-chuck = 992
+is-text-x-chuck = 1032
 
 abbrev pub is-text-x-clojure : ℕ
-is-text-x-clojure = 993
+is-text-x-clojure = 1033
 
 abbrev pub is-text-x-cmake : ℕ
-is-text-x-cmake = 994
+is-text-x-cmake = 1034
 
 abbrev pub is-text-x-cobol : ℕ
-is-text-x-cobol = 995
+is-text-x-cobol = 1035
 
 abbrev pub is-text-x-cocci : ℕ
-is-text-x-cocci = 996
+is-text-x-cocci = 1036
 
 abbrev pub is-text-x-common-lisp : ℕ
-is-text-x-common-lisp = 997
+is-text-x-common-lisp = 1037
 
 abbrev pub is-text-x-component : ℕ
-is-text-x-component = 998
+is-text-x-component = 1038
 
 abbrev pub is-text-x-coq : ℕ
-is-text-x-coq = 999
+is-text-x-coq = 1039
 
 abbrev pub is-text-x-cppconf : ℕ
-is-text-x-cppconf = 1000
+is-text-x-cppconf = 1040
 
 abbrev pub is-text-x-creole : ℕ
-is-text-x-creole = 1001
+is-text-x-creole = 1041
 
 abbrev pub is-text-x-cron : ℕ
-is-text-x-cron = 1002
+is-text-x-cron = 1042
 
 abbrev pub is-text-x-crystal : ℕ
-is-text-x-crystal = 1003
+is-text-x-crystal = 1043
 
 abbrev pub is-text-x-csharp : ℕ
-is-text-x-csharp = 1004
+is-text-x-csharp = 1044
 
 abbrev pub is-text-x-csound : ℕ
-is-text-x-csound = 1005
+is-text-x-csound = 1045
 
 abbrev pub is-text-x-csrc : ℕ
-is-text-x-csrc = 1006
+is-text-x-csrc = 1046
 
 abbrev pub is-text-x-cuda : ℕ
-is-text-x-cuda = 1007
+is-text-x-cuda = 1047
 
 abbrev pub is-text-x-cwl : ℕ
-is-text-x-cwl = 1008
+is-text-x-cwl = 1048
 
 abbrev pub is-text-x-cypher : ℕ
-is-text-x-cypher = 1009
+is-text-x-cypher = 1049
 
 abbrev pub is-text-x-cython : ℕ
-is-text-x-cython = 1010
+is-text-x-cython = 1050
 
 abbrev pub is-text-x-d2 : ℕ
-is-text-x-d2 = 1011
+is-text-x-d2 = 1051
 
 abbrev pub is-text-x-dart : ℕ
-is-text-x-dart = 1012
+is-text-x-dart = 1052
 
 abbrev pub is-text-x-debian-control : ℕ
-is-text-x-debian-control = 1013
+is-text-x-debian-control = 1053
 
 abbrev pub is-text-x-dhall : ℕ
-is-text-x-dhall = 1014
+is-text-x-dhall = 1054
 
 abbrev pub is-text-x-dimacs : ℕ
-is-text-x-dimacs = 1015
+is-text-x-dimacs = 1055
 
 abbrev pub is-text-x-dns-zone : ℕ
-is-text-x-dns-zone = 1016
+is-text-x-dns-zone = 1056
 
 abbrev pub is-text-x-dockerfile : ℕ
-is-text-x-dockerfile = 1017
+is-text-x-dockerfile = 1057
 
 abbrev pub is-text-x-dotenv : ℕ
-is-text-x-dotenv = 1018
+is-text-x-dotenv = 1058
 
 abbrev pub is-text-x-dsrc : ℕ
-is-text-x-dsrc = 1019
+is-text-x-dsrc = 1059
 
 abbrev pub is-text-x-dts : ℕ
-is-text-x-dts = 1020
+is-text-x-dts = 1060
 
 abbrev pub is-text-x-dune : ℕ
-is-text-x-dune = 1021
+is-text-x-dune = 1061
 
 abbrev pub is-text-x-ebnf : ℕ
-is-text-x-ebnf = 1022
+is-text-x-ebnf = 1062
 
 abbrev pub is-text-x-ebuild : ℕ
-is-text-x-ebuild = 1023
+is-text-x-ebuild = 1063
 
 abbrev pub is-text-x-editorconfig : ℕ
-is-text-x-editorconfig = 1024
+is-text-x-editorconfig = 1064
 
 abbrev pub is-text-x-eex : ℕ
-is-text-x-eex = 1025
+is-text-x-eex = 1065
 
 abbrev pub is-text-x-eiffel : ℕ
-is-text-x-eiffel = 1026
+is-text-x-eiffel = 1066
 
 abbrev pub is-text-x-ejs : ℕ
-is-text-x-ejs = 1027
+is-text-x-ejs = 1067
 
 abbrev pub is-text-x-elixir : ℕ
-is-text-x-elixir = 1028
+is-text-x-elixir = 1068
 
 abbrev pub is-text-x-elm : ℕ
-is-text-x-elm = 1029
+is-text-x-elm = 1069
 
 abbrev pub is-text-x-emacs-config : ℕ
-is-text-x-emacs-config = 1030
+is-text-x-emacs-config = 1070
 
 abbrev pub is-text-x-emacs-lisp : ℕ
-is-text-x-emacs-lisp = 1031
+is-text-x-emacs-lisp = 1071
 
 abbrev pub is-text-x-erlang : ℕ
-is-text-x-erlang = 1032
+is-text-x-erlang = 1072
 
 abbrev pub is-text-x-expect : ℕ
-is-text-x-expect = 1033
+is-text-x-expect = 1073
 
 abbrev pub is-text-x-factor : ℕ
-is-text-x-factor = 1034
+is-text-x-factor = 1074
 
 abbrev pub is-text-x-fasta : ℕ
-is-text-x-fasta = 1035
+is-text-x-fasta = 1075
 
 abbrev pub is-text-x-fastq : ℕ
-is-text-x-fastq = 1036
+is-text-x-fastq = 1076
 
 abbrev pub is-text-x-fennel : ℕ
-is-text-x-fennel = 1037
+is-text-x-fennel = 1077
 
 abbrev pub is-text-x-flatbuffers : ℕ
-is-text-x-flatbuffers = 1038
+is-text-x-flatbuffers = 1078
 
 abbrev pub is-text-x-forth : ℕ
-is-text-x-forth = 1039
+is-text-x-forth = 1079
 
 abbrev pub is-text-x-fortran : ℕ
-is-text-x-fortran = 1040
+is-text-x-fortran = 1080
 
 abbrev pub is-text-x-fountain : ℕ
-is-text-x-fountain = 1041
+is-text-x-fountain = 1081
 
 abbrev pub is-text-x-freemarker : ℕ
-is-text-x-freemarker = 1042
+is-text-x-freemarker = 1082
 
 abbrev pub is-text-x-fsharp : ℕ
-is-text-x-fsharp = 1043
+is-text-x-fsharp = 1083
 
 abbrev pub is-text-x-gams : ℕ
-is-text-x-gams = 1044
+is-text-x-gams = 1084
 
 abbrev pub is-text-x-gap : ℕ
-is-text-x-gap = 1045
+is-text-x-gap = 1085
 
 abbrev pub is-text-x-gcode-gx : ℕ
-is-text-x-gcode-gx = 1046
+is-text-x-gcode-gx = 1086
 
 abbrev pub is-text-x-gdb : ℕ
-is-text-x-gdb = 1047
+is-text-x-gdb = 1087
 
 abbrev pub is-text-x-genbank : ℕ
-is-text-x-genbank = 1048
+is-text-x-genbank = 1088
 
 abbrev pub is-text-x-genie : ℕ
-is-text-x-genie = 1049
+is-text-x-genie = 1089
 
 abbrev pub is-text-x-gerber : ℕ
-is-text-x-gerber = 1050
+is-text-x-gerber = 1090
 
 abbrev pub is-text-x-gettext-translation : ℕ
-is-text-x-gettext-translation = 1051
+is-text-x-gettext-translation = 1091
 
 abbrev pub is-text-x-gettext-translation-template : ℕ
-is-text-x-gettext-translation-template = 1052
+is-text-x-gettext-translation-template = 1092
 
 abbrev pub is-text-x-gff : ℕ
-is-text-x-gff = 1053
+is-text-x-gff = 1093
 
 abbrev pub is-text-x-gff3 : ℕ
-is-text-x-gff3 = 1054
+is-text-x-gff3 = 1094
 
 abbrev pub is-text-x-gfortran-module : ℕ
-is-text-x-gfortran-module = 1055
+is-text-x-gfortran-module = 1095
 
 abbrev pub is-text-x-gherkin : ℕ
-is-text-x-gherkin = 1056
+is-text-x-gherkin = 1096
 
 abbrev pub is-text-x-gimp-ggr : ℕ
-is-text-x-gimp-ggr = 1057
+is-text-x-gimp-ggr = 1097
 
 abbrev pub is-text-x-gimp-gpl : ℕ
-is-text-x-gimp-gpl = 1058
+is-text-x-gimp-gpl = 1098
 
 abbrev pub is-text-x-gitattributes : ℕ
-is-text-x-gitattributes = 1059
+is-text-x-gitattributes = 1099
 
 abbrev pub is-text-x-gitconfig : ℕ
-is-text-x-gitconfig = 1060
+is-text-x-gitconfig = 1100
 
 abbrev pub is-text-x-gitignore : ℕ
-is-text-x-gitignore = 1061
+is-text-x-gitignore = 1101
 
 abbrev pub is-text-x-gleam : ℕ
-is-text-x-gleam = 1062
+is-text-x-gleam = 1102
 
 abbrev pub is-text-x-glsl : ℕ
-is-text-x-glsl = 1063
+is-text-x-glsl = 1103
 
 abbrev pub is-text-x-gn : ℕ
-is-text-x-gn = 1064
+is-text-x-gn = 1104
 
 abbrev pub is-text-x-go : ℕ
-is-text-x-go = 1065
+is-text-x-go = 1105
 
 abbrev pub is-text-x-gomod : ℕ
-is-text-x-gomod = 1066
+is-text-x-gomod = 1106
 
 abbrev pub is-text-x-gosum : ℕ
-is-text-x-gosum = 1067
+is-text-x-gosum = 1107
 
 abbrev pub is-text-x-gotemplate : ℕ
-is-text-x-gotemplate = 1068
+is-text-x-gotemplate = 1108
 
 abbrev pub is-text-x-gpr : ℕ
-is-text-x-gpr = 1069
+is-text-x-gpr = 1109
 
 abbrev pub is-text-x-gradle : ℕ
-is-text-x-gradle = 1070
+is-text-x-gradle = 1110
 
 abbrev pub is-text-x-groovy : ℕ
-is-text-x-groovy = 1071
+is-text-x-groovy = 1111
 
 abbrev pub is-text-x-haml : ℕ
-is-text-x-haml = 1072
+is-text-x-haml = 1112
 
 abbrev pub is-text-x-handlebars : ℕ
-is-text-x-handlebars = 1073
+is-text-x-handlebars = 1113
 
 abbrev pub is-text-x-haskell : ℕ
-is-text-x-haskell = 1074
+is-text-x-haskell = 1114
 
 abbrev pub is-text-x-haxe : ℕ
-is-text-x-haxe = 1075
+is-text-x-haxe = 1115
 
 abbrev pub is-text-x-hcl : ℕ
-is-text-x-hcl = 1076
+is-text-x-hcl = 1116
 
 abbrev pub is-text-x-hive : ℕ
-is-text-x-hive = 1077
+is-text-x-hive = 1117
 
 abbrev pub is-text-x-hlsl : ℕ
-is-text-x-hlsl = 1078
+is-text-x-hlsl = 1118
 
 abbrev pub is-text-x-hunspell-affix : ℕ
-is-text-x-hunspell-affix = 1079
+is-text-x-hunspell-affix = 1119
 
 abbrev pub is-text-x-hy : ℕ
-is-text-x-hy = 1080
+is-text-x-hy = 1120
 
 abbrev pub is-text-x-idl : ℕ
-is-text-x-idl = 1081
+is-text-x-idl = 1121
 
 abbrev pub is-text-x-idris : ℕ
-is-text-x-idris = 1082
+is-text-x-idris = 1122
 
 abbrev pub is-text-x-igor : ℕ
-is-text-x-igor = 1083
+is-text-x-igor = 1123
 
 abbrev pub is-text-x-imagej : ℕ
-is-text-x-imagej = 1084
+is-text-x-imagej = 1124
 
 abbrev pub is-text-x-imelody : ℕ
-is-text-x-imelody = 1085
+is-text-x-imelody = 1125
 
 abbrev pub is-text-x-info : ℕ
-is-text-x-info = 1086
+is-text-x-info = 1126
 
 abbrev pub is-text-x-ini : ℕ
-is-text-x-ini = 1087
+is-text-x-ini = 1127
 
 abbrev pub is-text-x-innosetup : ℕ
-is-text-x-innosetup = 1088
+is-text-x-innosetup = 1128
 
 abbrev pub is-text-x-io : ℕ
-is-text-x-io = 1089
+is-text-x-io = 1129
 
 abbrev pub is-text-x-ipxe : ℕ
-is-text-x-ipxe = 1090
+is-text-x-ipxe = 1130
 
 abbrev pub is-text-x-irclog : ℕ
-is-text-x-irclog = 1091
+is-text-x-irclog = 1131
 
 abbrev pub is-text-x-isabelle : ℕ
-is-text-x-isabelle = 1092
+is-text-x-isabelle = 1132
 
 abbrev pub is-text-x-janet : ℕ
-is-text-x-janet = 1093
+is-text-x-janet = 1133
 
 abbrev pub is-text-x-java : ℕ
-is-text-x-java = 1094
+is-text-x-java = 1134
 
 abbrev pub is-text-x-java-manifest : ℕ
-is-text-x-java-manifest = 1095
+is-text-x-java-manifest = 1135
 
 abbrev pub is-text-x-java-properties : ℕ
-is-text-x-java-properties = 1096
+is-text-x-java-properties = 1136
 
 abbrev pub is-text-x-jcl : ℕ
-is-text-x-jcl = 1097
+is-text-x-jcl = 1137
 
 abbrev pub is-text-x-jelly : ℕ
-is-text-x-jelly = 1098
+is-text-x-jelly = 1138
 
 abbrev pub is-text-x-jinja : ℕ
-is-text-x-jinja = 1099
+is-text-x-jinja = 1139
 
 abbrev pub is-text-x-jq : ℕ
-is-text-x-jq = 1100
+is-text-x-jq = 1140
 
 abbrev pub is-text-x-julia : ℕ
-is-text-x-julia = 1101
+is-text-x-julia = 1141
 
 abbrev pub is-text-x-just : ℕ
-is-text-x-just = 1102
+is-text-x-just = 1142
 
 abbrev pub is-text-x-kaitai-struct : ℕ
-is-text-x-kaitai-struct = 1103
+is-text-x-kaitai-struct = 1143
 
 abbrev pub is-text-x-kconfig : ℕ
-is-text-x-kconfig = 1104
+is-text-x-kconfig = 1144
 
 abbrev pub is-text-x-kickstart : ℕ
-is-text-x-kickstart = 1105
+is-text-x-kickstart = 1145
 
 abbrev pub is-text-x-kotlin : ℕ
-is-text-x-kotlin = 1106
+is-text-x-kotlin = 1146
 
 abbrev pub is-text-x-krl : ℕ
-is-text-x-krl = 1107
+is-text-x-krl = 1147
 
 abbrev pub is-text-x-kusto : ℕ
-is-text-x-kusto = 1108
+is-text-x-kusto = 1148
 
 abbrev pub is-text-x-latte : ℕ
-is-text-x-latte = 1109
+is-text-x-latte = 1149
 
 abbrev pub is-text-x-ld-script : ℕ
-is-text-x-ld-script = 1110
+is-text-x-ld-script = 1150
 
 abbrev pub is-text-x-ldif : ℕ
-is-text-x-ldif = 1111
+is-text-x-ldif = 1151
 
 abbrev pub is-text-x-lean : ℕ
-is-text-x-lean = 1112
+is-text-x-lean = 1152
 
 abbrev pub is-text-x-less : ℕ
-is-text-x-less = 1113
+is-text-x-less = 1153
 
 abbrev pub is-text-x-lex : ℕ
-is-text-x-lex = 1114
+is-text-x-lex = 1154
 
 abbrev pub is-text-x-lfe : ℕ
-is-text-x-lfe = 1115
+is-text-x-lfe = 1155
 
 abbrev pub is-text-x-lilypond : ℕ
-is-text-x-lilypond = 1116
+is-text-x-lilypond = 1156
 
 abbrev pub is-text-x-liquid : ℕ
-is-text-x-liquid = 1117
+is-text-x-liquid = 1157
 
 abbrev pub is-text-x-literate-haskell : ℕ
-is-text-x-literate-haskell = 1118
+is-text-x-literate-haskell = 1158
 
 abbrev pub is-text-x-livescript : ℕ
-is-text-x-livescript = 1119
+is-text-x-livescript = 1159
 
 abbrev pub is-text-x-llvm : ℕ
-is-text-x-llvm = 1120
+is-text-x-llvm = 1160
 
 abbrev pub is-text-x-logtalk : ℕ
-is-text-x-logtalk = 1121
+is-text-x-logtalk = 1161
 
 abbrev pub is-text-x-lsl : ℕ
-is-text-x-lsl = 1122
+is-text-x-lsl = 1162
 
 abbrev pub is-text-x-lua : ℕ
-is-text-x-lua = 1123
+is-text-x-lua = 1163
 
 abbrev pub is-text-x-luatex : ℕ
-is-text-x-luatex = 1124
+is-text-x-luatex = 1164
 
 abbrev pub is-text-x-makefile : ℕ
-is-text-x-makefile = 1125
+is-text-x-makefile = 1165
 
 abbrev pub is-text-x-mako : ℕ
-is-text-x-mako = 1126
+is-text-x-mako = 1166
 
 abbrev pub is-text-x-marko : ℕ
-is-text-x-marko = 1127
+is-text-x-marko = 1167
 
 abbrev pub is-text-x-matlab : ℕ
-is-text-x-matlab = 1128
+is-text-x-matlab = 1168
 
 abbrev pub is-text-x-maven-xml : ℕ
-is-text-x-maven-xml = 1129
+is-text-x-maven-xml = 1169
 
 abbrev pub is-text-x-maxima : ℕ
-is-text-x-maxima = 1130
+is-text-x-maxima = 1170
 
 abbrev pub is-text-x-mcfunction : ℕ
-is-text-x-mcfunction = 1131
+is-text-x-mcfunction = 1171
 
 abbrev pub is-text-x-mediawiki : ℕ
-is-text-x-mediawiki = 1132
+is-text-x-mediawiki = 1172
 
 abbrev pub is-text-x-mermaid : ℕ
-is-text-x-mermaid = 1133
+is-text-x-mermaid = 1173
 
 abbrev pub is-text-x-meson : ℕ
-is-text-x-meson = 1134
+is-text-x-meson = 1174
 
 abbrev pub is-text-x-metafont : ℕ
-is-text-x-metafont = 1135
+is-text-x-metafont = 1175
 
 abbrev pub is-text-x-metal : ℕ
-is-text-x-metal = 1136
+is-text-x-metal = 1176
 
 abbrev pub is-text-x-mib : ℕ
-is-text-x-mib = 1137
+is-text-x-mib = 1177
 
 abbrev pub is-text-x-mirc : ℕ
-is-text-x-mirc = 1138
+is-text-x-mirc = 1178
 
 abbrev pub is-text-x-mlir : ℕ
-is-text-x-mlir = 1139
+is-text-x-mlir = 1179
 
 abbrev pub is-text-x-modelica : ℕ
-is-text-x-modelica = 1140
+is-text-x-modelica = 1180
 
 abbrev pub is-text-x-modula : ℕ
-is-text-x-modula = 1141
+is-text-x-modula = 1181
 
 abbrev pub is-text-x-mojo : ℕ
-is-text-x-mojo = 1142
+is-text-x-mojo = 1182
 
 abbrev pub is-text-x-monkey : ℕ
-is-text-x-monkey = 1143
+is-text-x-monkey = 1183
 
 abbrev pub is-text-x-moonscript : ℕ
-is-text-x-moonscript = 1144
+is-text-x-moonscript = 1184
 
 abbrev pub is-text-x-move : ℕ
-is-text-x-move = 1145
+is-text-x-move = 1185
 
 abbrev pub is-text-x-ms-regedit : ℕ
-is-text-x-ms-regedit = 1146
+is-text-x-ms-regedit = 1186
 
 abbrev pub is-text-x-msdos-batch : ℕ
-is-text-x-msdos-batch = 1147
+is-text-x-msdos-batch = 1187
 
 abbrev pub is-text-x-mup : ℕ
-is-text-x-mup = 1148
+is-text-x-mup = 1188
 
 abbrev pub is-text-x-newick : ℕ
-is-text-x-newick = 1149
+is-text-x-newick = 1189
 
 abbrev pub is-text-x-nextflow : ℕ
-is-text-x-nextflow = 1150
+is-text-x-nextflow = 1190
 
 abbrev pub is-text-x-nexus : ℕ
-is-text-x-nexus = 1151
+is-text-x-nexus = 1191
 
 abbrev pub is-text-x-nftables : ℕ
-is-text-x-nftables = 1152
+is-text-x-nftables = 1192
 
 abbrev pub is-text-x-nginx-conf : ℕ
-is-text-x-nginx-conf = 1153
+is-text-x-nginx-conf = 1193
 
 abbrev pub is-text-x-nim : ℕ
-is-text-x-nim = 1154
+is-text-x-nim = 1194
 
 abbrev pub is-text-x-ninja : ℕ
-is-text-x-ninja = 1155
+is-text-x-ninja = 1195
 
 abbrev pub is-text-x-nix : ℕ
-is-text-x-nix = 1156
+is-text-x-nix = 1196
 
 abbrev pub is-text-x-nsis : ℕ
-is-text-x-nsis = 1157
+is-text-x-nsis = 1197
 
 abbrev pub is-text-x-nushell : ℕ
-is-text-x-nushell = 1158
+is-text-x-nushell = 1198
 
 abbrev pub is-text-x-objc-src : ℕ
-is-text-x-objc-src = 1159
+is-text-x-objc-src = 1199
 
 abbrev pub is-text-x-objcsrc : ℕ
-is-text-x-objcsrc = 1160
+is-text-x-objcsrc = 1200
 
 abbrev pub is-text-x-ocaml : ℕ
-is-text-x-ocaml = 1161
+is-text-x-ocaml = 1201
 
 abbrev pub is-text-x-octave : ℕ
-is-text-x-octave = 1162
+is-text-x-octave = 1202
 
 abbrev pub is-text-x-odin : ℕ
-is-text-x-odin = 1163
+is-text-x-odin = 1203
 
 abbrev pub is-text-x-ooc : ℕ
-is-text-x-ooc = 1164
+is-text-x-ooc = 1204
 
 abbrev pub is-text-x-opencl-src : ℕ
-is-text-x-opencl-src = 1165
+is-text-x-opencl-src = 1205
 
 abbrev pub is-text-x-openscad : ℕ
-is-text-x-openscad = 1166
+is-text-x-openscad = 1206
 
 abbrev pub is-text-x-opentype-feature : ℕ
-is-text-x-opentype-feature = 1167
+is-text-x-opentype-feature = 1207
 
 abbrev pub is-text-x-opml-xml : ℕ
-is-text-x-opml-xml = 1168
+is-text-x-opml-xml = 1208
 
 abbrev pub is-text-x-oz : ℕ
-is-text-x-oz = 1169
+is-text-x-oz = 1209
 
 abbrev pub is-text-x-pascal : ℕ
-is-text-x-pascal = 1170
+is-text-x-pascal = 1210
 
 abbrev pub is-text-x-patch : ℕ
-is-text-x-patch = 1171
+is-text-x-patch = 1211
 
 abbrev pub is-text-x-pawn : ℕ
-is-text-x-pawn = 1172
+is-text-x-pawn = 1212
 
 abbrev pub is-text-x-perl : ℕ
-is-text-x-perl = 1173
+is-text-x-perl = 1213
 
 abbrev pub is-text-x-php : ℕ
-is-text-x-php = 1174
+is-text-x-php = 1214
 
 abbrev pub is-text-x-pic : ℕ
-is-text-x-pic = 1175
+is-text-x-pic = 1215
 
 abbrev pub is-text-x-pig : ℕ
-is-text-x-pig = 1176
+is-text-x-pig = 1216
 
 abbrev pub is-text-x-pike : ℕ
-is-text-x-pike = 1177
+is-text-x-pike = 1217
 
 abbrev pub is-text-x-pkg-config : ℕ
-is-text-x-pkg-config = 1178
+is-text-x-pkg-config = 1218
 
 abbrev pub is-text-x-plantuml : ℕ
-is-text-x-plantuml = 1179
+is-text-x-plantuml = 1219
 
 abbrev pub is-text-x-pli : ℕ
-is-text-x-pli = 1180
+is-text-x-pli = 1220
 
 abbrev pub is-text-x-pod : ℕ
-is-text-x-pod = 1181
+is-text-x-pod = 1221
 
 abbrev pub is-text-x-pony : ℕ
-is-text-x-pony = 1182
+is-text-x-pony = 1222
 
 abbrev pub is-text-x-postcss : ℕ
-is-text-x-postcss = 1183
+is-text-x-postcss = 1223
 
 abbrev pub is-text-x-praat : ℕ
-is-text-x-praat = 1184
+is-text-x-praat = 1224
 
 abbrev pub is-text-x-preseed : ℕ
-is-text-x-preseed = 1185
+is-text-x-preseed = 1225
 
 abbrev pub is-text-x-prisma : ℕ
-is-text-x-prisma = 1186
+is-text-x-prisma = 1226
 
 abbrev pub is-text-x-procfile : ℕ
-is-text-x-procfile = 1187
+is-text-x-procfile = 1227
 
 abbrev pub is-text-x-prolog : ℕ
-is-text-x-prolog = 1188
+is-text-x-prolog = 1228
 
 abbrev pub is-text-x-protobuf : ℕ
-is-text-x-protobuf = 1189
+is-text-x-protobuf = 1229
 
 abbrev pub is-text-x-psv : ℕ
-is-text-x-psv = 1190
+is-text-x-psv = 1230
 
 abbrev pub is-text-x-pth : ℕ
-is-text-x-pth = 1191
+is-text-x-pth = 1231
 
 abbrev pub is-text-x-pug : ℕ
-is-text-x-pug = 1192
+is-text-x-pug = 1232
 
 abbrev pub is-text-x-puppet : ℕ
-is-text-x-puppet = 1193
+is-text-x-puppet = 1233
 
 abbrev pub is-text-x-purescript : ℕ
-is-text-x-purescript = 1194
+is-text-x-purescript = 1234
 
 abbrev pub is-text-x-python-as-known : ℕ
-is-text-x-python-as-known = 1195
+is-text-x-python-as-known = 1235
 
 abbrev pub is-text-x-python-as-row-py : ℕ
-is-text-x-python-as-row-py = 1196
+is-text-x-python-as-row-py = 1236
 
 abbrev pub is-text-x-qmake : ℕ
-is-text-x-qmake = 1197
+is-text-x-qmake = 1237
 
 abbrev pub is-text-x-qml : ℕ
-is-text-x-qml = 1198
+is-text-x-qml = 1238
 
 abbrev pub is-text-x-r-doc : ℕ
-is-text-x-r-doc = 1199
+is-text-x-r-doc = 1239
 
 abbrev pub is-text-x-racket : ℕ
-is-text-x-racket = 1200
+is-text-x-racket = 1240
 
 abbrev pub is-text-x-ragel : ℕ
-is-text-x-ragel = 1201
+is-text-x-ragel = 1241
 
 abbrev pub is-text-x-raku : ℕ
-is-text-x-raku = 1202
+is-text-x-raku = 1242
 
 abbrev pub is-text-x-razor : ℕ
-is-text-x-razor = 1203
+is-text-x-razor = 1243
 
 abbrev pub is-text-x-rdoc : ℕ
-is-text-x-rdoc = 1204
+is-text-x-rdoc = 1244
 
 abbrev pub is-text-x-readline : ℕ
-is-text-x-readline = 1205
+is-text-x-readline = 1245
 
 abbrev pub is-text-x-reason : ℕ
-is-text-x-reason = 1206
+is-text-x-reason = 1246
 
 abbrev pub is-text-x-rebol : ℕ
-is-text-x-rebol = 1207
+is-text-x-rebol = 1247
 
 abbrev pub is-text-x-red : ℕ
-is-text-x-red = 1208
+is-text-x-red = 1248
 
 abbrev pub is-text-x-rego : ℕ
-is-text-x-rego = 1209
+is-text-x-rego = 1249
 
 abbrev pub is-text-x-reject : ℕ
-is-text-x-reject = 1210
+is-text-x-reject = 1250
 
 abbrev pub is-text-x-rexx : ℕ
-is-text-x-rexx = 1211
+is-text-x-rexx = 1251
 
 abbrev pub is-text-x-ring : ℕ
-is-text-x-ring = 1212
+is-text-x-ring = 1252
 
 abbrev pub is-text-x-rmarkdown : ℕ
-is-text-x-rmarkdown = 1213
+is-text-x-rmarkdown = 1253
 
 abbrev pub is-text-x-robotframework : ℕ
-is-text-x-robotframework = 1214
+is-text-x-robotframework = 1254
 
 abbrev pub is-text-x-roc : ℕ
-is-text-x-roc = 1215
+is-text-x-roc = 1255
 
 abbrev pub is-text-x-rpgle : ℕ
-is-text-x-rpgle = 1216
+is-text-x-rpgle = 1256
 
 abbrev pub is-text-x-rpm-spec : ℕ
-is-text-x-rpm-spec = 1217
+is-text-x-rpm-spec = 1257
 
 abbrev pub is-text-x-rsrc : ℕ
-is-text-x-rsrc = 1218
+is-text-x-rsrc = 1258
 
 abbrev pub is-text-x-rst : ℕ
-is-text-x-rst = 1219
+is-text-x-rst = 1259
 
 abbrev pub is-text-x-ruby : ℕ
-is-text-x-ruby = 1220
+is-text-x-ruby = 1260
 
 abbrev pub is-text-x-sagemath : ℕ
-is-text-x-sagemath = 1221
+is-text-x-sagemath = 1261
 
 abbrev pub is-text-x-sam : ℕ
-is-text-x-sam = 1222
+is-text-x-sam = 1262
 
 abbrev pub is-text-x-sas : ℕ
-is-text-x-sas = 1223
+is-text-x-sas = 1263
 
 abbrev pub is-text-x-sass : ℕ
-is-text-x-sass = 1224
+is-text-x-sass = 1264
 
 abbrev pub is-text-x-scala : ℕ
-is-text-x-scala = 1225
+is-text-x-scala = 1265
 
 abbrev pub is-text-x-scc : ℕ
-is-text-x-scc = 1226
+is-text-x-scc = 1266
 
 abbrev pub is-text-x-scheme : ℕ
-is-text-x-scheme = 1227
+is-text-x-scheme = 1267
 
 abbrev pub is-text-x-scilab : ℕ
-is-text-x-scilab = 1228
+is-text-x-scilab = 1268
 
 abbrev pub is-text-x-scons : ℕ
-is-text-x-scons = 1229
+is-text-x-scons = 1269
 
 abbrev pub is-text-x-scss : ℕ
-is-text-x-scss = 1230
+is-text-x-scss = 1270
 
 abbrev pub is-text-x-sdc : ℕ
-is-text-x-sdc = 1231
+is-text-x-sdc = 1271
 
 abbrev pub is-text-x-sed : ℕ
-is-text-x-sed = 1232
+is-text-x-sed = 1272
 
 abbrev pub is-text-x-selinux : ℕ
-is-text-x-selinux = 1233
+is-text-x-selinux = 1273
 
 abbrev pub is-text-x-setext : ℕ
-is-text-x-setext = 1234
+is-text-x-setext = 1274
 
 abbrev pub is-text-x-shell-config : ℕ
-is-text-x-shell-config = 1235
+is-text-x-shell-config = 1275
 
 abbrev pub is-text-x-shellscript : ℕ
-is-text-x-shellscript = 1236
+is-text-x-shellscript = 1276
 
 abbrev pub is-text-x-sieve : ℕ
-is-text-x-sieve = 1237
+is-text-x-sieve = 1277
 
 abbrev pub is-text-x-slim : ℕ
-is-text-x-slim = 1238
+is-text-x-slim = 1278
 
 abbrev pub is-text-x-slint : ℕ
-is-text-x-slint = 1239
+is-text-x-slint = 1279
 
 abbrev pub is-text-x-sln : ℕ
-is-text-x-sln = 1240
+is-text-x-sln = 1280
 
 abbrev pub is-text-x-smali : ℕ
-is-text-x-smali = 1241
+is-text-x-smali = 1281
 
 abbrev pub is-text-x-smarty : ℕ
-is-text-x-smarty = 1242
+is-text-x-smarty = 1282
 
 abbrev pub is-text-x-sml : ℕ
-is-text-x-sml = 1243
+is-text-x-sml = 1283
 
 abbrev pub is-text-x-smt : ℕ
-is-text-x-smt = 1244
+is-text-x-smt = 1284
 
 abbrev pub is-text-x-snakemake : ℕ
-is-text-x-snakemake = 1245
+is-text-x-snakemake = 1285
 
 abbrev pub is-text-x-solidity : ℕ
-is-text-x-solidity = 1246
+is-text-x-solidity = 1286
 
 abbrev pub is-text-x-sourcepawn : ℕ
-is-text-x-sourcepawn = 1247
+is-text-x-sourcepawn = 1287
 
 abbrev pub is-text-x-soy : ℕ
-is-text-x-soy = 1248
+is-text-x-soy = 1288
 
 abbrev pub is-text-x-spice : ℕ
-is-text-x-spice = 1249
+is-text-x-spice = 1289
 
 abbrev pub is-text-x-spin : ℕ
-is-text-x-spin = 1250
+is-text-x-spin = 1290
 
 abbrev pub is-text-x-squirrel : ℕ
-is-text-x-squirrel = 1251
+is-text-x-squirrel = 1291
 
 abbrev pub is-text-x-ssa : ℕ
-is-text-x-ssa = 1252
+is-text-x-ssa = 1292
 
 abbrev pub is-text-x-stan : ℕ
-is-text-x-stan = 1253
+is-text-x-stan = 1293
 
 abbrev pub is-text-x-starlark : ℕ
-is-text-x-starlark = 1254
+is-text-x-starlark = 1294
 
 abbrev pub is-text-x-stata : ℕ
-is-text-x-stata = 1255
+is-text-x-stata = 1295
 
 abbrev pub is-text-x-strings : ℕ
-is-text-x-strings = 1256
+is-text-x-strings = 1296
 
 abbrev pub is-text-x-stylus : ℕ
-is-text-x-stylus = 1257
+is-text-x-stylus = 1297
 
 abbrev pub is-text-x-subviewer : ℕ
-is-text-x-subviewer = 1258
+is-text-x-subviewer = 1298
 
 abbrev pub is-text-x-supercollider : ℕ
-is-text-x-supercollider = 1259
+is-text-x-supercollider = 1299
 
 abbrev pub is-text-x-svelte : ℕ
-is-text-x-svelte = 1260
+is-text-x-svelte = 1300
 
 abbrev pub is-text-x-svhdr : ℕ
-is-text-x-svhdr = 1261
+is-text-x-svhdr = 1301
 
 abbrev pub is-text-x-svsrc : ℕ
-is-text-x-svsrc = 1262
+is-text-x-svsrc = 1302
 
 abbrev pub is-text-x-swift : ℕ
-is-text-x-swift = 1263
+is-text-x-swift = 1303
 
 abbrev pub is-text-x-systemd-unit : ℕ
-is-text-x-systemd-unit = 1264
+is-text-x-systemd-unit = 1304
 
 abbrev pub is-text-x-tablegen : ℕ
-is-text-x-tablegen = 1265
+is-text-x-tablegen = 1305
 
 abbrev pub is-text-x-tcl : ℕ
-is-text-x-tcl = 1266
+is-text-x-tcl = 1306
 
 abbrev pub is-text-x-template-toolkit : ℕ
-is-text-x-template-toolkit = 1267
+is-text-x-template-toolkit = 1307
 
 abbrev pub is-text-x-tex : ℕ
-is-text-x-tex = 1268
+is-text-x-tex = 1308
 
 abbrev pub is-text-x-texinfo : ℕ
-is-text-x-texinfo = 1269
+is-text-x-texinfo = 1309
 
 abbrev pub is-text-x-textile : ℕ
-is-text-x-textile = 1270
+is-text-x-textile = 1310
 
 abbrev pub is-text-x-textproto : ℕ
-is-text-x-textproto = 1271
+is-text-x-textproto = 1311
 
 abbrev pub is-text-x-thrift : ℕ
-is-text-x-thrift = 1272
+is-text-x-thrift = 1312
 
 abbrev pub is-text-x-tla : ℕ
-is-text-x-tla = 1273
+is-text-x-tla = 1313
 
 abbrev pub is-text-x-tmux-conf : ℕ
-is-text-x-tmux-conf = 1274
+is-text-x-tmux-conf = 1314
 
 abbrev pub is-text-x-tsx : ℕ
-is-text-x-tsx = 1275
+is-text-x-tsx = 1315
 
 abbrev pub is-text-x-twig : ℕ
-is-text-x-twig = 1276
+is-text-x-twig = 1316
 
 abbrev pub is-text-x-txt2tags : ℕ
-is-text-x-txt2tags = 1277
+is-text-x-txt2tags = 1317
 
 abbrev pub is-text-x-typescript : ℕ
-is-text-x-typescript = 1278
+is-text-x-typescript = 1318
 
 abbrev pub is-text-x-typst : ℕ
-is-text-x-typst = 1279
+is-text-x-typst = 1319
 
 abbrev pub is-text-x-uc : ℕ
-is-text-x-uc = 1280
+is-text-x-uc = 1320
 
 abbrev pub is-text-x-udev-rules : ℕ
-is-text-x-udev-rules = 1281
+is-text-x-udev-rules = 1321
 
 abbrev pub is-text-x-unity : ℕ
-is-text-x-unity = 1282
+is-text-x-unity = 1322
 
 abbrev pub is-text-x-uri : ℕ
-is-text-x-uri = 1283
+is-text-x-uri = 1323
 
 abbrev pub is-text-x-uuencode : ℕ
-is-text-x-uuencode = 1284
+is-text-x-uuencode = 1324
 
 abbrev pub is-text-x-vagrantfile : ℕ
-is-text-x-vagrantfile = 1285
+is-text-x-vagrantfile = 1325
 
 abbrev pub is-text-x-vala : ℕ
-is-text-x-vala = 1286
+is-text-x-vala = 1326
 
 abbrev pub is-text-x-vb : ℕ
-is-text-x-vb = 1287
+is-text-x-vb = 1327
 
 abbrev pub is-text-x-vcf : ℕ
-is-text-x-vcf = 1288
+is-text-x-vcf = 1328
 
 abbrev pub is-text-x-vcl : ℕ
-is-text-x-vcl = 1289
+is-text-x-vcl = 1329
 
 abbrev pub is-text-x-vdf : ℕ
-is-text-x-vdf = 1290
+is-text-x-vdf = 1330
 
 abbrev pub is-text-x-verilog : ℕ
-is-text-x-verilog = 1291
+is-text-x-verilog = 1331
 
 abbrev pub is-text-x-vhdl : ℕ
-is-text-x-vhdl = 1292
+is-text-x-vhdl = 1332
 
 abbrev pub is-text-x-vim : ℕ
-is-text-x-vim = 1293
+is-text-x-vim = 1333
 
 abbrev pub is-text-x-vnote : ℕ
-is-text-x-vnote = 1294
+is-text-x-vnote = 1334
 
 abbrev pub is-text-x-vue : ℕ
-is-text-x-vue = 1295
+is-text-x-vue = 1335
 
 abbrev pub is-text-x-vyper : ℕ
-is-text-x-vyper = 1296
+is-text-x-vyper = 1336
 
 abbrev pub is-text-x-wat : ℕ
-is-text-x-wat = 1297
+is-text-x-wat = 1337
 
 abbrev pub is-text-x-wdl : ℕ
-is-text-x-wdl = 1298
+is-text-x-wdl = 1338
 
 abbrev pub is-text-x-wkt : ℕ
-is-text-x-wkt = 1299
+is-text-x-wkt = 1339
 
 abbrev pub is-text-x-wren : ℕ
-is-text-x-wren = 1300
+is-text-x-wren = 1340
 
 abbrev pub is-text-x-xcu-rng : ℕ
-is-text-x-xcu-rng = 1301
+is-text-x-xcu-rng = 1341
 
 abbrev pub is-text-x-xmcd : ℕ
-is-text-x-xmcd = 1302
+is-text-x-xmcd = 1342
 
 abbrev pub is-text-x-xmi : ℕ
-is-text-x-xmi = 1303
+is-text-x-xmi = 1343
 
 abbrev pub is-text-x-xonsh : ℕ
-is-text-x-xonsh = 1304
+is-text-x-xonsh = 1344
 
 abbrev pub is-text-x-xresources : ℕ
-is-text-x-xresources = 1305
+is-text-x-xresources = 1345
 
 abbrev pub is-text-x-yacc : ℕ
-is-text-x-yacc = 1306
+is-text-x-yacc = 1346
 
 abbrev pub is-text-x-yang : ℕ
-is-text-x-yang = 1307
+is-text-x-yang = 1347
 
 abbrev pub is-text-x-zig : ℕ
-is-text-x-zig = 1308
+is-text-x-zig = 1348
 
 abbrev pub is-text-x-zimpl : ℕ
-is-text-x-zimpl = 1309
+is-text-x-zimpl = 1349
 
 abbrev pub is-text-x-gcode : ℕ
-is-text-x-gcode = 1310
+is-text-x-gcode = 1350
 
 abbrev pub is-text-xml : ℕ
-is-text-xml = 1311
+is-text-xml = 1351
 
 abbrev pub is-video-3gpp : ℕ
-is-video-3gpp = 1312
+is-video-3gpp = 1352
 
 abbrev pub is-video-3gpp2 : ℕ
-is-video-3gpp2 = 1313
+is-video-3gpp2 = 1353
 
 abbrev pub is-video-dv : ℕ
-is-video-dv = 1314
+is-video-dv = 1354
 
 abbrev pub is-video-h264 : ℕ
-is-video-h264 = 1315
+is-video-h264 = 1355
 
 abbrev pub is-video-h265 : ℕ
-is-video-h265 = 1316
+is-video-h265 = 1356
 
 abbrev pub is-video-mj2 : ℕ
-is-video-mj2 = 1317
+is-video-mj2 = 1357
 
 abbrev pub is-video-mp2t : ℕ
-is-video-mp2t = 1318
+is-video-mp2t = 1358
 
 abbrev pub is-video-mp4 : ℕ
-is-video-mp4 = 1319
+is-video-mp4 = 1359
 
 abbrev pub is-video-mpeg : ℕ
-is-video-mpeg = 1320
+is-video-mpeg = 1360
 
 abbrev pub is-video-ogg : ℕ
-is-video-ogg = 1321
+is-video-ogg = 1361
 
-abbrev pub is-video-quicktime : ℕ
-is-video-quicktime = 1322
+abbrev pub is-video-quicktime-as-row-mov : ℕ
+is-video-quicktime-as-row-mov = 1362
+
+abbrev pub is-video-quicktime-as-row-mqv : ℕ
+is-video-quicktime-as-row-mqv = 1363
+
+abbrev pub is-video-vnd-dvb-file : ℕ
+is-video-vnd-dvb-file = 1364
 
 abbrev pub is-video-vnd-mpegurl : ℕ
-is-video-vnd-mpegurl = 1323
+is-video-vnd-mpegurl = 1365
 
 abbrev pub is-video-vnd-radgamettools-bink : ℕ
-is-video-vnd-radgamettools-bink = 1324
+is-video-vnd-radgamettools-bink = 1366
 
 abbrev pub is-video-vnd-radgamettools-smacker : ℕ
-is-video-vnd-radgamettools-smacker = 1325
+is-video-vnd-radgamettools-smacker = 1367
 
 abbrev pub is-video-webm : ℕ
-is-video-webm = 1326
+is-video-webm = 1368
 
 abbrev pub is-video-x-4xmv : ℕ
-is-video-x-4xmv = 1327
+is-video-x-4xmv = 1369
 
 abbrev pub is-video-x-amv : ℕ
-is-video-x-amv = 1328
+is-video-x-amv = 1370
 
 abbrev pub is-video-x-anim : ℕ
-is-video-x-anim = 1329
+is-video-x-anim = 1371
 
 abbrev pub is-video-x-cdxa : ℕ
-is-video-x-cdxa = 1330
+is-video-x-cdxa = 1372
 
 abbrev pub is-video-x-dirac : ℕ
-is-video-x-dirac = 1331
+is-video-x-dirac = 1373
 
 abbrev pub is-video-x-f4v : ℕ
-is-video-x-f4v = 1332
+is-video-x-f4v = 1374
 
 abbrev pub is-video-x-flic : ℕ
-is-video-x-flic = 1333
+is-video-x-flic = 1375
 
 abbrev pub is-video-x-flv : ℕ
-is-video-x-flv = 1334
+is-video-x-flv = 1376
 
 abbrev pub is-video-x-ifo : ℕ
-is-video-x-ifo = 1335
+is-video-x-ifo = 1377
 
 abbrev pub is-video-x-interplay-mve : ℕ
-is-video-x-interplay-mve = 1336
+is-video-x-interplay-mve = 1378
 
 abbrev pub is-video-x-ivf : ℕ
-is-video-x-ivf = 1337
+is-video-x-ivf = 1379
 
 abbrev pub is-video-x-m4v : ℕ
-is-video-x-m4v = 1338
+is-video-x-m4v = 1380
 
 abbrev pub is-video-x-matroska : ℕ
-is-video-x-matroska = 1339
+is-video-x-matroska = 1381
 
 abbrev pub is-video-x-matroska-3d : ℕ
-is-video-x-matroska-3d = 1340
+is-video-x-matroska-3d = 1382
 
 abbrev pub is-video-x-mmm : ℕ
-is-video-x-mmm = 1341
+is-video-x-mmm = 1383
 
 abbrev pub is-video-x-mng : ℕ
-is-video-x-mng = 1342
+is-video-x-mng = 1384
 
 abbrev pub is-video-x-ms-wmv : ℕ
-is-video-x-ms-wmv = 1343
+is-video-x-ms-wmv = 1385
 
 abbrev pub is-video-x-ms-wtv : ℕ
-is-video-x-ms-wtv = 1344
+is-video-x-ms-wtv = 1386
 
 abbrev pub is-video-x-msvideo : ℕ
-is-video-x-msvideo = 1345
+is-video-x-msvideo = 1387
 
 abbrev pub is-video-x-nsv : ℕ
-is-video-x-nsv = 1346
+is-video-x-nsv = 1388
 
 abbrev pub is-video-x-nut : ℕ
-is-video-x-nut = 1347
+is-video-x-nut = 1389
 
 abbrev pub is-video-x-ogm-ogg : ℕ
-is-video-x-ogm-ogg = 1348
+is-video-x-ogm-ogg = 1390
 
 abbrev pub is-video-x-red-r3d : ℕ
-is-video-x-red-r3d = 1349
+is-video-x-red-r3d = 1391
 
 abbrev pub is-video-x-roq : ℕ
-is-video-x-roq = 1350
+is-video-x-roq = 1392
 
 abbrev pub is-video-x-sgi-movie : ℕ
-is-video-x-sgi-movie = 1351
+is-video-x-sgi-movie = 1393
 
 abbrev pub is-video-x-vdr : ℕ
-is-video-x-vdr = 1352
+is-video-x-vdr = 1394
 
 abbrev pub is-video-x-yuv4mpeg : ℕ
-is-video-x-yuv4mpeg = 1353
+is-video-x-yuv4mpeg = 1395
 
 abbrev pub is-x-epoc-x-sisx-app : ℕ
-is-x-epoc-x-sisx-app = 1354
+is-x-epoc-x-sisx-app = 1396
 
 unfoldable pub types_0 : List NamedType
 types_0 =
@@ -4204,6 +4330,7 @@ types_0 =
     ∷ named (codes "application/vnd.las") (row (codes "las"))
     ∷ named (codes "application/vnd.laszip") (row (codes "laz"))
     ∷ named (codes "application/vnd.lotus-1-2-3") known
+    ∷ named (codes "application/vnd.lotus-1-2-3") (row (codes "wk1"))
     ∷ named (codes "application/vnd.lotus-wordpro") (row (codes "lwp"))
     ∷ named (codes "application/vnd.mbtiles") own
     ∷ named (codes "application/vnd.microsoft.portable-executable") (row (codes "exe"))
@@ -4237,7 +4364,6 @@ types_0 =
     ∷ named (codes "application/vnd.ms-works") (row (codes "wps"))
     ∷ named (codes "application/vnd.ms-wpl") (row (codes "wpl"))
     ∷ named (codes "application/vnd.ms-xpsdocument") known
-    ∷ named (codes "application/vnd.nintendo.nitro.rom") known
     ∷ named (codes "application/vnd.nintendo.snes.rom") known
     ∷ named (codes "application/vnd.oasis.opendocument.base") (row (codes "odb"))
     ∷ named (codes "application/vnd.oasis.opendocument.chart") (row (codes "odc"))
@@ -4283,6 +4409,7 @@ types_0 =
     ∷ named (codes "application/vnd.sun.xml.impress") (row (codes "sxi"))
     ∷ named (codes "application/vnd.sun.xml.math") (row (codes "sxm"))
     ∷ named (codes "application/vnd.sun.xml.writer") (row (codes "sxw"))
+    ∷ named (codes "application/vnd.symbian.install") (row (codes "sis"))
     ∷ named (codes "application/vnd.tcpdump.pcap") (row (codes "pcap"))
     ∷ named (codes "application/vnd.visio") (row (codes "vsd"))
     ∷ named (codes "application/vnd.wolfram.mathematica") known
@@ -4296,7 +4423,7 @@ types_0 =
     ∷ named (codes "application/x-7z-compressed") (row (codes "7z"))
     ∷ named (codes "application/x-abiword") (row (codes "abw"))
     ∷ named (codes "application/x-ableton-live-set") own
-    ∷ named (codes "application/x-ace") known
+    ∷ named (codes "application/x-ace-compressed") (row (codes "ace"))
     ∷ named (codes "application/x-acronis-tib") (row (codes "tib"))
     ∷ named (codes "application/x-admx") own
     ∷ named (codes "application/x-aes-encrypted") (row (codes "aes"))
@@ -4312,6 +4439,7 @@ types_0 =
     ∷ named (codes "application/x-android-vdex") (row (codes "vdex"))
     ∷ named (codes "application/x-ant+xml") own
     ∷ named (codes "application/x-apkm") own
+    ∷ named (codes "application/x-aportisdoc") (row (codes "aportis"))
     ∷ named (codes "application/x-appdata+xml") own
     ∷ named (codes "application/x-apple-diskimage") (row (codes "apm"))
     ∷ named (codes "application/x-apple-xib") (row (codes "xib"))
@@ -4321,15 +4449,14 @@ types_0 =
     ∷ named (codes "application/x-apt-cache") (row (codes "aptcache"))
     ∷ named (codes "application/x-arb+json") own
     ∷ named (codes "application/x-arc") known
-    ∷ named (codes "application/x-archive-dar") own
     ∷ named (codes "application/x-arj") (row (codes "arj"))
     ∷ named (codes "application/x-asar") (row (codes "asar"))
-    ∷ named (codes "application/x-asp") known
     ∷ []
 
 unfoldable pub types_1 : List NamedType
 types_1 =
-    named (codes "application/x-aspx") known
+    named (codes "application/x-asp") known
+    ∷ named (codes "application/x-aspx") known
     ∷ named (codes "application/x-atari-7800-rom") (row (codes "a78"))
     ∷ named (codes "application/x-atari-lynx-rom") (row (codes "lnx"))
     ∷ named (codes "application/x-atari-msa") (row (codes "msa"))
@@ -4374,6 +4501,7 @@ types_1 =
     ∷ named (codes "application/x-csi") (row (codes "csi"))
     ∷ named (codes "application/x-cubin") (row (codes "cubin"))
     ∷ named (codes "application/x-cue") known
+    ∷ named (codes "application/x-dar") (row (codes "dar"))
     ∷ named (codes "application/x-dbm") (row (codes "bdb"))
     ∷ named (codes "application/x-designer") (row (codes "ui"))
     ∷ named (codes "application/x-desktop") known
@@ -4394,6 +4522,7 @@ types_1 =
     ∷ named (codes "application/x-dvi") (row (codes "dvi"))
     ∷ named (codes "application/x-eclipse+xml") own
     ∷ named (codes "application/x-edf") (row (codes "edf"))
+    ∷ named (codes "application/x-edid-dump") (row (codes "edid"))
     ∷ named (codes "application/x-eet") (row (codes "eet"))
     ∷ named (codes "application/x-egg") (row (codes "egg"))
     ∷ named (codes "application/x-elc") (row (codes "elc"))
@@ -4422,8 +4551,11 @@ types_1 =
     ∷ named (codes "application/x-freecad") own
     ∷ named (codes "application/x-freemind") (row (codes "mm"))
     ∷ named (codes "application/x-g64-disk") (row (codes "g64"))
-    ∷ named (codes "application/x-gameboy-rom") known
+    ∷ named (codes "application/x-gameboy-color-rom") (row (codes "gbc"))
+    ∷ named (codes "application/x-gameboy-rom") (row (codes "gb"))
+    ∷ named (codes "application/x-gamecube-rom") (row (codes "gcm"))
     ∷ named (codes "application/x-gba-rom") known
+    ∷ named (codes "application/x-gba-rom") (row (codes "gba"))
     ∷ named (codes "application/x-gcc-pch") (row (codes "gch"))
     ∷ named (codes "application/x-gconv-cache") (row (codes "gconv"))
     ∷ named (codes "application/x-gcov-data") (row (codes "gcda"))
@@ -4432,9 +4564,12 @@ types_1 =
     ∷ named (codes "application/x-gdf") (row (codes "gdf"))
     ∷ named (codes "application/x-gds") own
     ∷ named (codes "application/x-gdscript") known
+    ∷ named (codes "application/x-genesis-32x-rom") (row (codes "32x"))
     ∷ named (codes "application/x-genesis-rom") known
+    ∷ named (codes "application/x-genesis-rom") (row (codes "md"))
     ∷ named (codes "application/x-gettext-translation") (row (codes "mo"))
     ∷ named (codes "application/x-gguf") (row (codes "gguf"))
+    ∷ named (codes "application/x-ghc-interface") (row (codes "hi"))
     ∷ named (codes "application/x-gir+xml") own
     ∷ named (codes "application/x-gir-typelib") (row (codes "typelib"))
     ∷ named (codes "application/x-git") (row (codes "pack"))
@@ -4446,6 +4581,7 @@ types_1 =
     ∷ named (codes "application/x-glulx") (row (codes "ulx"))
     ∷ named (codes "application/x-gnucash") (row (codes "gnucash"))
     ∷ named (codes "application/x-gnumeric") (row (codes "gnumeric"))
+    ∷ named (codes "application/x-gnupg-keybox") (row (codes "kbx"))
     ∷ named (codes "application/x-gnupg-trustdb") (row (codes "trustdb"))
     ∷ named (codes "application/x-gnuplot") (row (codes "gnuplot"))
     ∷ named (codes "application/x-go-object") (row (codes "goobj"))
@@ -4472,6 +4608,7 @@ types_1 =
     ∷ named (codes "application/x-hwpx") own
     ∷ named (codes "application/x-hxml") own
     ∷ named (codes "application/x-ia-arc") (row (codes "iaarc"))
+    ∷ named (codes "application/x-icu-data") (row (codes "icures"))
     ∷ named (codes "application/x-iff") (row (codes "iff"))
     ∷ named (codes "application/x-indesign") (row (codes "indd"))
     ∷ named (codes "application/x-innodb") own
@@ -4519,10 +4656,13 @@ types_1 =
     ∷ named (codes "application/x-ldml+xml") (row (codes "ldml"))
     ∷ named (codes "application/x-leveldb-table") own
     ∷ named (codes "application/x-linux-kernel") (row (codes "bzimage"))
+    ∷ named (codes "application/x-linux-kernel") (row (codes "zimage"))
     ∷ named (codes "application/x-llvm") (row (codes "bc"))
     ∷ named (codes "application/x-llvm-profdata") (row (codes "profdata"))
     ∷ named (codes "application/x-llvm-profraw") (row (codes "profraw"))
+    ∷ named (codes "application/x-lmdb") (row (codes "lmdb"))
     ∷ named (codes "application/x-locale-archive") own
+    ∷ named (codes "application/x-locate-database") (row (codes "locate"))
     ∷ named (codes "application/x-lottie+json") own
     ∷ named (codes "application/x-lrzip") (row (codes "lrz"))
     ∷ named (codes "application/x-lua-bytecode") (row (codes "luac"))
@@ -4539,6 +4679,7 @@ types_1 =
     ∷ named (codes "application/x-lzma-compressed-tar") known
     ∷ named (codes "application/x-lzop") (row (codes "lzo"))
     ∷ named (codes "application/x-m4") known
+    ∷ named (codes "application/x-macbinary") (row (codes "macbin"))
     ∷ named (codes "application/x-mach-binary") (row (codes "mach"))
     ∷ named (codes "application/x-magic-database") own
     ∷ named (codes "application/x-mame-chd") (row (codes "chd"))
@@ -4559,6 +4700,8 @@ types_1 =
     ∷ named (codes "application/x-ms-reader") (row (codes "lit"))
     ∷ named (codes "application/x-ms-registry") (row (codes "regf"))
     ∷ named (codes "application/x-ms-registry-hive") own
+    ∷ named (codes "application/x-ms-resource") (row (codes "res"))
+    ∷ named (codes "application/x-ms-sdb") (row (codes "sdb"))
     ∷ named (codes "application/x-ms-sdi") (row (codes "sdi"))
     ∷ named (codes "application/x-ms-shortcut") (row (codes "lnk"))
     ∷ named (codes "application/x-ms-wim") (row (codes "wim"))
@@ -4568,7 +4711,11 @@ types_1 =
     ∷ named (codes "application/x-msi") (row (codes "msi"))
     ∷ named (codes "application/x-mswinurl") (row (codes "url"))
     ∷ named (codes "application/x-mswrite") (row (codes "wri"))
-    ∷ named (codes "application/x-musescore") (row (codes "mscz"))
+    ∷ []
+
+unfoldable pub types_2 : List NamedType
+types_2 =
+    named (codes "application/x-musescore") (row (codes "mscz"))
     ∷ named (codes "application/x-musescore+xml") (row (codes "mscx"))
     ∷ named (codes "application/x-mxml") own
     ∷ named (codes "application/x-mysql-myisam") (row (codes "myi"))
@@ -4577,19 +4724,20 @@ types_1 =
     ∷ named (codes "application/x-navi-animation") (row (codes "ani"))
     ∷ named (codes "application/x-ndjson") (row (codes "ndjson"))
     ∷ named (codes "application/x-nekovm-bytecode") (row (codes "neko"))
+    ∷ named (codes "application/x-neo-geo-pocket-color-rom") (row (codes "ngc"))
+    ∷ named (codes "application/x-neo-geo-pocket-rom") (row (codes "ngp"))
     ∷ named (codes "application/x-netcdf") (row (codes "nc"))
     ∷ named (codes "application/x-netmon") (row (codes "netmon"))
     ∷ named (codes "application/x-netshow-channel") (row (codes "nsc"))
     ∷ named (codes "application/x-nintendo-3ds-executable") (row (codes "3dsx"))
+    ∷ named (codes "application/x-nintendo-3ds-rom") (row (codes "cci"))
+    ∷ named (codes "application/x-nintendo-ds-rom") (row (codes "nds"))
+    ∷ named (codes "application/x-nintendo-ncch") (row (codes "ncch"))
     ∷ named (codes "application/x-nintendo-nes-rom") (row (codes "nes"))
     ∷ named (codes "application/x-nintendo-nso") (row (codes "nso"))
     ∷ named (codes "application/x-npy") (row (codes "npy"))
     ∷ named (codes "application/x-npz") own
-    ∷ []
-
-unfoldable pub types_2 : List NamedType
-types_2 =
-    named (codes "application/x-nuget-package") own
+    ∷ named (codes "application/x-nuget-package") own
     ∷ named (codes "application/x-nuspec+xml") own
     ∷ named (codes "application/x-nzb") (row (codes "nzb"))
     ∷ named (codes "application/x-object") (row (codes "o"))
@@ -4679,6 +4827,7 @@ types_2 =
     ∷ named (codes "application/x-spectrum-szx") (row (codes "szx"))
     ∷ named (codes "application/x-spectrum-tzx") (row (codes "tzx"))
     ∷ named (codes "application/x-spirv") (row (codes "spv"))
+    ∷ named (codes "application/x-spss-por") (row (codes "por"))
     ∷ named (codes "application/x-spss-sav") (row (codes "sav"))
     ∷ named (codes "application/x-sqlite2") (row (codes "sqlite2"))
     ∷ named (codes "application/x-ssh-public-key") own
@@ -4706,6 +4855,7 @@ types_2 =
     ∷ named (codes "application/x-tgif") (row (codes "tgif"))
     ∷ named (codes "application/x-theme") known
     ∷ named (codes "application/x-theme+xml") own
+    ∷ named (codes "application/x-thomson-sap-image") (row (codes "thomsap"))
     ∷ named (codes "application/x-thumbs-db") own
     ∷ named (codes "application/x-tmx+xml") own
     ∷ named (codes "application/x-tokyocabinet-btree") (row (codes "tcb"))
@@ -4737,6 +4887,7 @@ types_2 =
     ∷ named (codes "application/x-vmdk-disk") (row (codes "vmdk"))
     ∷ named (codes "application/x-wheel+zip") own
     ∷ named (codes "application/x-wii-rom") (row (codes "rvz"))
+    ∷ named (codes "application/x-wii-rom") (row (codes "wbfs"))
     ∷ named (codes "application/x-wii-wad") (row (codes "wiiwad"))
     ∷ named (codes "application/x-windows-dump") own
     ∷ named (codes "application/x-wix+xml") own
@@ -4752,7 +4903,9 @@ types_2 =
     ∷ named (codes "application/x-xpinstall") known
     ∷ named (codes "application/x-xz") (row (codes "xz"))
     ∷ named (codes "application/x-xz-compressed-tar") known
+    ∷ named (codes "application/x-zchunk") (row (codes "zck"))
     ∷ named (codes "application/x-zcml") own
+    ∷ named (codes "application/x-zip") (row (codes "omni"))
     ∷ named (codes "application/x-zip-compressed-fb2") (row (codes "fbz"))
     ∷ named (codes "application/x-zoo") (row (codes "zoo"))
     ∷ named (codes "application/x-zpaq") (row (codes "zpaq"))
@@ -4780,13 +4933,16 @@ types_2 =
     ∷ named (codes "audio/mid") (row (codes "rmi"))
     ∷ named (codes "audio/midi") (row (codes "midi"))
     ∷ named (codes "audio/mobile-xmf") (row (codes "xmf"))
+    ∷ named (codes "audio/mp4") (row (codes "f4a"))
     ∷ named (codes "audio/mpeg") (row (codes "mp3"))
     ∷ named (codes "audio/ogg") (row (codes "oga"))
     ∷ named (codes "audio/ogg") (row (codes "ogg"))
     ∷ named (codes "audio/opus") (row (codes "opus"))
     ∷ named (codes "audio/prs.sid") (row (codes "sid"))
     ∷ named (codes "audio/sf2") own
-    ∷ named (codes "audio/vnd.audible") own
+    ∷ named (codes "audio/vnd.audible") (row (codes "aa"))
+    ∷ named (codes "audio/vnd.audible.aax") (row (codes "aax"))
+    ∷ named (codes "audio/vnd.dolby.mlp") (row (codes "mlp"))
     ∷ named (codes "audio/vnd.dts") (row (codes "dts"))
     ∷ named (codes "audio/vnd.rn-realaudio") known
     ∷ named (codes "audio/webm") known
@@ -4808,13 +4964,20 @@ types_2 =
     ∷ named (codes "audio/x-flac") (row (codes "flac"))
     ∷ named (codes "audio/x-gbs") (row (codes "gbs"))
     ∷ named (codes "audio/x-gsm") known
+    ∷ named (codes "audio/x-ircam") (row (codes "ircam"))
+    ∷ named (codes "audio/x-iriver-pla") (row (codes "pla"))
     ∷ named (codes "audio/x-it") (row (codes "it"))
     ∷ named (codes "audio/x-m4b") (row (codes "m4b"))
     ∷ named (codes "audio/x-matroska") known
     ∷ named (codes "audio/x-maud") (row (codes "maud"))
     ∷ named (codes "audio/x-mids") (row (codes "mids"))
-    ∷ named (codes "audio/x-mo3") (row (codes "mo3"))
+    ∷ []
+
+unfoldable pub types_3 : List NamedType
+types_3 =
+    named (codes "audio/x-mo3") (row (codes "mo3"))
     ∷ named (codes "audio/x-mod") known
+    ∷ named (codes "audio/x-mod") (row (codes "mod"))
     ∷ named (codes "audio/x-mpegurl") known
     ∷ named (codes "audio/x-ms-asx") (row (codes "asx"))
     ∷ named (codes "audio/x-ms-wma") known
@@ -4825,9 +4988,10 @@ types_2 =
     ∷ named (codes "audio/x-paf") (row (codes "paf"))
     ∷ named (codes "audio/x-psf") (row (codes "psf"))
     ∷ named (codes "audio/x-psion-wve") (row (codes "wve"))
+    ∷ named (codes "audio/x-ptm") (row (codes "ptm"))
     ∷ named (codes "audio/x-pvf") (row (codes "pvf"))
     ∷ named (codes "audio/x-rf64") (row (codes "rf64"))
-    ∷ named (codes "audio/x-s3m") known
+    ∷ named (codes "audio/x-s3m") (row (codes "s3m"))
     ∷ named (codes "audio/x-sample-vision") (row (codes "smp"))
     ∷ named (codes "audio/x-sap") (row (codes "sap"))
     ∷ named (codes "audio/x-scpls") (row (codes "pls"))
@@ -4835,6 +4999,7 @@ types_2 =
     ∷ named (codes "audio/x-sfbk") (row (codes "sf2"))
     ∷ named (codes "audio/x-spc") (row (codes "spc"))
     ∷ named (codes "audio/x-speex+ogg") (row (codes "spx"))
+    ∷ named (codes "audio/x-stm") (row (codes "stm"))
     ∷ named (codes "audio/x-tta") (row (codes "tta"))
     ∷ named (codes "audio/x-ult") (row (codes "ult"))
     ∷ named (codes "audio/x-vgm") (row (codes "vgm"))
@@ -4845,11 +5010,7 @@ types_2 =
     ∷ named (codes "audio/x-xbox-executable") (row (codes "xbe"))
     ∷ named (codes "audio/x-xbox360-executable") (row (codes "xex"))
     ∷ named (codes "audio/x-xi") (row (codes "xi"))
-    ∷ []
-
-unfoldable pub types_3 : List NamedType
-types_3 =
-    named (codes "audio/x-xm") (row (codes "xm"))
+    ∷ named (codes "audio/x-xm") (row (codes "xm"))
     ∷ named (codes "audio/x-yamaha-txw") (row (codes "txw"))
     ∷ named (codes "chemical/x-cdx") known
     ∷ named (codes "chemical/x-cif") known
@@ -4877,6 +5038,7 @@ types_3 =
     ∷ named (codes "image/heic") (row (codes "heic"))
     ∷ named (codes "image/heic-sequence") (row (codes "heics"))
     ∷ named (codes "image/heif") (row (codes "heif"))
+    ∷ named (codes "image/heif-sequence") (row (codes "heifs"))
     ∷ named (codes "image/jls") (row (codes "jls"))
     ∷ named (codes "image/jp2") (row (codes "jp2"))
     ∷ named (codes "image/jpeg") (row (codes "jpg"))
@@ -4943,7 +5105,8 @@ types_3 =
     ∷ named (codes "image/x-lytro-lfp") (row (codes "lfp"))
     ∷ named (codes "image/x-mamiya-mef") own
     ∷ named (codes "image/x-miff") (row (codes "miff"))
-    ∷ named (codes "image/x-minolta-mrw") known
+    ∷ named (codes "image/x-minolta-mrw") (row (codes "mrw"))
+    ∷ named (codes "image/x-mrc") (row (codes "mrc"))
     ∷ named (codes "image/x-mvg") (row (codes "mvg"))
     ∷ named (codes "image/x-niff") (row (codes "niff"))
     ∷ named (codes "image/x-nikon-nef") known
@@ -4955,7 +5118,7 @@ types_3 =
     ∷ named (codes "image/x-pentax-pef") known
     ∷ named (codes "image/x-pgf") (row (codes "pgf"))
     ∷ named (codes "image/x-pic") (row (codes "pic"))
-    ∷ named (codes "image/x-pict") known
+    ∷ named (codes "image/x-pict") (row (codes "pict"))
     ∷ named (codes "image/x-portable-anymap") (row (codes "pnm"))
     ∷ named (codes "image/x-portable-arbitrarymap") (row (codes "pam"))
     ∷ named (codes "image/x-portable-bitmap") known
@@ -4964,6 +5127,7 @@ types_3 =
     ∷ named (codes "image/x-portable-pixmap") known
     ∷ named (codes "image/x-pvr") (row (codes "pvr"))
     ∷ named (codes "image/x-qoi") (row (codes "qoi"))
+    ∷ named (codes "image/x-quicktime") (row (codes "qtif"))
     ∷ named (codes "image/x-samsung-srw") own
     ∷ named (codes "image/x-sgi") (row (codes "sgi"))
     ∷ named (codes "image/x-sigma-x3f") (row (codes "x3f"))
@@ -4973,6 +5137,7 @@ types_3 =
     ∷ named (codes "image/x-sony-srf") known
     ∷ named (codes "image/x-svm") (row (codes "svm"))
     ∷ named (codes "image/x-tga") known
+    ∷ named (codes "image/x-tga") (row (codes "tga"))
     ∷ named (codes "image/x-vips") (row (codes "vips"))
     ∷ named (codes "image/x-win-bitmap") (row (codes "cur"))
     ∷ named (codes "image/x-wpg") (row (codes "wpg"))
@@ -4983,13 +5148,14 @@ types_3 =
     ∷ named (codes "image/x-xpixmap") (row (codes "xpm"))
     ∷ named (codes "image/x-xwindowdump") (row (codes "xwd"))
     ∷ named (codes "image/x-zeiss-czi") (row (codes "czi"))
+    ∷ named (codes "image/x.nifti") (row (codes "nii"))
     ∷ named (codes "message/http") (row (codes "http"))
     ∷ named (codes "message/rfc822") known
     ∷ named (codes "model/3mf") (row (codes "3mf"))
     ∷ named (codes "model/e57") (row (codes "e57"))
     ∷ named (codes "model/gltf+json") known
     ∷ named (codes "model/gltf-binary") (row (codes "glb"))
-    ∷ named (codes "model/iges") known
+    ∷ named (codes "model/iges") (row (codes "igs"))
     ∷ named (codes "model/mtl") known
     ∷ named (codes "model/obj") known
     ∷ named (codes "model/step") (row (codes "model/step"))
@@ -5065,7 +5231,11 @@ types_3 =
     ∷ named (codes "text/x-bpftrace") own
     ∷ named (codes "text/x-bugs") own
     ∷ named (codes "text/x-c++hdr") known
-    ∷ named (codes "text/x-c++src") known
+    ∷ []
+
+unfoldable pub types_4 : List NamedType
+types_4 =
+    named (codes "text/x-c++src") known
     ∷ named (codes "text/x-cabal") own
     ∷ named (codes "text/x-cairo") own
     ∷ named (codes "text/x-capnp") own
@@ -5105,11 +5275,7 @@ types_3 =
     ∷ named (codes "text/x-dune") own
     ∷ named (codes "text/x-ebnf") known
     ∷ named (codes "text/x-ebuild") own
-    ∷ []
-
-unfoldable pub types_4 : List NamedType
-types_4 =
-    named (codes "text/x-editorconfig") own
+    ∷ named (codes "text/x-editorconfig") own
     ∷ named (codes "text/x-eex") own
     ∷ named (codes "text/x-eiffel") known
     ∷ named (codes "text/x-ejs") own
@@ -5325,7 +5491,11 @@ types_4 =
     ∷ named (codes "text/x-sieve") own
     ∷ named (codes "text/x-slim") known
     ∷ named (codes "text/x-slint") own
-    ∷ named (codes "text/x-sln") own
+    ∷ []
+
+unfoldable pub types_5 : List NamedType
+types_5 =
+    named (codes "text/x-sln") own
     ∷ named (codes "text/x-smali") own
     ∷ named (codes "text/x-smarty") known
     ∷ named (codes "text/x-sml") own
@@ -5365,11 +5535,7 @@ types_4 =
     ∷ named (codes "text/x-txt2tags") (row (codes "t2t"))
     ∷ named (codes "text/x-typescript") own
     ∷ named (codes "text/x-typst") own
-    ∷ []
-
-unfoldable pub types_5 : List NamedType
-types_5 =
-    named (codes "text/x-uc") own
+    ∷ named (codes "text/x-uc") own
     ∷ named (codes "text/x-udev-rules") own
     ∷ named (codes "text/x-unity") own
     ∷ named (codes "text/x-uri") known
@@ -5404,14 +5570,16 @@ types_5 =
     ∷ named (codes "video/3gpp") (row (codes "3gp"))
     ∷ named (codes "video/3gpp2") (row (codes "3g2"))
     ∷ named (codes "video/dv") (row (codes "dv"))
-    ∷ named (codes "video/h264") own
-    ∷ named (codes "video/h265") own
+    ∷ named (codes "video/h264") (row (codes "h264"))
+    ∷ named (codes "video/h265") (row (codes "h265"))
     ∷ named (codes "video/mj2") (row (codes "mj2"))
     ∷ named (codes "video/mp2t") (row (codes "ts"))
     ∷ named (codes "video/mp4") (row (codes "mp4"))
     ∷ named (codes "video/mpeg") (row (codes "mpg"))
     ∷ named (codes "video/ogg") (row (codes "ogv"))
     ∷ named (codes "video/quicktime") (row (codes "mov"))
+    ∷ named (codes "video/quicktime") (row (codes "mqv"))
+    ∷ named (codes "video/vnd.dvb.file") (row (codes "dvb"))
     ∷ named (codes "video/vnd.mpegurl") (row (codes "m4u"))
     ∷ named (codes "video/vnd.radgamettools.bink") (row (codes "bik"))
     ∷ named (codes "video/vnd.radgamettools.smacker") (row (codes "smk"))
@@ -5422,7 +5590,7 @@ types_5 =
     ∷ named (codes "video/x-cdxa") (row (codes "cdxa"))
     ∷ named (codes "video/x-dirac") (row (codes "drc"))
     ∷ named (codes "video/x-f4v") (row (codes "f4v"))
-    ∷ named (codes "video/x-flic") known
+    ∷ named (codes "video/x-flic") (row (codes "fli"))
     ∷ named (codes "video/x-flv") (row (codes "flv"))
     ∷ named (codes "video/x-ifo") (row (codes "ifo"))
     ∷ named (codes "video/x-interplay-mve") (row (codes "mve"))

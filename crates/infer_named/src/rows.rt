@@ -127,7 +127,7 @@ fn row_sum(text: &[u8]) -> usize
     }
     let first = usize::from(text[0]);
     let second = usize::from(text[text.len() / 4]);
-    let middle = usize::from(text[text.len() / 2]);
+    let later = usize::from(text[text.len() / 2 + text.len() / 4]);
     let last = usize::from(text[text.len() - 1]);
-    text.len() + 2223 * first + 1911 * second + 811 * middle + 1456 * last
+    text.len() + 551 * first + 2332 * second + 259 * later + 1045 * last
 }

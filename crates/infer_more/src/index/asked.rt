@@ -5,14 +5,14 @@ ghost use Rattle.infer_deep.specs.ClassId.{HasClassId};
 ghost use Rattle.infer_deep.specs.Find.{OccursAt};
 ghost use Rattle.infer_formats.specs.Json.{IsJson, IsJsonLines};
 ghost use Rattle.infer_formats.specs.Zip.{IsPackageWith};
-ghost use Rattle.infer_more.specs.Index.{AllApplications, AreClassIds, HasTagText, IsFoundBelow, IsLeast, IsNamed, IsOfProgram, IsRooted, IsRootedBy, IsTextRow, IsTried, MayBeginMarkup, are_spans, are_texts, ascends, begun, behind, below_at, bucket_at, bucket_of, candidate, candidates, entries_at, excepted, gated, guarded, has_between, has_byte, has_other, is_true_below, named_row, picked, ranged, rooted_row, seconded, tried_parentless, unless, within};
+ghost use Rattle.infer_more.specs.Index.{AllApplications, AreClassIds, HasTagText, IsFoundBelow, IsLeast, IsNamed, IsOfProgram, IsRooted, IsRootedBy, IsTextRow, IsTried, MayBeginMarkup, are_spans, are_spots, are_texts, all_seen, ascends, begun, behind, below_at, bucket_at, bucket_of, candidate, candidates, entries_at, excepted, gated, guarded, has_between, has_byte, has_marked, has_other, is_far, is_true_below, mark_at, named_row, picked, ranged, rooted_row, seconded, seen, spotted, tried_elsewhere, tried_parentless, unless, within, zeroed};
 ghost use Rattle.infer_more.specs.Parents.{is_marked};
 ghost use Rattle.infer_more.specs.Wider.{IsWidened, WidensAt};
 ghost use Rattle.infer_more.specs.declared.index.generated.TheConstants.{FURTHER_COUNT};
 
 use crate::index::{
-    Begun, Below, Entry, Except, FURTHER_COUNT, Gate, Guard, Named, Parentless, Range, Rooted,
-    Second, Texts, way_below, without_parent,
+    Begun, Below, Entry, Except, FURTHER_COUNT, Gate, Guard, LAST_PLACE, Named, Parentless, Range,
+    Rooted, Second, Spot, Spots, Texts, way_below, without_parent,
 };
 use crate::table::widens;
 use infer::rows::ROW_COUNT;
@@ -205,6 +205,90 @@ fn least_ranged(ranges: &[Range], buf: &[u8], before: usize) -> usize
     least
 }
 
+/// The marks of that byte.
+#[inline(always)]
+fn mark_at(marks: &[u32], byte: usize) -> u32
+    ensures { result ≡ mark_at marks.now byte }
+{
+    match marks.get(byte) {
+        Some(own) => *own,
+        None => 0,
+    }
+}
+
+/// Whether the buffer has a byte at the spot's place that has its mark.
+#[inline(always)]
+fn has_marked(marks: &[u32], spot: &Spot, buf: &[u8]) -> bool
+    ensures { result ≡ has_marked marks.now buf.now spot.now }
+{
+    match buf.get(spot.place as usize) {
+        Some(byte) => mark_at(marks, usize::from(*byte)) & spot.mark != 0,
+        None => false,
+    }
+}
+
+/// [`least_of`] the entries of the spot: the number before if the buffer has no byte there with its mark.
+#[tactic(auto, using(crate::proofs::LeastLemmas::tried_behind, crate::proofs::LeastLemmas::tried_shut))]
+#[inline(always)]
+fn least_seen(marks: &[u32], spot: &Spot, buf: &[u8], before: usize) -> usize
+    ensures { IsLeast (IsTried None buf.now (seen marks.now buf.now spot.now)) before result }
+{
+    if !has_marked(marks, spot, buf) {
+        return before;
+    }
+    least_of(spot.entries, buf, before)
+}
+
+/// [`least_of`] the entries of all these spots.
+#[inline(always)]
+fn least_all_seen(marks: &[u32], spots: &[Spot], buf: &[u8], before: usize) -> usize
+    ensures { IsLeast (IsTried None buf.now (all_seen marks.now buf.now spots.now)) before result }
+{
+    let mut least = before;
+    for spot in spots {
+        least = least_seen(marks, spot, buf, least);
+    }
+    least
+}
+
+/// [`least_all_seen`] of the spots of a zero: the number before if the buffer begins otherwise.
+#[tactic(auto, using(crate::proofs::LeastLemmas::tried_behind, crate::proofs::LeastLemmas::tried_shut))]
+#[inline(always)]
+fn least_zeroed(spots: &Spots, buf: &[u8], before: usize) -> usize
+    ensures { IsLeast (IsTried None buf.now (zeroed buf.now spots.now)) before result }
+{
+    if !has_byte(buf, 0, 0) {
+        return before;
+    }
+    least_all_seen(spots.marks, spots.zeros, buf, before)
+}
+
+/// [`least_all_seen`] of the far spots, none of which a short buffer has.
+#[inline(always)]
+fn least_far(spots: &Spots, buf: &[u8], before: usize) -> usize
+    requires { IsTrue (list_all (is_far spots.now.beyond) spots.now.far.now) }
+    ensures { IsLeast (IsTried None buf.now
+        (all_seen spots.now.marks.now buf.now spots.now.far.now)) before result }
+{
+    if buf.len() <= spots.beyond as usize {
+        return before;
+    }
+    least_all_seen(spots.marks, spots.far, buf, before)
+}
+
+/// The least of the number before and of the rows of all spots that widen the answer.
+#[inline(always)]
+fn least_spotted(spots: &Spots, buf: &[u8], before: usize) -> usize
+    requires { IsTrue (are_spots spots.now) }
+    ensures { IsLeast (IsTried None buf.now (spotted buf.now spots.now)) before result }
+{
+    if before <= usize::from(spots.from) {
+        return before;
+    }
+    let near = least_all_seen(spots.marks, spots.near, buf, before);
+    least_far(spots, buf, near)
+}
+
 /// The row if it is before that number, is tried and widens the answer; that number otherwise.
 #[inline(always)]
 fn least_but(except: &Except, parent: Option<usize>, buf: &[u8], before: usize) -> usize
@@ -334,18 +418,44 @@ fn least_seconded(index: &Parentless, buf: &[u8], before: usize) -> usize
     least_listed(entries_seconded(index, buf), buf, before)
 }
 
+/// The least of the number before and of the rows that bytes elsewhere tell and that widen the answer. Copies have numbers,
+/// since the compiler makes one call of two that are alike.
+#[inline(always)]
+fn least_elsewhere<const COPY: usize>(index: &Parentless, buf: &[u8], before: usize) -> usize
+    requires { IsTrue (are_spots index.now.spots) }
+    ensures { IsLeast (IsTried None buf.now (tried_elsewhere index.now buf.now)) before result }
+{
+    let zeroed = least_zeroed(&index.spots, buf, before);
+    let guarded = least_guarded(index.guards, buf, zeroed);
+    let gated = least_gated(&index.gate, buf, guarded);
+    let ranged = least_ranged(index.ranges, buf, gated);
+    least_spotted(&index.spots, buf, ranged)
+}
+
+/// [`least_elsewhere`], by a copy of its own for buffers that have each place that is looked at: there the compiler knows so.
+#[inline(always)]
+fn least_placed(index: &Parentless, buf: &[u8], before: usize) -> usize
+    requires { IsTrue (are_spots index.now.spots) }
+    ensures { IsLeast (IsTried None buf.now (tried_elsewhere index.now buf.now)) before result }
+{
+    if buf.len() > LAST_PLACE {
+        least_elsewhere::<1>(index, buf, before)
+    } else {
+        least_elsewhere::<0>(index, buf, before)
+    }
+}
+
 /// The least of the rows that such an index tries and that widen the answer, or their count.
 #[inline(always)]
 fn least_tried(index: &Parentless, buf: &[u8]) -> usize
-    requires { IsTrue (are_spans index.now.first) }
+    requires spans { IsTrue (are_spans index.now.first) }
+    requires spots { IsTrue (are_spots index.now.spots) }
     ensures { IsLeast (IsTried None buf.now
         (tried_parentless index.now buf.now)) FURTHER_COUNT result }
 {
     let begun = least_begun(index, buf);
     let seconded = least_seconded(index, buf, begun);
-    let least = least_guarded(index.guards, buf, seconded);
-    let gated = least_gated(&index.gate, buf, least);
-    least_ranged(index.ranges, buf, gated)
+    least_placed(index, buf, seconded)
 }
 
 /// The row of the text that the buffer is, or the number before if that is less or it is none.

@@ -9,6 +9,7 @@ use crate::table::{EndedTexts, FurtherRow};
 use infer::MatcherType;
 
 static ROWS: &[FurtherRow] = rows![
+    App "application/wasm" "wasmc": => [8, At(0, b"\0asm\r\0\x01\0")];
     App "application/x-ocaml-cmxa" "cmxa": => [12, At(0, b"Caml1999"), OneOf(8, b"Zz"), Between(9, b'0', b'9'), Between(10, b'0', b'9'), Between(11, b'0', b'9')];
     App "application/x-ocaml-cmt" "cmt": => [12, At(0, b"Caml1999T"), Between(9, b'0', b'9'), Between(10, b'0', b'9'), Between(11, b'0', b'9')];
     App "application/x-rust-metadata" "rmeta": => [8, At(0, b"rust\0\0\0"), Between(7, 0x04, 0x0F)];
@@ -29,6 +30,8 @@ static ROWS: &[FurtherRow] = rows![
     App "application/x-java-hprof" "hprof": => [19, At(0, b"JAVA PROFILE 1.0."), Between(17, b'1', b'3'), is!(18, 0x00)];
     App "application/x-java-flight-recording" "jfr": => [6, At(0, b"FLR\0\0"), OneOf(5, b"\x01\x02")];
     App "application/x-java-image" "jimage": => [4, At(0, b"\xDA\xDA\xFE\xCA")] [4, At(0, b"\xCA\xFE\xDA\xDA")];
+    App "application/x-ms-resource" "res": => [16, At(0, b"\0\0\0\0 \0\0\0\xFF\xFF\0\0\xFF\xFF\0\0")];
+    App "application/x-ghc-interface" "hi": => [4, At(0, b"\x01\xFA\xCEd")] [4, At(0, b"\0\x01\xFA\xCE")];
 ];
 
 #[tactic(auto, unfolding(crate::specs::Table::compiled))]

@@ -21,6 +21,7 @@ static ROWS: &[FurtherRow] = rows![
     App "application/x-postgresql-dump" "pgdump": => [7, At(0, b"PGDMP\x01"), Between(6, 0x00, b' ')];
     App "application/x-redis-dump" "rdb": => [9, At(0, b"REDIS"), Between(5, b'0', b'9'), Between(6, b'0', b'9'), Between(7, b'0', b'9'), Between(8, b'0', b'9')];
     App "application/vnd.hdt" "hdt": => [5, At(0, b"$HDT\x01")];
+    App "application/x-locate-database" "locate": => [8, At(0, b"\0mlocate")] [8, At(0, b"\0plocate")];
     App "application/x-apt-cache" "aptcache": => [4, At(0, b"\xDCv\xFE\x98")];
     App "application/x-ld-so-cache" "ldcache": => [20, At(0, b"glibc-ld.so.cache1.1")] [11, At(0, b"ld.so-1.7.0")];
     App "application/x-glibc-locale-archive" "locarch": => [4, is!(0, 0x09), At(1, b"\x01\x02\xDE")];

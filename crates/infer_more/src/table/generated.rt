@@ -1613,9 +1613,9 @@ fn widens_before_768(i: usize, parent: Option<usize>, buf: &[u8]) -> bool
     }
 }
 
-/// [`row_at`] for the rows before 798.
+/// [`row_at`] for the rows before 871.
 #[inline(always)]
-fn row_before_798(i: usize) -> Option<&'static FurtherRow>
+fn row_before_871(i: usize) -> Option<&'static FurtherRow>
     ensures listed { option_map (λ row. row_listed row.now) result ≡ slice_get further i }
     ensures ended { IfSome result (λ row. ended_listed row.now.ended
         ≡ ended_shown (row_listed row.now).shows) }
@@ -1652,13 +1652,86 @@ fn row_before_798(i: usize) -> Option<&'static FurtherRow>
         795 => row_of::<795>(),
         796 => row_of::<796>(),
         797 => row_of::<797>(),
+        798 => row_of::<798>(),
+        799 => row_of::<799>(),
+        800 => row_of::<800>(),
+        801 => row_of::<801>(),
+        802 => row_of::<802>(),
+        803 => row_of::<803>(),
+        804 => row_of::<804>(),
+        805 => row_of::<805>(),
+        806 => row_of::<806>(),
+        807 => row_of::<807>(),
+        808 => row_of::<808>(),
+        809 => row_of::<809>(),
+        810 => row_of::<810>(),
+        811 => row_of::<811>(),
+        812 => row_of::<812>(),
+        813 => row_of::<813>(),
+        814 => row_of::<814>(),
+        815 => row_of::<815>(),
+        816 => row_of::<816>(),
+        817 => row_of::<817>(),
+        818 => row_of::<818>(),
+        819 => row_of::<819>(),
+        820 => row_of::<820>(),
+        821 => row_of::<821>(),
+        822 => row_of::<822>(),
+        823 => row_of::<823>(),
+        824 => row_of::<824>(),
+        825 => row_of::<825>(),
+        826 => row_of::<826>(),
+        827 => row_of::<827>(),
+        828 => row_of::<828>(),
+        829 => row_of::<829>(),
+        830 => row_of::<830>(),
+        831 => row_of::<831>(),
+        832 => row_of::<832>(),
+        833 => row_of::<833>(),
+        834 => row_of::<834>(),
+        835 => row_of::<835>(),
+        836 => row_of::<836>(),
+        837 => row_of::<837>(),
+        838 => row_of::<838>(),
+        839 => row_of::<839>(),
+        840 => row_of::<840>(),
+        841 => row_of::<841>(),
+        842 => row_of::<842>(),
+        843 => row_of::<843>(),
+        844 => row_of::<844>(),
+        845 => row_of::<845>(),
+        846 => row_of::<846>(),
+        847 => row_of::<847>(),
+        848 => row_of::<848>(),
+        849 => row_of::<849>(),
+        850 => row_of::<850>(),
+        851 => row_of::<851>(),
+        852 => row_of::<852>(),
+        853 => row_of::<853>(),
+        854 => row_of::<854>(),
+        855 => row_of::<855>(),
+        856 => row_of::<856>(),
+        857 => row_of::<857>(),
+        858 => row_of::<858>(),
+        859 => row_of::<859>(),
+        860 => row_of::<860>(),
+        861 => row_of::<861>(),
+        862 => row_of::<862>(),
+        863 => row_of::<863>(),
+        864 => row_of::<864>(),
+        865 => row_of::<865>(),
+        866 => row_of::<866>(),
+        867 => row_of::<867>(),
+        868 => row_of::<868>(),
+        869 => row_of::<869>(),
+        870 => row_of::<870>(),
         _ => row_in_lists(i),
     }
 }
 
-/// [`widens`] for the rows before 798.
+/// [`widens`] for the rows before 871.
 #[inline(always)]
-fn widens_before_798(i: usize, parent: Option<usize>, buf: &[u8]) -> bool
+fn widens_before_871(i: usize, parent: Option<usize>, buf: &[u8]) -> bool
     ensures { IsTrue result ↔ WidensAt parent buf.now i }
 {
     match i {
@@ -1692,6 +1765,79 @@ fn widens_before_798(i: usize, parent: Option<usize>, buf: &[u8]) -> bool
         795 => widens_row::<795>(parent, buf),
         796 => widens_row::<796>(parent, buf),
         797 => widens_row::<797>(parent, buf),
+        798 => widens_row::<798>(parent, buf),
+        799 => widens_row::<799>(parent, buf),
+        800 => widens_row::<800>(parent, buf),
+        801 => widens_row::<801>(parent, buf),
+        802 => widens_row::<802>(parent, buf),
+        803 => widens_row::<803>(parent, buf),
+        804 => widens_row::<804>(parent, buf),
+        805 => widens_row::<805>(parent, buf),
+        806 => widens_row::<806>(parent, buf),
+        807 => widens_row::<807>(parent, buf),
+        808 => widens_row::<808>(parent, buf),
+        809 => widens_row::<809>(parent, buf),
+        810 => widens_row::<810>(parent, buf),
+        811 => widens_row::<811>(parent, buf),
+        812 => widens_row::<812>(parent, buf),
+        813 => widens_row::<813>(parent, buf),
+        814 => widens_row::<814>(parent, buf),
+        815 => widens_row::<815>(parent, buf),
+        816 => widens_row::<816>(parent, buf),
+        817 => widens_row::<817>(parent, buf),
+        818 => widens_row::<818>(parent, buf),
+        819 => widens_row::<819>(parent, buf),
+        820 => widens_row::<820>(parent, buf),
+        821 => widens_row::<821>(parent, buf),
+        822 => widens_row::<822>(parent, buf),
+        823 => widens_row::<823>(parent, buf),
+        824 => widens_row::<824>(parent, buf),
+        825 => widens_row::<825>(parent, buf),
+        826 => widens_row::<826>(parent, buf),
+        827 => widens_row::<827>(parent, buf),
+        828 => widens_row::<828>(parent, buf),
+        829 => widens_row::<829>(parent, buf),
+        830 => widens_row::<830>(parent, buf),
+        831 => widens_row::<831>(parent, buf),
+        832 => widens_row::<832>(parent, buf),
+        833 => widens_row::<833>(parent, buf),
+        834 => widens_row::<834>(parent, buf),
+        835 => widens_row::<835>(parent, buf),
+        836 => widens_row::<836>(parent, buf),
+        837 => widens_row::<837>(parent, buf),
+        838 => widens_row::<838>(parent, buf),
+        839 => widens_row::<839>(parent, buf),
+        840 => widens_row::<840>(parent, buf),
+        841 => widens_row::<841>(parent, buf),
+        842 => widens_row::<842>(parent, buf),
+        843 => widens_row::<843>(parent, buf),
+        844 => widens_row::<844>(parent, buf),
+        845 => widens_row::<845>(parent, buf),
+        846 => widens_row::<846>(parent, buf),
+        847 => widens_row::<847>(parent, buf),
+        848 => widens_row::<848>(parent, buf),
+        849 => widens_row::<849>(parent, buf),
+        850 => widens_row::<850>(parent, buf),
+        851 => widens_row::<851>(parent, buf),
+        852 => widens_row::<852>(parent, buf),
+        853 => widens_row::<853>(parent, buf),
+        854 => widens_row::<854>(parent, buf),
+        855 => widens_row::<855>(parent, buf),
+        856 => widens_row::<856>(parent, buf),
+        857 => widens_row::<857>(parent, buf),
+        858 => widens_row::<858>(parent, buf),
+        859 => widens_row::<859>(parent, buf),
+        860 => widens_row::<860>(parent, buf),
+        861 => widens_row::<861>(parent, buf),
+        862 => widens_row::<862>(parent, buf),
+        863 => widens_row::<863>(parent, buf),
+        864 => widens_row::<864>(parent, buf),
+        865 => widens_row::<865>(parent, buf),
+        866 => widens_row::<866>(parent, buf),
+        867 => widens_row::<867>(parent, buf),
+        868 => widens_row::<868>(parent, buf),
+        869 => widens_row::<869>(parent, buf),
+        870 => widens_row::<870>(parent, buf),
         _ => widens_any(i, parent, buf),
     }
 }
@@ -1712,7 +1858,7 @@ pub(crate) fn row_at(i: usize) -> Option<&'static FurtherRow>
     if i < 768 {
         return row_before_768(i);
     }
-    row_before_798(i)
+    row_before_871(i)
 }
 
 /// Whether further row `i` has this parent and accepts the buffer: code of its own for each row.
@@ -1729,5 +1875,5 @@ pub(crate) fn widens(i: usize, parent: Option<usize>, buf: &[u8]) -> bool
     if i < 768 {
         return widens_before_768(i, parent, buf);
     }
-    widens_before_798(i, parent, buf)
+    widens_before_871(i, parent, buf)
 }

@@ -9,6 +9,7 @@ use crate::table::{EndedTexts, FurtherRow};
 use infer::MatcherType;
 
 static ROWS: &[FurtherRow] = rows![
+    App "application/x-edid-dump" "edid": => [20, At(0, b"\0\xFF\xFF\xFF\xFF\xFF\xFF\0"), is!(18, 0x01), Between(19, 0x00, 0x04)];
     App "application/x-bdf" "bdfb": => [8, At(0, b"\xFFBIOSEMI")];
     App "application/x-gdf" "gdf": => [8, At(0, b"GDF "), Between(4, b'1', b'2'), is!(5, b'.'), Between(6, b'0', b'9'), Between(7, b'0', b'9')];
     App "application/cbor" "cbor": => [3, At(0, b"\xD9\xD9\xF7")];

@@ -18,11 +18,13 @@ static ROWS: &[FurtherRow] = rows![
     Archive "application/x-alz" "alz": => [8, At(0, b"ALZ\x01\n\0\0\0")];
     Archive "application/x-qpress" "qp": => [8, At(0, b"qpress10")];
     Archive "application/x-bsdiff" "bsdiff": => [8, At(0, b"BSDIFF40")] [8, At(0, b"BSDIFN40")];
+    Archive "application/x-zchunk" "zck": => [5, At(0, b"\0ZCK1")];
     Archive "application/x-asar" "asar": => [25, At(0, b"\x04\0\0\0"), At(16, b"{\"files\":")];
     Archive "application/vnd.flatpak" "flatpak": => [12, At(0, b"flatpak\0\x01\0\x89\xE5")] [12, At(0, b"xdg-app\0\x01\0\x89\xE5")];
     Archive "application/x-bgzf" "bgzf": GZ => [16, is!(3, 0x04), At(10, b"\x06\0BC\x02\0")];
     Image "application/x-killustrator" "kil": GZ => [46, OneOf(3, b"\x08\x18"), At(10, b"KOffice application/x-killustrator\x04\x06")];
     Image "application/x-karbon" "karbon": GZ => [40, OneOf(3, b"\x08\x18"), At(10, b"KOffice application/x-karbon\x04\x06")];
+    Archive "application/x-dar" "dar": => [15, At(0, b"\0\0\0{"), OneOf(14, b"NST")];
 ];
 
 #[tactic(auto, unfolding(crate::specs::Table::packed))]

@@ -15,6 +15,7 @@ static ROWS: &[FurtherRow] = rows![
     App "application/x-hdf" "hdf4": => [4, At(0, b"\x0E\x03\x13\x01")];
     App "application/x-spss-sav" "sav": => [8, At(0, b"$FL"), OneOf(3, b"23"), At(4, b"@(#)")];
     Doc "application/vnd.lotus-wordpro" "lwp": => [8, At(0, b"WordPro"), OneOf(7, b"\0\r")];
+    Doc "application/vnd.lotus-1-2-3" "wk1": => [8, At(0, b"\0\0\x02\0"), OneOf(4, b"\x04\x06"), is!(5, 0x04), At(6, b"\x06\0")] [8, At(0, b"\0\0\x1A\0"), At(4, b"\0\x10\x04\0")];
     Doc "application/winhlp" "hlp": => [5, At(0, b"?_\x03\0")];
     Doc "application/x-indesign" "indd": => [16, At(0, b"\x06\x06\xED\xF5\xD8\x1DF\xE5\xBD1\xEF\xE7\xFEt\xB7\x1D")];
     Doc "application/vnd.ms-tnef" "tnef": => [4, At(0, b"x\x9F>\"")];

@@ -24,6 +24,7 @@ static ROWS: &[FurtherRow] = rows![
     Video "video/x-mng" "mng": => [8, At(0, b"\x8AMNG\r\n\x1A\n")];
     Image "image/x-jp2-codestream" "j2c": => [4, At(0, b"\xFFO\xFFQ")];
     Image "image/x-paintshoppro" "psp": => [32, At(0, b"Paint Shop Pro Image File\n\x1A\0\0\0\0\0")];
+    Image "image/x-minolta-mrw" "mrw": => [5, At(0, b"\0MRM\0")];
 ];
 
 #[tactic(auto, unfolding(crate::specs::Table::pictures))]

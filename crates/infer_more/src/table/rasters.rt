@@ -19,6 +19,7 @@ static ROWS: &[FurtherRow] = rows![
     Image "image/x-pgf" "pgf": => [8, At(0, b"PGF"), OneOf(3, b"26"), At(6, b"\0\0")];
     Image "image/x-3ds" "3ds": => [18, At(0, b"MM"), At(6, b"\x02\0\n\0\0\0"), At(16, b"==")];
     Image "image/x-ilbm" "ilbm": => [12, At(0, b"FORM"), At(8, b"ILBM")] [12, At(0, b"FORM"), At(8, b"PBM ")];
+    Image "image/x-quicktime" "qtif": => [8, At(0, b"\0\0"), At(4, b"idsc")] [8, At(0, b"\0\0"), At(4, b"idat")];
 ];
 
 #[tactic(auto, unfolding(crate::specs::Table::rasters))]

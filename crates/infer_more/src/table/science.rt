@@ -17,6 +17,7 @@ static ROWS: &[FurtherRow] = rows![
     App "application/x-matlab-data" "mat": => [19, At(0, b"MATLAB 5.0 MAT-file")];
     App "application/x-r-data" "rdata": => [5, At(0, b"RDX"), OneOf(3, b"23"), is!(4, 0x0A)] [5, At(0, b"RDA"), OneOf(3, b"23"), is!(4, 0x0A)];
     App "application/x-cern-root" "root": => [12, At(0, b"root\0"), At(8, b"\0\0\0d")];
+    Image "image/x.nifti" "nii": => [348, At(0, b"\\\x01\0\0"), is!(344, b'n'), OneOf(345, b"+i"), At(346, b"1\0")] [348, At(0, b"\0\0\x01\\"), is!(344, b'n'), OneOf(345, b"+i"), At(346, b"1\0")] [12, At(0, b"\x1C\x02\0\0n"), OneOf(5, b"+i"), At(6, b"2\0\r\n\x1A\n")];
     Text "chemical/x-pdb" "pdbmol": => [57, At(0, b"HEADER    "), Between(50, b'0', b'9'), Between(51, b'0', b'9'), is!(52, b'-'), is!(56, b'-')];
     Text "chemical/x-mol2" "mol2": => [17, At(0, b"@<TRIPOS>MOLECULE")];
     App "application/x-bam" "bam": => [4, At(0, b"BAM\x01")];

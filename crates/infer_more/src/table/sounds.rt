@@ -29,6 +29,7 @@ static ROWS: &[FurtherRow] = rows![
     Audio "audio/x-tta" "tta": MP3 => [BehindId3(b"TTA1")];
     Audio "audio/x-musepack" "mpc": MP3 => [BehindId3(b"MPCK")] [BehindId3(b"MP+")];
     Audio "audio/x-dsf" "dsf": MP3 => [BehindId3(b"DSD ")];
+    Audio "audio/x-ircam" "ircam": => [4, At(0, b"d\xA3"), Between(2, 0x01, 0x04), is!(3, 0x00)] [4, is!(0, 0x00), Between(1, 0x01, 0x04), At(2, b"\xA3d")];
 ];
 
 #[tactic(auto, unfolding(crate::specs::Table::sounds))]

@@ -28,6 +28,8 @@ static ROWS: &[FurtherRow] = rows![
     Video "video/x-interplay-mve" "mve": => [20, At(0, b"Interplay MVE File\x1A\0")];
     Video "video/x-sgi-movie" "movie": => [6, At(0, b"MOVI"), is!(4, 0x00), OneOf(5, b"\x01\x02\x03")];
     Video "video/x-ifo" "ifo": => [12, At(0, b"DVDVIDEO-V"), OneOf(10, b"MT"), OneOf(11, b"GS")];
+    Video "video/h264" "h264": => [6, At(0, b"\0\0\0\x01"), OneOf(4, b"'Gg"), OneOf(5, b"BMXdnz\xF4")];
+    Video "video/h265" "h265": => [7, At(0, b"\0\0\0\x01@\x01\x0C")];
     Video "video/x-dirac" "drc": => [5, At(0, b"BBCD\0")];
 ];
 

@@ -6,21 +6,21 @@ use Rattle.infer_named.proofs.MarkLemmas.{AreMarked}
 use Rattle.infer_named.specs.Keys.K2.{keys}
 use Rattle.infer_named.specs.Listed.{key_listed, key_texts, readings}
 use Rattle.infer_named.specs.Marks.{whole_marks}
-use Rattle.infer_named.specs.Sets.{lead_lists, sets, sets_0, sets_1, sets_2, sets_3, sets_4, sets_5, sets_6}
+use Rattle.infer_named.specs.Sets.{lead_lists, sets, sets_0, sets_1, sets_2, sets_3, sets_4, sets_5, sets_6, sets_7}
 use Rattle.infer_named.specs.Slots.{starts}
 use Rattle.infer_named.specs.Types.{types, types_0, types_1, types_2, types_3, types_4, types_5}
 use Rattle.infer_named.specs.declared.table.generated.keys.TheConstants.{KEYS}
 
-pub listed : map key_listed (take 264 (drop 600 KEYS)) ≡ keys
+pub listed : map key_listed (take 265 (drop 608 KEYS)) ≡ keys
 unfolding keys key_texts readings
 listed = refl
 
-pub many : length keys ≡ 264
+pub many : length keys ≡ 265
 unfolding keys
 many = refl
 
-pub right : wrong_from starts 864 600 keys ≡ []
-unfolding keys starts types types_0 types_1 types_2 types_3 types_4 types_5 lead_lists sets sets_0 sets_1 sets_2 sets_3 sets_4 sets_5 sets_6
+pub right : wrong_from starts 873 608 keys ≡ []
+unfolding keys starts types types_0 types_1 types_2 types_3 types_4 types_5 lead_lists sets sets_0 sets_1 sets_2 sets_3 sets_4 sets_5 sets_6 sets_7
 right = refl
 
 pub marked : AreMarked keys

@@ -2,8 +2,8 @@
 use Rattle.std.specs.Prelude.{List, [], ◌∷◌, codes, false, true}
 use Rattle.infer_named.specs.Key.{Key, key}
 use Rattle.infer_named.specs.Listed.{reading}
-use Rattle.infer_named.specs.Sets.{any-lead, leads-10, leads-11, leads-3, leads-4, leads-8, no-rows, rows-3g2, rows-3g2-3gp-f4v-m4a-m4b-m4v-mov, rows-3gp, rows-3gp-mp4, rows-a78, rows-appimage-core-cubin-o-so, rows-application-x-msi, rows-application-x-ole-storage, rows-application-x-ole-storage-pptm-pptx-zip, rows-application-x-ole-storage-xlsx-zip, rows-arj, rows-as, rows-asc, rows-atom, rows-aup3-fossil-gpkg-mbtiles-mtn, rows-awk, rows-bat, rows-bcwav, rows-bootimg, rows-bps, rows-bsp, rows-bufr, rows-bz2, rows-bz2-gz-xz, rows-cer-p10-p8-pkipath, rows-chd, rows-clj, rows-dbf, rows-der, rows-dey, rows-diashape, rows-djvm, rows-djvu, rows-doc-doc2, rows-dtsi, rows-eac3, rows-edf, rows-elc, rows-elf, rows-eps, rows-escript, rows-exe, rows-f4v, rows-fccache, rows-flatpak, rows-fodp, rows-gjs-js, rows-gnuplot, rows-groovy, rows-grubkbd, rows-gvdb, rows-gz, rows-gz-zip, rows-heif, rows-hgbundle, rows-html, rows-html-json-php-svg-txt-xhtml-xml, rows-html-rss-txt-xml, rows-html-sh-svg-txt-xhtml-xml, rows-html-txt, rows-html-txt-xhtml-xml, rows-html-txt-xml, rows-hwp, rows-icc, rows-jimage, rows-jls, rows-jp2, rows-jpg, rows-jpx, rows-json, rows-json-ndjson-txt, rows-json-plist-txt-xml, rows-json-sh-txt, rows-jxr, rows-kpr, rows-ktx, rows-kwd, rows-lnk, rows-lua, rows-lzo, rows-m, rows-m4v, rows-minisig, rows-mj2, rows-mk, rows-mm, rows-mmm, rows-mobi, rows-model-step, rows-movie, rows-mp3, rows-mp3-mp3old, rows-mp4, rows-mpg, rows-msbuild, rows-mve, rows-nbold, rows-ncx, rows-ndjson, rows-odp, rows-ogg, rows-ogg-ogv, rows-ogm, rows-opus, rows-otp, rows-pef, rows-pem, rows-pfa-pfb, rows-php, rows-php-svg-txt-xhtml-xml, rows-pl, rows-plist-txt-xml, rows-pnm, rows-ppt, rows-ps, rows-ps-sh-txt, rows-ps-txt, rows-pub, rows-puml, rows-raku, rows-raml, rows-rb, rows-rdata, rows-rdf, rows-roff, rows-rq, rows-sami, rows-sch, rows-scm, rows-sdp, rows-sgi, rows-sh, rows-sh-txt, rows-shw, rows-sig, rows-sqlite, rows-squashfs, rows-ssa, rows-ssh2pub-sshpub, rows-stl, rows-svndump, rows-sxc, rows-sxd, rows-tcl, rows-tif, rows-torrent, rows-ts, rows-txt, rows-txt-xml, rows-txt-yaml, rows-vcdiff, rows-vhdx, rows-webm, rows-woff, rows-wpg, rows-wri, rows-wrl, rows-x3f, rows-xcf, rows-xhtml, rows-xmf, rows-xpm, rows-yaml, rows-z, rows-zip, text-rows}
-use Rattle.infer_named.specs.Types.{is-application-atom-xml, is-application-dita-xml, is-application-font-woff-as-row-woff, is-application-graphql, is-application-jsonnet, is-application-ld-json, is-application-lrc, is-application-msgpack, is-application-msword, is-application-n-quads, is-application-onenote, is-application-oxps, is-application-pgp-keys-as-row-asc, is-application-pgp-signature, is-application-protobuf, is-application-raml-yaml, is-application-rdf-xml, is-application-sdp, is-application-sparql-query, is-application-sql, is-application-vnd-android-dey, is-application-vnd-coffeescript, is-application-vnd-dbf, is-application-vnd-etsi-asic-e-zip, is-application-vnd-flatpak, is-application-vnd-iccprofile, is-application-vnd-microsoft-portable-executable, is-application-vnd-ms-powerpoint, is-application-vnd-ms-powerpoint-slideshow-macroenabled-12, is-application-vnd-ms-publisher, is-application-vnd-nintendo-nitro-rom, is-application-vnd-oasis-opendocument-presentation, is-application-vnd-oasis-opendocument-presentation-flat-xml, is-application-vnd-openxmlformats-officedocument-spreadsheetml-template, is-application-vnd-sqlite3, is-application-vnd-squashfs, is-application-vnd-sun-xml-calc, is-application-vnd-sun-xml-draw, is-application-vnd-wolfram-mathematica, is-application-voicexml-xml, is-application-x-admx, is-application-x-android-boot-image, is-application-x-applix-spreadsheet, is-application-x-arj, is-application-x-aspx, is-application-x-atari-7800-rom, is-application-x-autodesk-max, is-application-x-bittorrent, is-application-x-bps-patch, is-application-x-bufr, is-application-x-bzip-compressed-tar, is-application-x-compress, is-application-x-corelpresentations, is-application-x-dia-shape, is-application-x-dictzip, is-application-x-drawio-xml, is-application-x-dtbncx-xml, is-application-x-edf, is-application-x-elc, is-application-x-emz, is-application-x-entitlements, is-application-x-executable-as-row-elf, is-application-x-font-type1, is-application-x-fontconfig-cache, is-application-x-freemind, is-application-x-gba-rom, is-application-x-genesis-rom, is-application-x-gnuplot, is-application-x-grub-keyboard, is-application-x-gschema-compiled, is-application-x-gvdb, is-application-x-haskell-interface, is-application-x-hg-bundle, is-application-x-hwp, is-application-x-innodb, is-application-x-intellij-xml, is-application-x-ipynb-json, is-application-x-java-image, is-application-x-jmeter-xml, is-application-x-jsonc, is-application-x-jsp, is-application-x-kpresenter, is-application-x-kword, is-application-x-lzop, is-application-x-mame-chd, is-application-x-minecraft-world, is-application-x-minisign, is-application-x-mobipocket-ebook, is-application-x-ms-shortcut, is-application-x-msbuild-xml, is-application-x-msi, is-application-x-mswrite, is-application-x-ndjson, is-application-x-nuget-package, is-application-x-osm-pbf, is-application-x-pef-executable, is-application-x-quake-bsp, is-application-x-r-data, is-application-x-rhino, is-application-x-sami, is-application-x-schematron-xml, is-application-x-shapefile-index, is-application-x-ssh-public-key, is-application-x-svn-dump, is-application-x-theme-xml, is-application-x-uproject-json, is-application-x-vcdiff, is-application-x-vhdx-disk, is-application-x-wix-xml, is-application-x-x509-ca-cert-as-row-der, is-application-x-zsh, is-application-xhtml-xml, is-application-xml-dtd, is-application-xml-external-parsed-entity, is-application-xquery, is-application-yaml, is-audio-eac3, is-audio-mobile-xmf, is-audio-mpeg, is-audio-opus, is-audio-webm, is-audio-x-bcwav, is-audio-x-gsm, is-image-jpeg, is-image-jpx, is-image-ktx, is-image-vnd-djvu, is-image-vnd-ms-photo, is-image-x-eps, is-image-x-pentax-pef, is-image-x-portable-anymap, is-image-x-samsung-srw, is-image-x-sgi, is-image-x-sigma-x3f, is-image-x-wpg, is-image-x-xcf, is-message-rfc822, is-model-step, is-model-stl, is-model-vrml, is-text-html, is-text-javascript, is-text-markdown, is-text-org, is-text-plain, is-text-sgml, is-text-tab-separated-values, is-text-troff, is-text-velocity, is-text-x-adasrc, is-text-x-aidl, is-text-x-antlr, is-text-x-apl, is-text-x-autohotkey, is-text-x-awk, is-text-x-bibtex, is-text-x-bitbake, is-text-x-c-hdr, is-text-x-c-src, is-text-x-capnp, is-text-x-checksums, is-text-x-clojure, is-text-x-crystal, is-text-x-csrc, is-text-x-cypher, is-text-x-dhall, is-text-x-dsrc, is-text-x-dts, is-text-x-ebnf, is-text-x-editorconfig, is-text-x-eiffel, is-text-x-erlang, is-text-x-fastq, is-text-x-forth, is-text-x-fortran, is-text-x-freemarker, is-text-x-gams, is-text-x-gap, is-text-x-gcode, is-text-x-genbank, is-text-x-gherkin, is-text-x-gitconfig, is-text-x-glsl, is-text-x-gn, is-text-x-gosum, is-text-x-groovy, is-text-x-handlebars, is-text-x-ini, is-text-x-io, is-text-x-java, is-text-x-java-properties, is-text-x-kusto, is-text-x-lean, is-text-x-lsl, is-text-x-lua, is-text-x-makefile, is-text-x-matlab, is-text-x-modula, is-text-x-monkey, is-text-x-move, is-text-x-msdos-batch, is-text-x-newick, is-text-x-nginx-conf, is-text-x-objc-src, is-text-x-objcsrc, is-text-x-openscad, is-text-x-pascal, is-text-x-perl, is-text-x-php, is-text-x-pkg-config, is-text-x-plantuml, is-text-x-pli, is-text-x-pth, is-text-x-purescript, is-text-x-raku, is-text-x-red, is-text-x-rpgle, is-text-x-rst, is-text-x-ruby, is-text-x-sas, is-text-x-scheme, is-text-x-sdc, is-text-x-shell-config, is-text-x-shellscript, is-text-x-sln, is-text-x-smt, is-text-x-solidity, is-text-x-soy, is-text-x-ssa, is-text-x-stylus, is-text-x-systemd-unit, is-text-x-tcl, is-text-x-tex, is-text-x-tmux-conf, is-text-x-unity, is-text-x-vcl, is-text-x-vdf, is-text-x-verilog, is-text-x-vim, is-text-x-wat, is-text-x-wkt, is-text-x-yacc, is-text-x-zimpl, is-video-3gpp, is-video-3gpp2, is-video-h264, is-video-h265, is-video-mj2, is-video-mp2t, is-video-mp4, is-video-mpeg, is-video-x-f4v, is-video-x-interplay-mve, is-video-x-m4v, is-video-x-mmm, is-video-x-ogm-ogg, is-video-x-sgi-movie}
+use Rattle.infer_named.specs.Sets.{any-lead, leads-10, leads-11, leads-3, leads-4, leads-8, no-rows, rows-32x, rows-3g2, rows-3g2-3gp-f4v-m4a-m4b-m4v-mov, rows-3gp, rows-3gp-mp4, rows-a78, rows-appimage-core-cubin-o-so, rows-application-x-msi, rows-application-x-ole-storage, rows-application-x-ole-storage-pptm-pptx-zip, rows-application-x-ole-storage-xlsx-zip, rows-arj, rows-as, rows-asc, rows-atom, rows-aup3-fossil-gpkg-mbtiles-mtn, rows-awk, rows-bat, rows-bcwav, rows-bootimg, rows-bps, rows-bsp, rows-bufr, rows-bz2, rows-bz2-gz-xz, rows-cer-p10-p8-pkipath, rows-chd, rows-clj, rows-dbf, rows-der, rows-dey, rows-diashape, rows-djvm, rows-djvu, rows-doc-doc2, rows-dtsi, rows-eac3, rows-edf, rows-elc, rows-elf, rows-eps, rows-escript, rows-exe, rows-f4v, rows-fccache, rows-flatpak, rows-fodp, rows-gjs-js, rows-gnuplot, rows-groovy, rows-grubkbd, rows-gvdb, rows-gz, rows-gz-zip, rows-h264, rows-h265, rows-heif, rows-hgbundle, rows-html, rows-html-json-php-svg-txt-xhtml-xml, rows-html-rss-txt-xml, rows-html-sh-svg-txt-xhtml-xml, rows-html-txt, rows-html-txt-xhtml-xml, rows-html-txt-xml, rows-hwp, rows-icc, rows-ircam, rows-jimage, rows-jls, rows-jp2, rows-jpg, rows-jpx, rows-json, rows-json-ndjson-txt, rows-json-plist-txt-xml, rows-json-sh-txt, rows-jxr, rows-kpr, rows-ktx, rows-kwd, rows-lnk, rows-locate, rows-lua, rows-lzo, rows-m, rows-m4v, rows-minisig, rows-mj2, rows-mk, rows-mm, rows-mmm, rows-mobi, rows-model-step, rows-movie, rows-mp3, rows-mp3-mp3old, rows-mp4, rows-mpg, rows-msbuild, rows-mve, rows-nbold, rows-ncx, rows-ndjson, rows-nds, rows-ngp, rows-odp, rows-ogg, rows-ogg-ogv, rows-ogm, rows-omni, rows-opus, rows-otp, rows-pef, rows-pem, rows-pfa-pfb, rows-php, rows-php-svg-txt-xhtml-xml, rows-pl, rows-plist-txt-xml, rows-pnm, rows-ppt, rows-ps, rows-ps-sh-txt, rows-ps-txt, rows-pub, rows-puml, rows-raku, rows-raml, rows-rb, rows-rdata, rows-rdf, rows-roff, rows-rq, rows-sami, rows-sch, rows-scm, rows-sdb, rows-sdp, rows-sgi, rows-sh, rows-sh-txt, rows-shw, rows-sig, rows-sqlite, rows-squashfs, rows-ssa, rows-ssh2pub-sshpub, rows-stl, rows-svndump, rows-sxc, rows-sxd, rows-tcl, rows-tif, rows-torrent, rows-ts, rows-txt, rows-txt-xml, rows-txt-yaml, rows-vcdiff, rows-vhdx, rows-webm, rows-woff, rows-wpg, rows-wri, rows-wrl, rows-x3f, rows-xcf, rows-xhtml, rows-xmf, rows-xpm, rows-yaml, rows-z, rows-zip, text-rows}
+use Rattle.infer_named.specs.Types.{is-application-atom-xml, is-application-dita-xml, is-application-font-woff-as-row-woff, is-application-graphql, is-application-jsonnet, is-application-ld-json, is-application-lrc, is-application-msgpack, is-application-msword, is-application-n-quads, is-application-onenote, is-application-oxps, is-application-pgp-keys-as-row-asc, is-application-pgp-signature, is-application-protobuf, is-application-raml-yaml, is-application-rdf-xml, is-application-sdp, is-application-sparql-query, is-application-sql, is-application-vnd-android-dey, is-application-vnd-coffeescript, is-application-vnd-dbf, is-application-vnd-etsi-asic-e-zip, is-application-vnd-flatpak, is-application-vnd-iccprofile, is-application-vnd-microsoft-portable-executable, is-application-vnd-ms-powerpoint, is-application-vnd-ms-powerpoint-slideshow-macroenabled-12, is-application-vnd-ms-publisher, is-application-vnd-oasis-opendocument-presentation, is-application-vnd-oasis-opendocument-presentation-flat-xml, is-application-vnd-openxmlformats-officedocument-spreadsheetml-template, is-application-vnd-sqlite3, is-application-vnd-squashfs, is-application-vnd-sun-xml-calc, is-application-vnd-sun-xml-draw, is-application-vnd-wolfram-mathematica, is-application-voicexml-xml, is-application-x-admx, is-application-x-android-boot-image, is-application-x-applix-spreadsheet, is-application-x-arj, is-application-x-aspx, is-application-x-atari-7800-rom, is-application-x-autodesk-max, is-application-x-bittorrent, is-application-x-bps-patch, is-application-x-bufr, is-application-x-bzip-compressed-tar, is-application-x-compress, is-application-x-corelpresentations, is-application-x-dia-shape, is-application-x-dictzip, is-application-x-drawio-xml, is-application-x-dtbncx-xml, is-application-x-edf, is-application-x-elc, is-application-x-emz, is-application-x-entitlements, is-application-x-executable-as-row-elf, is-application-x-font-type1, is-application-x-fontconfig-cache, is-application-x-freemind, is-application-x-gba-rom-as-known, is-application-x-genesis-32x-rom, is-application-x-gnuplot, is-application-x-grub-keyboard, is-application-x-gschema-compiled, is-application-x-gvdb, is-application-x-haskell-interface, is-application-x-hg-bundle, is-application-x-hwp, is-application-x-innodb, is-application-x-intellij-xml, is-application-x-ipynb-json, is-application-x-java-image, is-application-x-jmeter-xml, is-application-x-jsonc, is-application-x-jsp, is-application-x-kpresenter, is-application-x-kword, is-application-x-locate-database, is-application-x-lzop, is-application-x-mame-chd, is-application-x-minecraft-world, is-application-x-minisign, is-application-x-mobipocket-ebook, is-application-x-ms-sdb, is-application-x-ms-shortcut, is-application-x-msbuild-xml, is-application-x-msi, is-application-x-mswrite, is-application-x-ndjson, is-application-x-neo-geo-pocket-rom, is-application-x-nintendo-ds-rom, is-application-x-nuget-package, is-application-x-osm-pbf, is-application-x-pef-executable, is-application-x-quake-bsp, is-application-x-r-data, is-application-x-rhino, is-application-x-sami, is-application-x-schematron-xml, is-application-x-shapefile-index, is-application-x-ssh-public-key, is-application-x-svn-dump, is-application-x-theme-xml, is-application-x-uproject-json, is-application-x-vcdiff, is-application-x-vhdx-disk, is-application-x-wix-xml, is-application-x-x509-ca-cert-as-row-der, is-application-x-zip, is-application-x-zsh, is-application-xhtml-xml, is-application-xml-dtd, is-application-xml-external-parsed-entity, is-application-xquery, is-application-yaml, is-audio-eac3, is-audio-mobile-xmf, is-audio-mpeg, is-audio-opus, is-audio-webm, is-audio-x-bcwav, is-audio-x-gsm, is-audio-x-ircam, is-image-jpeg, is-image-jpx, is-image-ktx, is-image-vnd-djvu, is-image-vnd-ms-photo, is-image-x-eps, is-image-x-pentax-pef, is-image-x-portable-anymap, is-image-x-samsung-srw, is-image-x-sgi, is-image-x-sigma-x3f, is-image-x-wpg, is-image-x-xcf, is-message-rfc822, is-model-step, is-model-stl, is-model-vrml, is-text-html, is-text-javascript, is-text-markdown, is-text-org, is-text-plain, is-text-sgml, is-text-tab-separated-values, is-text-troff, is-text-velocity, is-text-x-adasrc, is-text-x-aidl, is-text-x-antlr, is-text-x-apl, is-text-x-autohotkey, is-text-x-awk, is-text-x-bibtex, is-text-x-bitbake, is-text-x-c-hdr, is-text-x-c-src, is-text-x-capnp, is-text-x-checksums, is-text-x-clojure, is-text-x-crystal, is-text-x-csrc, is-text-x-cypher, is-text-x-dhall, is-text-x-dsrc, is-text-x-dts, is-text-x-ebnf, is-text-x-editorconfig, is-text-x-eiffel, is-text-x-erlang, is-text-x-fastq, is-text-x-forth, is-text-x-fortran, is-text-x-freemarker, is-text-x-gams, is-text-x-gap, is-text-x-gcode, is-text-x-genbank, is-text-x-gherkin, is-text-x-gitconfig, is-text-x-glsl, is-text-x-gn, is-text-x-gosum, is-text-x-groovy, is-text-x-handlebars, is-text-x-ini, is-text-x-io, is-text-x-java, is-text-x-java-properties, is-text-x-kusto, is-text-x-lean, is-text-x-lsl, is-text-x-lua, is-text-x-makefile, is-text-x-matlab, is-text-x-modula, is-text-x-monkey, is-text-x-move, is-text-x-msdos-batch, is-text-x-newick, is-text-x-nginx-conf, is-text-x-objc-src, is-text-x-objcsrc, is-text-x-openscad, is-text-x-pascal, is-text-x-perl, is-text-x-php, is-text-x-pkg-config, is-text-x-plantuml, is-text-x-pli, is-text-x-pth, is-text-x-purescript, is-text-x-raku, is-text-x-red, is-text-x-rpgle, is-text-x-rst, is-text-x-ruby, is-text-x-sas, is-text-x-scheme, is-text-x-sdc, is-text-x-shell-config, is-text-x-shellscript, is-text-x-sln, is-text-x-smt, is-text-x-solidity, is-text-x-soy, is-text-x-ssa, is-text-x-stylus, is-text-x-systemd-unit, is-text-x-tcl, is-text-x-tex, is-text-x-tmux-conf, is-text-x-unity, is-text-x-vcl, is-text-x-vdf, is-text-x-verilog, is-text-x-vim, is-text-x-wat, is-text-x-wkt, is-text-x-yacc, is-text-x-zimpl, is-video-3gpp, is-video-3gpp2, is-video-h264, is-video-h265, is-video-mj2, is-video-mp2t, is-video-mp4, is-video-mpeg, is-video-x-f4v, is-video-x-interplay-mve, is-video-x-m4v, is-video-x-mmm, is-video-x-ogm-ogg, is-video-x-sgi-movie}
 use Rattle.infer_named.specs.declared.table.Asks.TheVariants.{Bytes, Nothing, Signature, Text}
 use Rattle.infer_named.specs.declared.table.Part.TheVariants.{Extension, Whole}
 
@@ -62,7 +62,7 @@ keys =
     ∷ key Extension (codes "smt2") false (reading is-text-x-smt Text no-rows rows-txt no-rows any-lead ∷ [])
     ∷ key Whole (codes "sshd_config") false (reading is-text-plain Text rows-txt no-rows text-rows any-lead ∷ [])
     ∷ key Whole (codes "sha256sums") false (reading is-text-x-checksums Text no-rows rows-txt no-rows any-lead ∷ [])
-    ∷ key Extension (codes "32x") false (reading is-application-x-genesis-rom Bytes no-rows no-rows no-rows any-lead ∷ [])
+    ∷ key Extension (codes "32x") false (reading is-application-x-genesis-32x-rom Bytes rows-32x no-rows no-rows any-lead ∷ [])
     ∷ key Extension (codes "tpp") false (reading is-text-x-c-src Text no-rows rows-txt no-rows any-lead ∷ [])
     ∷ key Extension (codes "pli") false (reading is-text-x-pli Text no-rows rows-txt no-rows any-lead ∷ [])
     ∷ key Extension (codes "vdf") false (reading is-text-x-vdf Text no-rows rows-txt no-rows any-lead ∷ [])
@@ -71,6 +71,7 @@ keys =
     ∷ key Extension (codes "rb") false (reading is-text-x-ruby Text rows-rb rows-sh-txt no-rows any-lead ∷ [])
     ∷ key Extension (codes "doc") false (reading is-application-msword Signature rows-doc-doc2 rows-application-x-ole-storage no-rows any-lead ∷ reading is-text-plain Text rows-txt no-rows text-rows any-lead ∷ [])
     ∷ key Extension (codes "max") true (reading is-application-x-autodesk-max Bytes no-rows rows-application-x-ole-storage no-rows any-lead ∷ [])
+    ∷ key Whole (codes "mlocate.db") false (reading is-application-x-locate-database Signature rows-locate no-rows no-rows any-lead ∷ [])
     ∷ key Whole (codes ".bash_login") false (reading is-text-x-shell-config Text no-rows rows-sh-txt no-rows any-lead ∷ [])
     ∷ key Extension (codes "rq") false (reading is-application-sparql-query Text rows-rq rows-txt no-rows any-lead ∷ [])
     ∷ key Extension (codes "nexus") false (reading is-text-x-newick Text no-rows rows-txt no-rows any-lead ∷ [])
@@ -116,10 +117,10 @@ keys =
     ∷ key Whole (codes "gschemas.compiled") false (reading is-application-x-gschema-compiled Bytes no-rows no-rows no-rows any-lead ∷ reading is-application-x-gvdb Signature rows-gvdb no-rows no-rows any-lead ∷ [])
     ∷ key Extension (codes "ass") false (reading is-text-x-ssa Text rows-ssa rows-txt no-rows any-lead ∷ [])
     ∷ key Extension (codes "3gpp") false (reading is-video-3gpp Bytes rows-3gp rows-mp4 no-rows any-lead ∷ [])
+    ∷ key Extension (codes "h264") false (reading is-video-h264 Bytes rows-h264 no-rows no-rows any-lead ∷ [])
     ∷ key Extension (codes "mp4v") false (reading is-video-mp4 Bytes rows-mp4 rows-heif rows-3g2-3gp-f4v-m4a-m4b-m4v-mov any-lead ∷ [])
     ∷ key Extension (codes "jsonl") false (reading is-application-x-ndjson Text rows-ndjson rows-json no-rows any-lead ∷ [])
     ∷ key Extension (codes "java") false (reading is-text-x-java Text no-rows rows-txt no-rows any-lead ∷ [])
-    ∷ key Extension (codes "h264") false (reading is-video-h264 Bytes no-rows no-rows no-rows any-lead ∷ [])
     ∷ key Extension (codes "ppa") false (reading is-application-vnd-ms-powerpoint Signature rows-ppt rows-application-x-ole-storage no-rows any-lead ∷ [])
     ∷ key Extension (codes "mdwn") false (reading is-text-markdown Text no-rows rows-html-json-php-svg-txt-xhtml-xml no-rows any-lead ∷ [])
     ∷ key Extension (codes "drawio") false (reading is-application-x-drawio-xml Text no-rows rows-html-txt-xhtml-xml no-rows leads-10 ∷ [])
@@ -132,7 +133,9 @@ keys =
     ∷ key Extension (codes "vcl") false (reading is-text-x-vcl Text no-rows rows-txt no-rows any-lead ∷ [])
     ∷ key Extension (codes "wat") false (reading is-text-x-wat Text no-rows rows-txt no-rows any-lead ∷ [])
     ∷ key Whole (codes "copying") false (reading is-text-plain Text rows-txt no-rows text-rows any-lead ∷ [])
+    ∷ key Whole (codes "omni.ja") false (reading is-application-x-zip Signature rows-omni rows-zip no-rows any-lead ∷ [])
     ∷ key Extension (codes "mp2") false (reading is-audio-mpeg Bytes rows-mp3 no-rows no-rows any-lead ∷ [])
+    ∷ key Extension (codes "sdb") false (reading is-application-x-ms-sdb Signature rows-sdb no-rows no-rows any-lead ∷ [])
     ∷ key Extension (codes "sxc") false (reading is-application-vnd-sun-xml-calc Signature rows-sxc rows-zip no-rows any-lead ∷ [])
     ∷ key Extension (codes "xmf") false (reading is-audio-mobile-xmf Signature rows-xmf no-rows no-rows any-lead ∷ [])
     ∷ key Extension (codes "bufr") false (reading is-application-x-bufr Bytes rows-bufr no-rows no-rows any-lead ∷ [])
@@ -175,6 +178,7 @@ keys =
     ∷ key Extension (codes "vcxproj") false (reading is-application-x-msbuild-xml Text rows-msbuild rows-html-txt-xhtml-xml no-rows leads-10 ∷ [])
     ∷ key Whole (codes ".editorconfig") false (reading is-text-x-editorconfig Text no-rows rows-txt no-rows any-lead ∷ [])
     ∷ key Extension (codes "cmd") false (reading is-text-x-msdos-batch Text rows-bat rows-txt no-rows any-lead ∷ [])
+    ∷ key Extension (codes "ngp") false (reading is-application-x-neo-geo-pocket-rom Signature rows-ngp no-rows no-rows any-lead ∷ [])
     ∷ key Extension (codes "ebnf") false (reading is-text-x-ebnf Text no-rows rows-txt no-rows any-lead ∷ [])
     ∷ key Extension (codes "network") false (reading is-text-x-systemd-unit Text no-rows rows-txt no-rows any-lead ∷ [])
     ∷ key Extension (codes "mk") false (reading is-text-x-makefile Text rows-mk rows-sh-txt no-rows any-lead ∷ [])
@@ -219,12 +223,12 @@ keys =
     ∷ key Extension (codes "kpr") false (reading is-application-x-kpresenter Signature rows-kpr rows-gz-zip no-rows any-lead ∷ [])
     ∷ key Extension (codes "p21") false (reading is-model-step Text rows-model-step rows-txt no-rows any-lead ∷ [])
     ∷ key Extension (codes "ogm") false (reading is-video-x-ogm-ogg Signature rows-ogm rows-ogg-ogv no-rows any-lead ∷ [])
-    ∷ key Extension (codes "agb") false (reading is-application-x-gba-rom Bytes no-rows no-rows no-rows any-lead ∷ [])
+    ∷ key Extension (codes "agb") false (reading is-application-x-gba-rom-as-known Bytes no-rows no-rows no-rows any-lead ∷ [])
     ∷ key Extension (codes "tab") true (reading is-text-tab-separated-values Text no-rows rows-txt no-rows any-lead ∷ [])
     ∷ key Extension (codes "gn") false (reading is-text-x-gn Text no-rows rows-txt no-rows any-lead ∷ [])
     ∷ key Extension (codes "jmx") false (reading is-application-x-jmeter-xml Text no-rows rows-html-txt-xhtml-xml no-rows leads-10 ∷ [])
+    ∷ key Extension (codes "nds") false (reading is-application-x-nintendo-ds-rom Bytes rows-nds no-rows no-rows any-lead ∷ [])
     ∷ key Extension (codes "raml") false (reading is-application-raml-yaml Text rows-raml rows-json-ndjson-txt no-rows any-lead ∷ [])
-    ∷ key Extension (codes "nds") false (reading is-application-vnd-nintendo-nitro-rom Bytes no-rows no-rows no-rows any-lead ∷ [])
     ∷ key Extension (codes "ibd") false (reading is-application-x-innodb Bytes no-rows no-rows no-rows any-lead ∷ [])
     ∷ key Extension (codes "lean") false (reading is-text-x-lean Text no-rows rows-txt no-rows any-lead ∷ [])
     ∷ key Extension (codes "php7") false (reading is-text-x-php Text rows-php rows-html-sh-svg-txt-xhtml-xml no-rows any-lead ∷ [])
@@ -280,9 +284,9 @@ keys =
     ∷ key Extension (codes "tb2") false (reading is-application-x-bzip-compressed-tar Signature no-rows rows-bz2 no-rows any-lead ∷ [])
     ∷ key Extension (codes "3g2") false (reading is-video-3gpp2 Bytes rows-3g2 rows-3gp-mp4 no-rows any-lead ∷ [])
     ∷ key Extension (codes "der") false (reading is-application-x-x509-ca-cert-as-row-der Signature rows-der no-rows rows-cer-p10-p8-pkipath any-lead ∷ [])
+    ∷ key Extension (codes "h265") false (reading is-video-h265 Bytes rows-h265 no-rows no-rows any-lead ∷ [])
     ∷ key Extension (codes "bib") false (reading is-text-x-bibtex Text no-rows rows-ps-txt no-rows any-lead ∷ [])
     ∷ key Extension (codes "sol") false (reading is-text-x-solidity Text no-rows rows-txt no-rows any-lead ∷ [])
-    ∷ key Extension (codes "h265") false (reading is-video-h265 Bytes no-rows no-rows no-rows any-lead ∷ [])
     ∷ key Extension (codes "unity") false (reading is-text-x-unity Text no-rows rows-txt-yaml no-rows any-lead ∷ [])
     ∷ key Extension (codes "ditaval") false (reading is-application-dita-xml Text no-rows rows-html-txt-xhtml-xml no-rows leads-10 ∷ [])
     ∷ key Extension (codes "js") false (reading is-text-javascript Text rows-gjs-js rows-json-sh-txt no-rows any-lead ∷ [])
@@ -296,6 +300,7 @@ keys =
     ∷ key Extension (codes "ahk") false (reading is-text-x-autohotkey Text no-rows rows-txt no-rows any-lead ∷ [])
     ∷ key Extension (codes "sdc") false (reading is-text-x-sdc Text no-rows rows-txt no-rows any-lead ∷ [])
     ∷ key Extension (codes "handlebars") false (reading is-text-x-handlebars Text no-rows rows-html-json-php-svg-txt-xhtml-xml no-rows any-lead ∷ [])
+    ∷ key Extension (codes "sf") false (reading is-audio-x-ircam Signature rows-ircam no-rows no-rows any-lead ∷ [])
     ∷ key Extension (codes "icm") false (reading is-application-vnd-iccprofile Bytes rows-icc no-rows no-rows any-lead ∷ [])
     ∷ key Extension (codes "dyalog") false (reading is-text-x-apl Text no-rows rows-sh-txt no-rows any-lead ∷ [])
     ∷ key Extension (codes "eac3") false (reading is-audio-eac3 Bytes rows-eac3 no-rows no-rows any-lead ∷ [])

@@ -2,8 +2,8 @@
 use Rattle.std.specs.Prelude.{List, [], ◌∷◌, codes, false, true}
 use Rattle.infer_named.specs.Key.{Key, key}
 use Rattle.infer_named.specs.Listed.{reading}
-use Rattle.infer_named.specs.Sets.{any-lead, leads-1, leads-10, leads-6, no-rows, rows-3g2-3gp-f4v-m4a-m4b-m4v-mov, rows-3mf, rows-4xm, rows-8svx, rows-abc, rows-ac3, rows-adf, rows-aifc, rows-aiff, rows-aml, rows-apng, rows-application-vnd-apple-keynote, rows-application-x-installshield, rows-application-x-ole-storage, rows-application-x-ole-storage-xlsx-zip, rows-application-x-ole-storage-zip, rows-application-x-pem-key, rows-asc, rows-au, rows-aup3-fossil-gpkg-mbtiles-mtn, rows-avif, rows-avr, rows-bat, rows-bdb, rows-bpg, rows-bplist, rows-bz2, rows-cab, rows-cer-crl, rows-chrt, rows-cin, rows-cmt, rows-cmxa, rows-core, rows-cramfs, rows-cso, rows-cur, rows-der-application-x-pem-key-pem, rows-der-pem, rows-dfont, rows-dmp, rows-drc, rows-dts, rows-dtsi, rows-dv, rows-dvi, rows-e57, rows-elf, rows-elf-so, rows-exe, rows-fcstd, rows-fds, rows-ff, rows-flac-ogg-opus, rows-flatpakref, rows-gcda, rows-gcda-gcno, rows-gem, rows-gitpatch, rows-gjs-js, rows-groovy, rows-gz, rows-gz-kspcrypt-zip, rows-gz-txt-xml, rows-gz-zip, rows-hdf5, rows-hdr, rows-heif, rows-hqx, rows-hs, rows-html, rows-html-json-php-svg-txt-xhtml-xml, rows-html-sh-svg-txt-xhtml-xml, rows-html-txt-xhtml-xml, rows-innolog, rows-itc, rows-ivf, rows-j2c, rows-jls, rows-jnlp, rows-journal, rows-jp2, rows-jpg, rows-jph, rows-json, rows-json-sh-txt, rows-json-txt, rows-kdb, rows-kpr, rows-ksp, rows-kwaj, rows-lfp, rows-lzma, rows-mdi, rows-med, rows-memdmp, rows-midi, rows-mk, rows-mobi, rows-mov, rows-mp3, rows-mp4, rows-mpg, rows-msbuild, rows-msg, rows-mvg, rows-myi, rows-n64, rows-ndjson, rows-netmon, rows-nsf, rows-o, rows-odb, rows-odc, rows-oga, rows-okt, rows-openssh, rows-opf, rows-p8, rows-pcap, rows-pcapng, rows-pcf, rows-pdn, rows-pem, rows-pfb, rows-pgdump, rows-php, rows-php-svg-txt-xhtml-xml, rows-pl, rows-ply, rows-png, rows-ps-sh-txt, rows-ps-txt, rows-psp, rows-pwg, rows-py, rows-qed, rows-qrc, rows-rb, rows-rf64, rows-rifx-wav, rows-rm, rows-rmeta, rows-rng, rows-roff, rows-roq, rows-rpm, rows-rz, rows-scm, rows-sds, rows-sh, rows-sh-txt, rows-shp, rows-shx, rows-sid, rows-sla, rows-sph, rows-spv, rows-spx, rows-sqlite, rows-squashfs, rows-srpm, rows-srx, rows-szdd, rows-tar, rows-tcf, rows-tct, rows-tei, rows-terminfo, rows-texi, rows-tif, rows-tnef, rows-ts, rows-ttx, rows-txt, rows-txt-xml, rows-txt-yaml, rows-ubi, rows-ulx, rows-vdi, rows-voc, rows-vpk, rows-vsd, rows-vsdx-zip, rows-webp, rows-wmv, rows-wrl, rows-xar, rows-xex, rows-xib, rows-xls, rows-xlsb, rows-xspf, rows-y4m, rows-zip, rows-zst, text-rows}
-use Rattle.infer_named.specs.Types.{is-application-appx, is-application-graphql, is-application-json, is-application-json5, is-application-jsonnet, is-application-mac-binhex40, is-application-manifest-json, is-application-msix, is-application-msword-template, is-application-oebps-package-xml, is-application-pgp-keys-as-row-asc, is-application-pkcs8, is-application-sparql-results-xml, is-application-sql, is-application-tei-xml, is-application-vnd-amazon-mobi8-ebook, is-application-vnd-apple-keynote, is-application-vnd-flatpak-ref, is-application-vnd-microsoft-portable-executable, is-application-vnd-ms-asf, is-application-vnd-ms-cab-compressed, is-application-vnd-ms-excel, is-application-vnd-ms-excel-sheet-binary-macroenabled-12, is-application-vnd-ms-outlook, is-application-vnd-ms-tnef, is-application-vnd-ms-visio-stencil-main-xml, is-application-vnd-ms-xpsdocument, is-application-vnd-oasis-opendocument-base, is-application-vnd-oasis-opendocument-chart, is-application-vnd-rn-realmedia, is-application-vnd-scribus, is-application-vnd-shx, is-application-vnd-sqlite3, is-application-vnd-squashfs, is-application-vnd-tcpdump-pcap, is-application-vnd-visio, is-application-vnd-wolfram-mathematica, is-application-x-admx, is-application-x-amiga-disk-format, is-application-x-ant-xml, is-application-x-appdata-xml, is-application-x-apple-xib, is-application-x-aspx, is-application-x-bplist, is-application-x-bzip-compressed-tar, is-application-x-cmi, is-application-x-compressed-iso, is-application-x-compressed-tar, is-application-x-core, is-application-x-cramfs, is-application-x-dbm, is-application-x-devhelp-xml, is-application-x-dfont, is-application-x-dmp, is-application-x-dvi, is-application-x-fds-disk, is-application-x-flash-authoring, is-application-x-font-pcf, is-application-x-font-ttx, is-application-x-font-type1, is-application-x-freecad, is-application-x-gcov-data, is-application-x-gcov-notes, is-application-x-glulx, is-application-x-hdf5, is-application-x-innosetup, is-application-x-intel-aml, is-application-x-java-jnlp-file, is-application-x-jsonc, is-application-x-kchart, is-application-x-keepass, is-application-x-kpresenter, is-application-x-kspread, is-application-x-lzma-compressed-tar, is-application-x-minecraft-world, is-application-x-ms-compress-kwaj, is-application-x-ms-compress-szdd, is-application-x-ms-crash-dump, is-application-x-msbuild-xml, is-application-x-mysql-myisam, is-application-x-n64-rom, is-application-x-natvis-xml, is-application-x-ndjson, is-application-x-netmon, is-application-x-nuget-package, is-application-x-object, is-application-x-ocaml-cmt, is-application-x-ocaml-cmxa, is-application-x-openssh-private-key, is-application-x-ova, is-application-x-pem-key, is-application-x-ply, is-application-x-postgresql-dump, is-application-x-pov, is-application-x-qed-disk, is-application-x-qt-resource, is-application-x-resx-xml, is-application-x-rpm, is-application-x-rust-metadata, is-application-x-rzip, is-application-x-shared-library-la, is-application-x-spirv, is-application-x-systemd-journal, is-application-x-tar, is-application-x-terminfo, is-application-x-tokyocabinet-fixed, is-application-x-tokyocabinet-table, is-application-x-ubi, is-application-x-unity-asmdef-json, is-application-x-uproject-json, is-application-x-usdz, is-application-x-valve-pak, is-application-x-vdi-disk, is-application-x-vim-spell, is-application-x-windows-dump, is-application-x-wmz, is-application-x-x509-ca-cert-as-known, is-application-x-xar, is-application-x-zsh, is-application-x-zstd-compressed-tar, is-application-xml, is-application-xquery, is-application-xspf-xml, is-application-zstd, is-audio-ac3, is-audio-basic, is-audio-midi, is-audio-mpeg, is-audio-ogg-as-row-oga, is-audio-prs-sid, is-audio-vnd-dts, is-audio-x-8svx, is-audio-x-aiff, is-audio-x-avr, is-audio-x-mod, is-audio-x-nist, is-audio-x-nsf, is-audio-x-okt, is-audio-x-sds, is-audio-x-speex-ogg, is-audio-x-voc, is-audio-x-wav, is-audio-x-xbox360-executable, is-chemical-x-xyz, is-image-apng, is-image-avif, is-image-bpg, is-image-cineon, is-image-jpeg, is-image-jph, is-image-pwg-raster, is-image-vnd-ms-modi, is-image-vnd-radiance, is-image-webp, is-image-x-farbfeld, is-image-x-hasselblad-3fr, is-image-x-itc, is-image-x-jp2-codestream, is-image-x-lytro-lfp, is-image-x-mvg, is-image-x-paintnet, is-image-x-paintshoppro, is-image-x-pict, is-image-x-sony-sr2, is-image-x-win-bitmap, is-image-x-xbitmap, is-model-3mf, is-model-e57, is-model-iges, is-model-vrml, is-text-cql, is-text-html, is-text-javascript, is-text-mdx, is-text-n3, is-text-plain, is-text-troff, is-text-vbscript, is-text-vnd-abc, is-text-vnd-graphviz, is-text-vnd-wap-wml, is-text-x-applescript, is-text-x-asm, is-text-x-astro, is-text-x-autoconf, is-text-x-automake, is-text-x-basic, is-text-x-blade, is-text-x-bugs, is-text-x-c-src, is-text-x-cfm, is-text-x-checksums, is-text-x-cython, is-text-x-dotenv, is-text-x-dts, is-text-x-ebnf, is-text-x-ejs, is-text-x-emacs-config, is-text-x-fortran, is-text-x-genbank, is-text-x-gerber, is-text-x-gfortran-module, is-text-x-glsl, is-text-x-gpr, is-text-x-groovy, is-text-x-haskell, is-text-x-haxe, is-text-x-hlsl, is-text-x-ini, is-text-x-janet, is-text-x-java, is-text-x-jq, is-text-x-just, is-text-x-literate-haskell, is-text-x-makefile, is-text-x-marko, is-text-x-mcfunction, is-text-x-mediawiki, is-text-x-meson, is-text-x-msdos-batch, is-text-x-pascal, is-text-x-patch, is-text-x-perl, is-text-x-php, is-text-x-postcss, is-text-x-prisma, is-text-x-prolog, is-text-x-pug, is-text-x-python-as-known, is-text-x-python-as-row-py, is-text-x-rebol, is-text-x-ring, is-text-x-rpgle, is-text-x-ruby, is-text-x-sass, is-text-x-scheme, is-text-x-scilab, is-text-x-scss, is-text-x-shell-config, is-text-x-shellscript, is-text-x-smarty, is-text-x-spice, is-text-x-starlark, is-text-x-strings, is-text-x-systemd-unit, is-text-x-template-toolkit, is-text-x-tex, is-text-x-texinfo, is-text-x-typescript, is-text-x-uc, is-text-x-udev-rules, is-text-x-unity, is-text-x-vhdl, is-text-x-vim, is-text-x-wat, is-text-x-wren, is-text-x-xresources, is-text-x-yacc, is-video-dv, is-video-mp2t, is-video-mp4, is-video-mpeg, is-video-quicktime, is-video-x-4xmv, is-video-x-dirac, is-video-x-ivf, is-video-x-roq, is-video-x-yuv4mpeg}
+use Rattle.infer_named.specs.Sets.{any-lead, leads-1, leads-10, leads-6, no-rows, rows-3g2-3gp-f4v-m4a-m4b-m4v-mov, rows-3mf, rows-4xm, rows-8svx, rows-abc, rows-ac3, rows-adf, rows-aifc, rows-aiff, rows-aml, rows-apng, rows-application-vnd-apple-keynote, rows-application-x-installshield, rows-application-x-ole-storage, rows-application-x-ole-storage-xlsx-zip, rows-application-x-ole-storage-zip, rows-application-x-pem-key, rows-asc, rows-au, rows-aup3-fossil-gpkg-mbtiles-mtn, rows-avif, rows-avr, rows-bat, rows-bdb, rows-bpg, rows-bplist, rows-bz2, rows-cab, rows-cer-crl, rows-chrt, rows-cin, rows-cmt, rows-cmxa, rows-core, rows-cramfs, rows-cso, rows-cur, rows-der-application-x-pem-key-pem, rows-der-pem, rows-dfont, rows-dmp, rows-drc, rows-dts, rows-dtsi, rows-dv, rows-dvi, rows-e57, rows-elf, rows-elf-so, rows-exe, rows-fcstd, rows-fds, rows-ff, rows-flac-ogg-opus, rows-flatpakref, rows-gcda, rows-gcda-gcno, rows-gem, rows-gitpatch, rows-gjs-js, rows-groovy, rows-gz, rows-gz-kspcrypt-zip, rows-gz-txt-xml, rows-gz-zip, rows-hdf5, rows-hdr, rows-heif, rows-hqx, rows-hs, rows-html, rows-html-json-php-svg-txt-xhtml-xml, rows-html-sh-svg-txt-xhtml-xml, rows-html-txt-xhtml-xml, rows-igs, rows-innolog, rows-itc, rows-ivf, rows-j2c, rows-jls, rows-jnlp, rows-journal, rows-jp2, rows-jpg, rows-jph, rows-json, rows-json-sh-txt, rows-json-txt, rows-kdb, rows-kpr, rows-ksp, rows-kwaj, rows-lfp, rows-lzma, rows-mdi, rows-med, rows-memdmp, rows-midi, rows-mk, rows-mobi, rows-mod, rows-mov, rows-mp3, rows-mp4, rows-mpg, rows-mqv, rows-msbuild, rows-msg, rows-mvg, rows-myi, rows-n64, rows-ndjson, rows-netmon, rows-ngc, rows-nsf, rows-o, rows-odb, rows-odc, rows-oga, rows-okt, rows-openssh, rows-opf, rows-p8, rows-pcap, rows-pcapng, rows-pcf, rows-pdn, rows-pem, rows-pfb, rows-pgdump, rows-php, rows-php-svg-txt-xhtml-xml, rows-pict, rows-pl, rows-ply, rows-png, rows-ps-sh-txt, rows-ps-txt, rows-psp, rows-pwg, rows-py, rows-qed, rows-qrc, rows-rb, rows-rf64, rows-rifx-wav, rows-rm, rows-rmeta, rows-rng, rows-roff, rows-roq, rows-rpm, rows-rz, rows-scm, rows-sds, rows-sh, rows-sh-txt, rows-shp, rows-shx, rows-sid, rows-sis, rows-sla, rows-sph, rows-spv, rows-spx, rows-sqlite, rows-squashfs, rows-srpm, rows-srx, rows-stm, rows-szdd, rows-tar, rows-tcf, rows-tct, rows-tei, rows-terminfo, rows-texi, rows-tif, rows-tnef, rows-ts, rows-ttx, rows-txt, rows-txt-xml, rows-txt-yaml, rows-ubi, rows-ulx, rows-vdi, rows-voc, rows-vpk, rows-vsd, rows-vsdx-zip, rows-webp, rows-wmv, rows-wrl, rows-xar, rows-xex, rows-xib, rows-xls, rows-xlsb, rows-xspf, rows-y4m, rows-zip, rows-zst, text-rows}
+use Rattle.infer_named.specs.Types.{is-application-appx, is-application-graphql, is-application-json, is-application-json5, is-application-jsonnet, is-application-mac-binhex40, is-application-manifest-json, is-application-msix, is-application-msword-template, is-application-oebps-package-xml, is-application-pgp-keys-as-row-asc, is-application-pkcs8, is-application-sparql-results-xml, is-application-sql, is-application-tei-xml, is-application-vnd-amazon-mobi8-ebook, is-application-vnd-apple-keynote, is-application-vnd-flatpak-ref, is-application-vnd-microsoft-portable-executable, is-application-vnd-ms-asf, is-application-vnd-ms-cab-compressed, is-application-vnd-ms-excel, is-application-vnd-ms-excel-sheet-binary-macroenabled-12, is-application-vnd-ms-outlook, is-application-vnd-ms-tnef, is-application-vnd-ms-visio-stencil-main-xml, is-application-vnd-ms-xpsdocument, is-application-vnd-oasis-opendocument-base, is-application-vnd-oasis-opendocument-chart, is-application-vnd-rn-realmedia, is-application-vnd-scribus, is-application-vnd-shx, is-application-vnd-sqlite3, is-application-vnd-squashfs, is-application-vnd-symbian-install, is-application-vnd-tcpdump-pcap, is-application-vnd-visio, is-application-vnd-wolfram-mathematica, is-application-x-admx, is-application-x-amiga-disk-format, is-application-x-ant-xml, is-application-x-appdata-xml, is-application-x-apple-xib, is-application-x-aspx, is-application-x-bplist, is-application-x-bzip-compressed-tar, is-application-x-cmi, is-application-x-compressed-iso, is-application-x-compressed-tar, is-application-x-core, is-application-x-cramfs, is-application-x-dbm, is-application-x-devhelp-xml, is-application-x-dfont, is-application-x-dmp, is-application-x-dvi, is-application-x-fds-disk, is-application-x-flash-authoring, is-application-x-font-pcf, is-application-x-font-ttx, is-application-x-font-type1, is-application-x-freecad, is-application-x-gcov-data, is-application-x-gcov-notes, is-application-x-glulx, is-application-x-hdf5, is-application-x-innosetup, is-application-x-intel-aml, is-application-x-java-jnlp-file, is-application-x-jsonc, is-application-x-kchart, is-application-x-keepass, is-application-x-kpresenter, is-application-x-kspread, is-application-x-lzma-compressed-tar, is-application-x-minecraft-world, is-application-x-ms-compress-kwaj, is-application-x-ms-compress-szdd, is-application-x-ms-crash-dump, is-application-x-msbuild-xml, is-application-x-mysql-myisam, is-application-x-n64-rom, is-application-x-natvis-xml, is-application-x-ndjson, is-application-x-neo-geo-pocket-color-rom, is-application-x-netmon, is-application-x-nuget-package, is-application-x-object, is-application-x-ocaml-cmt, is-application-x-ocaml-cmxa, is-application-x-openssh-private-key, is-application-x-ova, is-application-x-pem-key, is-application-x-ply, is-application-x-postgresql-dump, is-application-x-pov, is-application-x-qed-disk, is-application-x-qt-resource, is-application-x-resx-xml, is-application-x-rpm, is-application-x-rust-metadata, is-application-x-rzip, is-application-x-shared-library-la, is-application-x-spirv, is-application-x-systemd-journal, is-application-x-tar, is-application-x-terminfo, is-application-x-tokyocabinet-fixed, is-application-x-tokyocabinet-table, is-application-x-ubi, is-application-x-unity-asmdef-json, is-application-x-uproject-json, is-application-x-usdz, is-application-x-valve-pak, is-application-x-vdi-disk, is-application-x-vim-spell, is-application-x-windows-dump, is-application-x-wmz, is-application-x-x509-ca-cert-as-known, is-application-x-xar, is-application-x-zsh, is-application-x-zstd-compressed-tar, is-application-xml, is-application-xquery, is-application-xspf-xml, is-application-zstd, is-audio-ac3, is-audio-basic, is-audio-midi, is-audio-mpeg, is-audio-ogg-as-row-oga, is-audio-prs-sid, is-audio-vnd-dts, is-audio-x-8svx, is-audio-x-aiff, is-audio-x-avr, is-audio-x-mod-as-known, is-audio-x-mod-as-row-mod, is-audio-x-nist, is-audio-x-nsf, is-audio-x-okt, is-audio-x-sds, is-audio-x-speex-ogg, is-audio-x-stm, is-audio-x-voc, is-audio-x-wav, is-audio-x-xbox360-executable, is-chemical-x-xyz, is-image-apng, is-image-avif, is-image-bpg, is-image-cineon, is-image-jpeg, is-image-jph, is-image-pwg-raster, is-image-vnd-ms-modi, is-image-vnd-radiance, is-image-webp, is-image-x-farbfeld, is-image-x-hasselblad-3fr, is-image-x-itc, is-image-x-jp2-codestream, is-image-x-lytro-lfp, is-image-x-mvg, is-image-x-paintnet, is-image-x-paintshoppro, is-image-x-pict, is-image-x-sony-sr2, is-image-x-win-bitmap, is-image-x-xbitmap, is-model-3mf, is-model-e57, is-model-iges, is-model-vrml, is-text-cql, is-text-html, is-text-javascript, is-text-mdx, is-text-n3, is-text-plain, is-text-troff, is-text-vbscript, is-text-vnd-abc, is-text-vnd-graphviz, is-text-vnd-wap-wml, is-text-x-applescript, is-text-x-asm, is-text-x-astro, is-text-x-autoconf, is-text-x-automake, is-text-x-basic, is-text-x-blade, is-text-x-bugs, is-text-x-c-src, is-text-x-cfm, is-text-x-checksums, is-text-x-cython, is-text-x-dotenv, is-text-x-dts, is-text-x-ebnf, is-text-x-ejs, is-text-x-emacs-config, is-text-x-fortran, is-text-x-genbank, is-text-x-gerber, is-text-x-gfortran-module, is-text-x-glsl, is-text-x-gpr, is-text-x-groovy, is-text-x-haskell, is-text-x-haxe, is-text-x-hlsl, is-text-x-ini, is-text-x-janet, is-text-x-java, is-text-x-jq, is-text-x-just, is-text-x-literate-haskell, is-text-x-makefile, is-text-x-marko, is-text-x-mcfunction, is-text-x-mediawiki, is-text-x-meson, is-text-x-msdos-batch, is-text-x-pascal, is-text-x-patch, is-text-x-perl, is-text-x-php, is-text-x-postcss, is-text-x-prisma, is-text-x-prolog, is-text-x-pug, is-text-x-python-as-known, is-text-x-python-as-row-py, is-text-x-rebol, is-text-x-ring, is-text-x-rpgle, is-text-x-ruby, is-text-x-sass, is-text-x-scheme, is-text-x-scilab, is-text-x-scss, is-text-x-shell-config, is-text-x-shellscript, is-text-x-smarty, is-text-x-spice, is-text-x-starlark, is-text-x-strings, is-text-x-systemd-unit, is-text-x-template-toolkit, is-text-x-tex, is-text-x-texinfo, is-text-x-typescript, is-text-x-uc, is-text-x-udev-rules, is-text-x-unity, is-text-x-vhdl, is-text-x-vim, is-text-x-wat, is-text-x-wren, is-text-x-xresources, is-text-x-yacc, is-video-dv, is-video-mp2t, is-video-mp4, is-video-mpeg, is-video-quicktime-as-row-mov, is-video-quicktime-as-row-mqv, is-video-x-4xmv, is-video-x-dirac, is-video-x-ivf, is-video-x-roq, is-video-x-yuv4mpeg}
 use Rattle.infer_named.specs.declared.table.Asks.TheVariants.{Bytes, Nothing, Signature, Text}
 use Rattle.infer_named.specs.declared.table.Part.TheVariants.{Extension, Whole}
 
@@ -21,8 +21,8 @@ keys =
     ∷ key Extension (codes "patch") false (reading is-text-x-patch Text no-rows rows-txt rows-gitpatch any-lead ∷ [])
     ∷ key Extension (codes "fff") false (reading is-image-x-hasselblad-3fr Signature no-rows rows-tif no-rows any-lead ∷ [])
     ∷ key Extension (codes "mcfunction") false (reading is-text-x-mcfunction Text no-rows rows-txt no-rows any-lead ∷ [])
+    ∷ key Extension (codes "igs") false (reading is-model-iges Text rows-igs rows-txt no-rows any-lead ∷ [])
     ∷ key Extension (codes "asf") false (reading is-application-vnd-ms-asf Signature no-rows rows-wmv no-rows any-lead ∷ [])
-    ∷ key Extension (codes "igs") false (reading is-model-iges Text no-rows rows-txt no-rows any-lead ∷ [])
     ∷ key Extension (codes "xqm") false (reading is-application-xquery Text no-rows rows-txt-xml no-rows any-lead ∷ [])
     ∷ key Extension (codes "applescript") false (reading is-text-x-applescript Text no-rows rows-txt no-rows any-lead ∷ [])
     ∷ key Extension (codes "bdb") false (reading is-application-x-dbm Bytes rows-bdb no-rows no-rows any-lead ∷ [])
@@ -87,6 +87,7 @@ keys =
     ∷ key Extension (codes "xps") false (reading is-application-vnd-ms-xpsdocument Signature no-rows rows-zip no-rows any-lead ∷ [])
     ∷ key Extension (codes "fla") false (reading is-application-x-flash-authoring Bytes no-rows rows-application-x-ole-storage-zip no-rows any-lead ∷ [])
     ∷ key Extension (codes "cap") true (reading is-application-vnd-tcpdump-pcap Bytes rows-pcap no-rows rows-pcapng any-lead ∷ reading is-application-x-netmon Signature rows-netmon no-rows no-rows any-lead ∷ [])
+    ∷ key Extension (codes "ngc") false (reading is-application-x-neo-geo-pocket-color-rom Signature rows-ngc no-rows no-rows any-lead ∷ [])
     ∷ key Extension (codes "tgz") false (reading is-application-x-compressed-tar Signature no-rows rows-gz no-rows any-lead ∷ [])
     ∷ key Extension (codes "blade") false (reading is-text-x-blade Text no-rows rows-html-json-php-svg-txt-xhtml-xml no-rows any-lead ∷ [])
     ∷ key Extension (codes "prefab") false (reading is-text-x-unity Text no-rows rows-txt-yaml no-rows any-lead ∷ [])
@@ -117,14 +118,14 @@ keys =
     ∷ key Extension (codes "uproject") false (reading is-application-x-uproject-json Text no-rows rows-json no-rows any-lead ∷ [])
     ∷ key Whole (codes "config.guess") false (reading is-text-x-shellscript Text rows-sh rows-txt no-rows any-lead ∷ [])
     ∷ key Extension (codes "opf") false (reading is-application-oebps-package-xml Text rows-opf rows-html-txt-xhtml-xml no-rows leads-10 ∷ [])
+    ∷ key Extension (codes "stm") false (reading is-audio-x-stm Bytes rows-stm no-rows no-rows any-lead ∷ [])
     ∷ key Extension (codes "avif") false (reading is-image-avif Bytes rows-avif rows-heif no-rows any-lead ∷ [])
-    ∷ key Extension (codes "stm") false (reading is-audio-x-mod Bytes no-rows no-rows no-rows any-lead ∷ [])
     ∷ key Extension (codes "hxsl") false (reading is-text-x-haxe Text no-rows rows-txt no-rows any-lead ∷ [])
     ∷ key Extension (codes "gpr") false (reading is-text-x-gpr Text no-rows rows-txt no-rows any-lead ∷ [])
     ∷ key Extension (codes "hlsl") false (reading is-text-x-hlsl Text no-rows rows-txt no-rows any-lead ∷ [])
     ∷ key Whole (codes ".xdefaults") false (reading is-text-x-xresources Text no-rows rows-txt no-rows any-lead ∷ [])
     ∷ key Extension (codes "m3a") false (reading is-audio-mpeg Bytes rows-mp3 no-rows no-rows any-lead ∷ [])
-    ∷ key Extension (codes "mod") true (reading is-application-x-object Signature rows-o no-rows no-rows any-lead ∷ reading is-text-x-gfortran-module Signature no-rows rows-gz no-rows any-lead ∷ reading is-audio-x-mod Bytes no-rows no-rows no-rows any-lead ∷ reading is-text-plain Text rows-txt no-rows text-rows any-lead ∷ [])
+    ∷ key Extension (codes "mod") true (reading is-application-x-object Signature rows-o no-rows no-rows any-lead ∷ reading is-text-x-gfortran-module Signature no-rows rows-gz no-rows any-lead ∷ reading is-audio-x-mod-as-row-mod Bytes rows-mod no-rows no-rows any-lead ∷ reading is-text-plain Text rows-txt no-rows text-rows any-lead ∷ [])
     ∷ key Extension (codes "okt") false (reading is-audio-x-okt Signature rows-okt no-rows no-rows any-lead ∷ [])
     ∷ key Extension (codes "tei") false (reading is-application-tei-xml Text rows-tei rows-html-txt-xhtml-xml no-rows leads-10 ∷ [])
     ∷ key Extension (codes "shtm") false (reading is-text-html Text rows-html rows-php-svg-txt-xhtml-xml no-rows any-lead ∷ [])
@@ -195,7 +196,7 @@ keys =
     ∷ key Extension (codes "env") false (reading is-text-x-dotenv Text no-rows rows-txt no-rows any-lead ∷ [])
     ∷ key Extension (codes "gbl") false (reading is-text-x-gerber Text no-rows rows-txt no-rows any-lead ∷ [])
     ∷ key Extension (codes "ova") false (reading is-application-x-ova Bytes no-rows rows-tar no-rows any-lead ∷ [])
-    ∷ key Extension (codes "qt") false (reading is-video-quicktime Bytes rows-mov rows-mp4 no-rows any-lead ∷ [])
+    ∷ key Extension (codes "qt") false (reading is-video-quicktime-as-row-mov Bytes rows-mov rows-mp4 no-rows any-lead ∷ [])
     ∷ key Extension (codes "cmt") false (reading is-application-x-ocaml-cmt Bytes rows-cmt rows-elf-so no-rows any-lead ∷ [])
     ∷ key Whole (codes "todo") false (reading is-text-plain Text rows-txt no-rows text-rows any-lead ∷ [])
     ∷ key Extension (codes "odc") false (reading is-application-vnd-oasis-opendocument-chart Signature rows-odc rows-zip no-rows any-lead ∷ [])
@@ -209,7 +210,7 @@ keys =
     ∷ key Extension (codes "ini") false (reading is-text-x-ini Text no-rows rows-txt no-rows any-lead ∷ [])
     ∷ key Whole (codes "sha1sums") false (reading is-text-x-checksums Text no-rows rows-txt no-rows any-lead ∷ [])
     ∷ key Extension (codes "ncl") false (reading is-text-plain Text rows-txt no-rows text-rows any-lead ∷ [])
-    ∷ key Extension (codes "med") false (reading is-audio-x-mod Bytes rows-med no-rows no-rows any-lead ∷ [])
+    ∷ key Extension (codes "med") false (reading is-audio-x-mod-as-known Bytes rows-med no-rows no-rows any-lead ∷ [])
     ∷ key Extension (codes "kdb") false (reading is-application-x-keepass Signature rows-kdb no-rows no-rows any-lead ∷ [])
     ∷ key Extension (codes "mts") false (reading is-video-mp2t Bytes rows-ts no-rows no-rows any-lead ∷ reading is-text-x-typescript Text no-rows rows-sh-txt no-rows any-lead ∷ [])
     ∷ key Extension (codes "bat") false (reading is-text-x-msdos-batch Text rows-bat rows-txt no-rows any-lead ∷ [])
@@ -265,14 +266,16 @@ keys =
     ∷ key Extension (codes "cfc") false (reading is-text-x-cfm Text no-rows rows-html-json-php-svg-txt-xhtml-xml no-rows any-lead ∷ [])
     ∷ key Extension (codes "rz") false (reading is-application-x-rzip Signature rows-rz no-rows no-rows any-lead ∷ [])
     ∷ key Extension (codes "cur") false (reading is-image-x-win-bitmap Bytes rows-cur no-rows no-rows any-lead ∷ [])
-    ∷ key Extension (codes "pct") false (reading is-image-x-pict Bytes no-rows no-rows no-rows any-lead ∷ [])
+    ∷ key Extension (codes "mqv") false (reading is-video-quicktime-as-row-mqv Signature rows-mqv no-rows no-rows any-lead ∷ [])
+    ∷ key Extension (codes "pct") false (reading is-image-x-pict Bytes rows-pict no-rows no-rows any-lead ∷ [])
+    ∷ key Extension (codes "sis") false (reading is-application-vnd-symbian-install Signature rows-sis no-rows no-rows any-lead ∷ [])
     ∷ key Extension (codes "wmz") false (reading is-application-x-wmz Signature no-rows rows-gz-zip no-rows any-lead ∷ [])
     ∷ key Extension (codes "yap") false (reading is-text-x-prolog Text no-rows rows-ps-sh-txt no-rows any-lead ∷ [])
     ∷ key Whole (codes ".condarc") false (reading is-text-plain Text rows-txt no-rows text-rows any-lead ∷ [])
     ∷ key Extension (codes "kpt") false (reading is-application-x-kpresenter Signature rows-kpr rows-gz-zip no-rows any-lead ∷ [])
     ∷ key Extension (codes "sph") false (reading is-audio-x-nist Signature rows-sph no-rows no-rows any-lead ∷ [])
     ∷ key Extension (codes "ulx") false (reading is-application-x-glulx Signature rows-ulx no-rows no-rows any-lead ∷ [])
-    ∷ key Extension (codes "pict") false (reading is-image-x-pict Bytes no-rows no-rows no-rows any-lead ∷ [])
+    ∷ key Extension (codes "pict") false (reading is-image-x-pict Bytes rows-pict no-rows no-rows any-lead ∷ [])
     ∷ key Extension (codes "zsh-theme") false (reading is-application-x-zsh Text no-rows rows-sh-txt no-rows any-lead ∷ [])
     ∷ key Extension (codes "pyx") false (reading is-text-x-cython Text no-rows rows-sh-txt no-rows any-lead ∷ [])
     ∷ key Extension (codes "pl") false (reading is-text-x-prolog Text no-rows rows-ps-sh-txt no-rows leads-1 ∷ reading is-text-x-perl Text rows-pl rows-sh-txt no-rows any-lead ∷ [])

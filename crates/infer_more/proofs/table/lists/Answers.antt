@@ -26,6 +26,8 @@ returns-clause-listed c =
       c.rows-17.ensures.listed,
       c.rows-18.ensures.listed,
       c.rows-19.ensures.listed,
+    )
+    (rw (
       c.rows-20.ensures.listed,
       c.rows-21.ensures.listed,
       c.rows-22.ensures.listed,
@@ -45,6 +47,8 @@ returns-clause-listed c =
       c.rows-36.ensures.listed,
       c.rows-37.ensures.listed,
       c.rows-38.ensures.listed,
+    )
+    (rw (
       c.rows-39.ensures.listed,
       c.rows-40.ensures.listed,
       c.rows-41.ensures.listed,
@@ -59,8 +63,12 @@ returns-clause-listed c =
       c.rows-50.ensures.listed,
       c.rows-51.ensures.listed,
       c.rows-52.ensures.listed,
+      c.rows-53.ensures.listed,
+      c.rows-54.ensures.listed,
+      c.rows-55.ensures.listed,
+      c.rows-56.ensures.listed,
     )
-    refl
+    refl))
 
 pub returns-clause-ended : goal.returns-clause-ended
 returns-clause-ended c =
@@ -117,4 +125,8 @@ returns-clause-ended c =
     more _ _ c.rows-50.ensures.ended (
     more _ _ c.rows-51.ensures.ended (
     more _ _ c.rows-52.ensures.ended (
-    none)))))))))))))))))))))))))))))))))))))))))))))))))))))
+    more _ _ c.rows-53.ensures.ended (
+    more _ _ c.rows-54.ensures.ended (
+    more _ _ c.rows-55.ensures.ended (
+    more _ _ c.rows-56.ensures.ended (
+    none)))))))))))))))))))))))))))))))))))))))))))))))))))))))))

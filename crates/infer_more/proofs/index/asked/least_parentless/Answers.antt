@@ -7,8 +7,11 @@ use Rattle.infer_more.proofs.index.asked.least_parentless.Goals as goal
 pub least_text-requires : goal.least_text-requires
 least_text-requires c = c.without_parent-index.ensures.each.texts
 
-pub least_tried-tried-requires : goal.least_tried-tried-requires
-least_tried-tried-requires c = c.without_parent-index.ensures.each.spans
+pub least_tried-tried-requires-clause-spans : goal.least_tried-tried-requires-clause-spans
+least_tried-tried-requires-clause-spans c = c.without_parent-index.ensures.each.spans
+
+pub least_tried-tried-requires-clause-spots : goal.least_tried-tried-requires-clause-spots
+least_tried-tried-requires-clause-spots c = c.without_parent-index.ensures.each.spots
 
 pub least_markup-rooted-requires : goal.least_markup-rooted-requires
 least_markup-rooted-requires c = both_left _ _ c.without_parent-index.ensures.each.roots
