@@ -162,7 +162,8 @@ def name_of(rng, listed):
     return cased(rng, folder + name)
 
 
-def pair(rng, listed, some, starts):
+def pair(rng, listed, wide, some, starts):
+    """A name and a buffer. One name in eight is of a type that has finer kinds."""
     buf = rng.choice(some)
     kind = rng.randrange(6)
     if kind == 0:
@@ -171,7 +172,7 @@ def pair(rng, listed, some, starts):
         buf = rng.choice([b"", b"\n ", b"\xef\xbb\xbf", b"\xff\xfe"]) + buf
     elif kind == 2 and buf:
         buf = buf[: rng.randrange(len(buf) + 1)]
-    return name_of(rng, listed), buf
+    return name_of(rng, rng.choice([wide, *[listed] * 7])), buf
 
 
 def asked(program, pairs):
@@ -185,8 +186,9 @@ def main():
     rng = random.Random(int(sys.argv[3]) if len(sys.argv) > 3 else SEED)
     keys, counted, wrong = table(), collections.Counter(), 0
     listed, some, starts = sorted(keys), samples(), leads(keys)
+    wide = [it for it in listed if any(sets["finer"] for _, _, sets, _ in keys[it][1])]
     for at in range(0, count, 10_000):
-        pairs = [pair(rng, listed, some, starts) for _ in range(min(10_000, count - at))]
+        pairs = [pair(rng, listed, wide, some, starts) for _ in range(min(10_000, count - at))]
         answers = asked(sys.argv[1], pairs)
         if len(answers) != len(pairs):
             sys.exit(f"named.py: {len(answers)} answers of {len(pairs)} pairs")
