@@ -1,7 +1,7 @@
 """What is left to be asked of the rows before an answer, from the definitions: of each alternative of a row's signature that
 begins with a known byte, the probes by which those rows are ruled out that its own bytes do not rule out, and the rows that no
 probe does. The check refuses a list from which a row is left out; here the few probes are chosen."""
-from signatures import in_sixteens, signatures_of
+from signatures import signatures_of, text_of_alternative
 from terms import Call
 
 # What a place may have of which nothing is known.
@@ -83,14 +83,20 @@ def text_of_guard(found, own):
 
 
 def lines(names, constants):
-    """The guards of each row."""
+    """What is known of each row: the alternatives of its signature, and the guards of these if one has any."""
     known = list(signatures_of(names))
     for row, (name, _, alternatives) in enumerate(known):
         owns = [*map(held, alternatives)]
         guards = [guard(row, own, [(constants[it[0]], *it[1:]) for it in known]) for own in owns]
-        yield f"    {name}{''.join(map(text_of_guard, guards, owns)) if any(guards) else ''};"
+        told = "".join(map(text_of_guard, guards, owns)) if any(guards) else ""
+        yield f"    {name}{''.join(map(text_of_alternative, alternatives))}{' =>' if alternatives else ''}{told};"
 
 
 def made(code, names, constants):
-    """The text of guards.rt with the guards, sixteen rows a list."""
-    return in_sixteens(code, list(lines(names, dict(zip(names, constants)))), "static GUARDS_FROM_{}: [&[Option<Guard>]; {}] = guards! {{\n".format)
+    """The code with what is known of the rows in its lists, eight a list."""
+    known = list(lines(names, dict(zip(names, constants))))
+    for first in range(0, len(known), 8):
+        rows = known[first : first + 8]
+        before, begin, after = code.partition(f"static KNOWN_FROM_{first}: [Option<Known>; {len(rows)}] = known! {{\n")
+        code = before + begin + "\n".join(rows) + "\n" + after[after.index("};\n") :]
+    return code

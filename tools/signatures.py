@@ -63,22 +63,7 @@ def signatures_of(names):
         yield name, kind, [it.takes for it in alternatives]
 
 
-def lines(names):
-    """The signature of each row of the table, whose rows have these names."""
-    for name, _, alternatives in signatures_of(names):
-        listed = (f" [{least} {', '.join(map(part_of, parts))}]" for least, parts in alternatives)
-        yield f"    {name}{''.join(listed)};"
-
-
-def in_sixteens(code, known, begin):
-    """The code with these lines in its lists, sixteen a list, each of which begins so of its first row and its length."""
-    for first in range(0, len(known), 16):
-        rows = known[first : first + 16]
-        before, found, after = code.partition(begin(first, len(rows)))
-        code = before + found + "\n".join(rows) + "\n" + after[after.index("};\n") :]
-    return code
-
-
-def made(code, names):
-    """The text of signatures.rt with the signatures, sixteen a list."""
-    return in_sixteens(code, list(lines(names)), "static ROWS_FROM_{}: [Option<&[Alternative]>; {}] = signatures! {{\n".format)
+def text_of_alternative(alternative):
+    """An alternative as the code writes it."""
+    least, parts = alternative
+    return f" [{least} {', '.join(map(part_of, parts))}]"

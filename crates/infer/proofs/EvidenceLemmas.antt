@@ -1,5 +1,5 @@
 -- What is listed of a row.
-use Rattle.infer.proofs.Common.{list_all, zero, suc, ◌≡◌, ◌+◌, ◌-◌, ◌<◌, ◌≤◌, ◌∙◌, ℕ, List, Option, None, Some, IfSome, IsTrue, true, ap, arith, refl, length, sym, subst, slice_get, get_or, Bor, leb-true, signature_of, BuiltIn, fixed, length-range_with_len, length-map, option_map_or, [], Row, IsBuffer, MatchOption, Accepts, MayBecomeRow, IsAccepted, RowHas, table, ◌⊎◌, ◌↔◌, ◌++◌, inl, inr, take, drop, Lasts, length-take-le, get_or-take, take-append-drop, Bool, false, false≢true, AllWithin, AllWithin-more, AllWithin-upto, IsFirstAmong, get_or_default, candidates, candidates_of, ◌∷◌}
+use Rattle.infer.proofs.Common.{list_all, zero, suc, ◌≡◌, ◌+◌, ◌-◌, ◌<◌, ◌≤◌, ◌∙◌, ℕ, List, Option, None, Some, IfSome, IsTrue, ap, arith, refl, length, sym, subst, slice_get, get_or, leb-true, signature_of, BuiltIn, fixed, length-range_with_len, length-map, option_map_or, [], Row, IsBuffer, MatchOption, Accepts, MayBecomeRow, IsAccepted, RowHas, table, ◌⊎◌, ◌↔◌, ◌++◌, inl, inr, take, drop, Lasts, length-take-le, get_or-take, take-append-drop, Bool, false, false≢true, AllWithin, AllWithin-more, AllWithin-upto, IsFirstAmong, get_or_default, candidates, candidates_of, ◌∷◌}
 use Rattle.std.proofs.Math.ListN.{get_or-map}
 use Rattle.std.proofs.lemmas.List.FromFn.{get_or-map-range_with_len}
 use Rattle.std.proofs.lemmas.Grind.{same_number_lists}
@@ -23,9 +23,9 @@ use Rattle.infer_evidence.specs.declared.search.TheConstants.{MOST_OF_A_SEARCH}
 use Rattle.infer_sig.specs.Signature as signature
 use Rattle.infer_sig.specs.Signature.{accepts}
 use Rattle.infer_evidence.specs.Listed.{signature_listed}
-use Rattle.infer_evidence.specs.declared.signature.Alternative.{Alternative}
+use Rattle.infer.specs.declared.why.known.Known.{Known}
 
-module _ (first n : ℕ) (rows : List (Option (Bor (List Alternative)))) (h : AreListed first n rows) (i : ℕ) (s : Option (Bor (List Alternative))) (found : slice_get rows i ≡ Some s) where
+module _ (first n : ℕ) (rows : List (Option Known)) (h : AreListed first n rows) (i : ℕ) (s : Option Known) (found : slice_get rows i ≡ Some s) where
   inside : i < n
   inside = grind (arith, slice_get_within rows i s found, h, length-map, length-range_with_len)
 
@@ -45,14 +45,14 @@ fixed_by (fixed own) alternatives e = grind (arith)
 fixed_by s alternatives e = absurd (cc)
 
 -- what is listed at a row's place is its signature
-pub row_listed_at : (row first n : ℕ) (rows : List (Option (Bor (List Alternative)))) → first ≤ row → AreListed first n rows
-    → (s : Option (Bor (List Alternative))) → slice_get rows (row - first) ≡ Some s
-    → IfSome s (λ a. signature_of row ≡ fixed (signature_listed a.now))
+pub row_listed_at : (row first n : ℕ) (rows : List (Option Known)) → first ≤ row → AreListed first n rows
+    → (s : Option Known) → slice_get rows (row - first) ≡ Some s
+    → IfSome s (λ k. signature_of row ≡ fixed (signature_listed k.alternatives.now))
 row_listed_at row first n rows le h None found = tt
 row_listed_at row first n rows le h (Some a) found =
     let place : first + (row - first) ≡ row = omega arith in
-    fixed_by (signature_of row) (signature_listed a.now)
-    (subst (λ i. fixed_of (signature_of i) ≡ Some (signature_listed a.now)) place (listed_at first n rows h (row - first) (Some a) found))
+    fixed_by (signature_of row) (signature_listed a.alternatives.now)
+    (subst (λ i. fixed_of (signature_of i) ≡ Some (signature_listed a.alternatives.now)) place (listed_at first n rows h (row - first) (Some a) found))
 
 -- a front tells of a row if it is accepted or nothing that begins so is
 module _ (lasts : (s : BuiltIn) → Lasts (IsAccepted s)) where

@@ -1,5 +1,5 @@
 -- What guards say of the rows before an answer.
-use Rattle.infer.proofs.Common.{◌≡◌, ◌+◌, ◌-◌, ◌<◌, ◌≤◌, ◌⊎◌, ◌↔◌, ◌||◌, ◌∷◌, ◌==◌, ◌&&◌, ◌∙◌, nat_lt, ap, ◌≢◌, AllWithin, AllWithin-more, cases_lt, IsAscending, is_ascending, eqb-true, IsFirst, IsFirstAmong, map, get_or_default, leb-true, length-range_with_len, inl, inr, ℕ, zero, suc, Bool, true, false, false≢true, not, List, [], Option, None, Some, IsTrue, MatchOption, All, length, take, get_or, subst, sym, refl, arith, nat_tests, and_parts, list_all, list_any, range_with_len, slice_get, option_map_or, AllPass-from_list_all, get_or-range_with_len, Alternative, stands, accepts, IsAccepted, BuiltIn, fixed, avif, doc, framed, heif, html, matroska, office, pdf, ppt, xls, xml, Leads, allows_first, Row, Accepts, RowHas, table, is_listed, codes, OccursAt, IsGuardedBy, Lacks, alternatives_of, are_guards, bars, bars_alternative, bars_part, bars_rows, bars_signature, bars_text, first_asked, guard_rows, is_guarded_by, part_bars, probe_bars, signature_of, Bor}
+use Rattle.infer.proofs.Common.{◌≡◌, ◌+◌, ◌-◌, ◌<◌, ◌≤◌, ◌⊎◌, ◌↔◌, ◌||◌, ◌∷◌, ◌==◌, ◌&&◌, ◌∙◌, nat_lt, ap, ◌≢◌, AllWithin, AllWithin-more, cases_lt, IsAscending, is_ascending, eqb-true, IsFirst, IsFirstAmong, map, get_or_default, leb-true, length-range_with_len, inl, inr, ℕ, zero, suc, Bool, true, false, false≢true, not, List, [], Option, None, Some, IsTrue, MatchOption, All, length, take, get_or, subst, sym, refl, arith, nat_tests, and_parts, list_all, list_any, range_with_len, slice_get, option_map_or, AllPass-from_list_all, get_or-range_with_len, Alternative, stands, accepts, IsAccepted, BuiltIn, fixed, avif, doc, framed, heif, html, matroska, office, pdf, ppt, xls, xml, Leads, allows_first, Row, Accepts, RowHas, table, is_listed, codes, OccursAt, IsGuardedBy, Lacks, alternatives_of, are_guards, bars, bars_alternative, bars_part, bars_rows, bars_signature, bars_text, first_asked, guard_rows, is_guarded_by, part_bars, probe_bars, signature_of}
 use Rattle.std.proofs.lemmas.List.Kept.{AllPairs-cons}
 use Rattle.std.proofs.lemmas.List.Folds.{Any-from_list_any}
 use Rattle.std.specs.Prelude.{nat_le}
@@ -12,8 +12,9 @@ use Rattle.infer_evidence.specs.declared.signature.Alternative as listed
 use Rattle.infer.proofs.CandidateLemmas.{read_has}
 use Rattle.infer.proofs.EvidenceLemmas.{row_fixed}
 use Rattle.infer.proofs.ListLemmas.{HoldsAt-read}
-use Rattle.infer.specs.declared.why.guards.Guard.{Guard}
-use Rattle.infer.specs.declared.why.guards.Probe.{Probe}
+use Rattle.infer.specs.declared.why.known.Guard.{Guard}
+use Rattle.infer.specs.declared.why.known.Known.{Known}
+use Rattle.infer.specs.declared.why.known.Probe.{Probe}
 use Rattle.infer.specs.Evidence.{most_of_all}
 use Rattle.infer.specs.declared.why.TheConstants.{MOST_OF_CANDIDATES}
 
@@ -217,18 +218,19 @@ guard_at row (own ∷ gs) (other ∷ alternatives) (suc k) g a h guard alternati
     guard_at row gs alternatives k g a (and_parts _ _ h).1 guard alternative
 
 -- the guards of a row stand in the list, at its place from the first on
-guards_from : (first k : ℕ) (rows : List (Bor (List (Option Guard)))) (gs : Bor (List (Option Guard))) → IsTrue (guard_rows first rows) → slice_get rows k ≡ Some gs
-    → IsTrue (are_guards (first + k) gs.now (alternatives_of (signature_of (first + k))))
+guards_from : (first k : ℕ) (rows : List (Option Known)) (known : Known) → IsTrue (guard_rows first rows) → slice_get rows k ≡ Some (Some known)
+    → IsTrue (are_guards (first + k) known.guards.now (alternatives_of (signature_of (first + k))))
 unfolding guard_rows
-guards_from first k [] gs h found = absurd (cc)
-guards_from first zero (own ∷ rows) gs h found = grind (arith, and_parts)
-guards_from first (suc k) (own ∷ rows) gs h found =
-    subst (λ i. IsTrue (are_guards i gs.now (alternatives_of (signature_of i)))) (omega arith) (guards_from (suc first) k rows gs (and_parts _ _ h).1 found)
+guards_from first k [] known h found = absurd (cc)
+guards_from first zero (None ∷ rows) known h found = absurd (cc)
+guards_from first zero (Some own ∷ rows) known h found = grind (arith, and_parts)
+guards_from first (suc k) (own ∷ rows) known h found =
+    subst (λ i. IsTrue (are_guards i known.guards.now (alternatives_of (signature_of i)))) (omega arith) (guards_from (suc first) k rows known (and_parts _ _ h).1 found)
 
-pub guards_at : (row first : ℕ) (rows : List (Bor (List (Option Guard)))) (gs : Bor (List (Option Guard))) → first ≤ row → IsTrue (guard_rows first rows)
-    → slice_get rows (row - first) ≡ Some gs → IsTrue (are_guards row gs.now (alternatives_of (signature_of row)))
-guards_at row first rows gs le h found =
-    subst (λ i. IsTrue (are_guards i gs.now (alternatives_of (signature_of i)))) (omega (arith, le)) (guards_from first (row - first) rows gs h found)
+pub guards_at : (row first : ℕ) (rows : List (Option Known)) (known : Known) → first ≤ row → IsTrue (guard_rows first rows)
+    → slice_get rows (row - first) ≡ Some (Some known) → IsTrue (are_guards row known.guards.now (alternatives_of (signature_of row)))
+guards_at row first rows known le h found =
+    subst (λ i. IsTrue (are_guards i known.guards.now (alternatives_of (signature_of i)))) (omega (arith, le)) (guards_from first (row - first) rows known h found)
 
 -- ---- alternatives as the code lists them
 

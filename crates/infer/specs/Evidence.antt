@@ -1,14 +1,12 @@
 -- Which bytes of a buffer decide its answer.
 use Rattle.std.specs.Prelude.{◌≡◌, ◌↔◌, ◌⊎◌, ◌+◌, ◌∷◌, [], ℕ, List, Option, None, Some, map, max, option_map}
 use Rattle.std.specs.List.{range_with_len}
-use denote.Ref.{Bor}
 use Rattle.infer_evidence.specs.Evidence.{AgreesOn}
 use Rattle.infer_evidence.specs.Listed.{signature_listed}
 use Rattle.infer_evidence.specs.Weighed.{most_ranges}
 use Rattle.infer_evidence.specs.declared.search.TheConstants.{MOST_OF_A_SEARCH}
 use Rattle.infer_evidence.specs.declared.ranges.Evidence.{Evidence}
 use Rattle.infer_evidence.specs.declared.search.Search.{Search}
-use Rattle.infer_evidence.specs.declared.signature.Alternative.{Alternative}
 use Rattle.infer_deep.specs.Windows.{StandsBy}
 use Rattle.infer_sig.specs.Signature as fixed
 use Rattle.infer.specs.Buffer.{IsBuffer}
@@ -17,6 +15,7 @@ use Rattle.infer.specs.Decided.{MayBecomeRow}
 use Rattle.infer.specs.First.{IsFirstOf}
 use Rattle.infer.specs.Row.{Accepts}
 use Rattle.infer.specs.Table.{signature_of, table}
+use Rattle.infer.specs.declared.why.known.Known.{Known}
 use Rattle.infer.specs.Walks.{IsFirstAmong, RowHas}
 
 -- every buffer that agrees with b on the evidence has this answer
@@ -47,12 +46,12 @@ fixed_of (fixed alternatives) = Some alternatives
 fixed_of other = None
 
 -- and as the code lists them
-abbrev pub fixed_listed : Option (Bor (List Alternative)) → Option (List fixed.Alternative)
-fixed_listed s = option_map (λ alternatives. signature_listed alternatives.now) s
+abbrev pub fixed_listed : Option Known → Option (List fixed.Alternative)
+fixed_listed k = option_map (λ known. signature_listed known.alternatives.now) k
 
 -- these are the signatures of the n rows from that one on
-abbrev pub AreListed : (first n : ℕ) → List (Option (Bor (List Alternative))) → Type 0
-AreListed first n signatures = map fixed_listed signatures ≡ map (λ i. fixed_of (signature_of i)) (range_with_len first n)
+abbrev pub AreListed : (first n : ℕ) → List (Option Known) → Type 0
+AreListed first n known = map fixed_listed known ≡ map (λ i. fixed_of (signature_of i)) (range_with_len first n)
 
 -- for how many ranges a row asks at most, and rows together
 abbrev pub most_of : BuiltIn → ℕ

@@ -2,15 +2,15 @@
 use Rattle.std.specs.Prelude.{◌≢◌, ◌+◌, ◌-◌, ◌<◌, ◌≤◌, ◌&&◌, ◌||◌, ◌==◌, ℕ, suc, Bool, true, false, not, List, [], ◌∷◌, Option, None, Some, All, IsTrue, length, nat_le, nat_lt, slice_index, take, zero}
 use Rattle.std.specs.List.{AllPairs, list_all, list_any, range_with_len}
 use Rattle.std.specs.Option.{option_map_or}
-use denote.Ref.{Bor}
 use Rattle.infer_sig.specs.Signature.{Alternative, Part, allows, any_of, any_text, at_least, between, byte, fits, text}
 use Rattle.infer.specs.BuiltIn.{BuiltIn, avif, fixed, heif}
 use Rattle.infer.specs.Leads.{allows_first}
 use Rattle.infer.specs.Row.{Accepts, Row}
 use Rattle.infer.specs.Table.{signature_of, table}
 use Rattle.infer.specs.Walks.{RowHas, is_listed}
-use Rattle.infer.specs.declared.why.guards.Guard.{Guard}
-use Rattle.infer.specs.declared.why.guards.Probe.{Probe}
+use Rattle.infer.specs.declared.why.known.Guard.{Guard}
+use Rattle.infer.specs.declared.why.known.Known.{Known}
+use Rattle.infer.specs.declared.why.known.Probe.{Probe}
 use Rattle.infer.specs.Evidence.{most_of_all}
 use Rattle.infer.specs.declared.why.TheConstants.{MOST_OF_CANDIDATES}
 
@@ -101,7 +101,8 @@ are_guards row [] alternatives = true
 are_guards row (g ∷ gs) [] = false
 are_guards row (g ∷ gs) (a ∷ alternatives) = option_map_or (λ guard. is_guarded_by row a guard) g true && are_guards row gs alternatives
 
--- and these the rows from that one on
-unfoldable pub guard_rows : ℕ → List (Bor (List (Option Guard))) → Bool
+-- and these the rows that are known from that one on
+unfoldable pub guard_rows : ℕ → List (Option Known) → Bool
 guard_rows row [] = true
-guard_rows row (gs ∷ rest) = are_guards row gs.now (alternatives_of (signature_of row)) && guard_rows (suc row) rest
+guard_rows row (k ∷ rest) =
+    option_map_or (λ known. are_guards row known.guards.now (alternatives_of (signature_of row))) k true && guard_rows (suc row) rest

@@ -23,11 +23,9 @@ use infer_evidence::{
     fits, refuse_search, shortest_front, weigh,
 };
 
-mod guards;
-mod signatures;
+mod known;
 
-use guards::{Guard, Probe, guards_of};
-use signatures::{search_of, signature};
+use known::{Guard, Probe, known_of, search_of};
 
 /// For how many ranges all candidates of a first byte ask at most.
 pub const MOST_OF_CANDIDATES: usize = 67;
@@ -91,8 +89,8 @@ fn weigh_row(row: usize, buf: &[u8], evidence: &mut Evidence) -> bool
     ensures inside { IsOf evidence.old buf.now → IsOf evidence.new buf.now }
     ensures few { evidence.new.count ≤ evidence.old.count + most_of (signature_of row) }
 {
-    if let Some(signature) = signature(row) {
-        return weigh(signature, buf, Some(row), evidence);
+    if let Some(own) = known_of(row) {
+        return weigh(own.alternatives, buf, Some(row), evidence);
     }
     if let Some(search) = search_of(row) {
         return weigh_search(&search, row, buf, evidence);
@@ -190,11 +188,11 @@ fn guarded(row: usize, buf: &[u8]) -> Option<Way>
 {
     leads();
     infer_sig::laws::by_place();
-    let signature = signature(row)?;
-    let k = fitting(signature, buf)?;
-    match guards_of(row)?.get(k)? {
+    let own = known_of(row)?;
+    let k = fitting(own.alternatives, buf)?;
+    match own.guards.get(k)? {
         Some(guard) => Some(Way {
-            alternative: &signature[k],
+            alternative: &own.alternatives[k],
             guard,
         }),
         None => None,

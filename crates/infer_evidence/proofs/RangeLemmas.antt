@@ -53,6 +53,10 @@ reads_in_a_row r place n at long one b c same k low high = in_a_row b c r one sa
 pub inside_in_a_row : (r : Range) (place n : ℕ) → r.place ≡ place → r.len ≡ n → r.step ≡ 1 → (b : List ℕ) → place + n ≤ length b → IsInside b r
 inside_in_a_row r place n at long one b within k lt = grind (arith, at, long, one, within, lt)
 
+-- a range of bytes in a row is inside a buffer that has each of them
+pub inside_by_bytes : (b : List ℕ) (r : Range) → r.step ≡ 1 → ((k : ℕ) → k < r.len → r.place + k < length b) → IsInside b r
+inside_by_bytes b r one has k lt = let here = has k lt in grind (arith, one, here)
+
 pub around_in_a_row : (inner outer : Range) → outer.step ≡ 1 → inner.step ≡ 1 → outer.place ≤ inner.place → inner.place + inner.len ≤ outer.place + outer.len
     → IsAround inner outer
 around_in_a_row inner outer one also low high k lt =

@@ -88,7 +88,7 @@ fn text_held(text: &[u8], place: usize, buf: &[u8], row: Option<usize>) -> Range
     ensures inside { IsInside buf.now result }
     ensures tells { (c : List ℕ) → IsSame buf.now c result → StandsByPlace place text.now c }
 {
-    Range::new(place.min(buf.len()), text.len(), row)
+    Range::new(place, text.len(), row)
 }
 
 /// The bytes by which the buffer has what the part asks.

@@ -1,6 +1,6 @@
 use Rattle.infer.proofs.Common.{arith, false, nat_tests}
 use Rattle.infer.proofs.GuardLemmas.{lacks_behind, lacks_more}
-use Rattle.infer.specs.declared.why.guards.Probe.{Probe}
+use Rattle.infer.specs.declared.why.known.Probe.{Probe}
 use Rattle.infer.proofs.why.lacks.Goals as goal
 
 -- what is read where there is no probe

@@ -1,0 +1,10 @@
+use Rattle.infer.proofs.Common.{are_guards, bars_rows, bars_text, first_asked, guard_rows, is_ascending, refl, signature_of, table}
+use Rattle.infer.proofs.why.known.known_from_64.Goals as goal
+
+pub returns-clause-listed : goal.returns-clause-listed
+unfolding signature_of table
+returns-clause-listed c = refl
+
+pub returns-clause-guarded : goal.returns-clause-guarded
+unfolding are_guards bars_rows bars_text first_asked guard_rows is_ascending signature_of table
+returns-clause-guarded c = refl
