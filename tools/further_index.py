@@ -14,7 +14,7 @@ from texts import kept, text_of
 
 # A set of more bytes is no entry, but is left to the signature.
 MOST_BYTES = 5
-MOST_GUARDS = 15
+MOST_GUARDS = 11
 # Behind the gate, what a row costs that passes the guard of another.
 BEHIND = 12
 HEAD = """//! Made by `tools/tables` from the further rows, the lists of the index: a place, a byte there, and a row, or a name and a
@@ -29,7 +29,7 @@ use crate::index::Below::{{ClassIds, Entries, Nothing, Packages, Programs, Roots
 use crate::index::asked::{{below_at, found_row_apart, is_marked}};
 use crate::index::{{
     Begun, Below, Entry, Except, Gate, Guard, Named, Parentless, Range, Rooted, Second, Span, Spot,
-    Spots, Texts,
+    Spots, Texts, Third,
 }};
 
 /// How many further rows there are.
@@ -37,6 +37,9 @@ pub const FURTHER_COUNT: usize = {};
 
 /// The last place at which the guards, the gate, the ranges and the spots look.
 pub(super) const LAST_PLACE: usize = {};
+
+/// The last of these places before the far ones.
+pub(super) const NEAR_PLACE: usize = {};
 
 """
 BELOW_APART = """
@@ -215,13 +218,18 @@ TEXT_OF_BYTES = rf"b{TEXT}"
 WIDTH = 100
 # How many buckets of programs there are.
 BUCKETS = 32
-# Of how many spans a second byte picks one, and how many entries less a look at it is worth.
+# Of how many spans a second byte picks one.
 PICKS = 16
-LOOK = 1
-# Places from here on are far: few headers are as long.
+# How many first bytes have a third byte: every buffer without an answer is asked for each of them.
+MOST_THIRDS = 2
+# What one entry costs, what a loop over more does, and each of them in it.
+ONE, LOOP, EACH = 14, 36, 11
+# Places behind this are far: few headers are as long.
 FAR = 64
-# How many rows a spot tells, unless more have one byte.
-MOST_SEEN = 8
+# How many spots there can be, each of which has a mark of its own.
+MARKS = 32
+# How many rows a spot tells at least, unless more have one byte: the fewer, the more spots are asked for, and the fewer rows.
+LEAST_SEEN = 4
 # The kinds of ways below a parent that stand in one list: they have no list inside a list.
 LISTED = {"Nothing", "Entries"}
 # What is told last, without being tried.
@@ -445,7 +453,12 @@ def weigh(counts, chosen, gates=(), price=1):
     pairs = set().union(*chosen)
     looked_at = pairs.union(gates)
     beyond = 100 * max(0, len(pairs) - MOST_GUARDS) + sum(3 for _, byte in looked_at if byte in COMMON)
-    return 3 * len({place for place, _ in looked_at}) + sum(4 + price * (counts[it] ** 2 - 1) for it in pairs) + beyond
+    return sum(map(place_price, {place for place, _ in looked_at})) + sum(4 + price * (counts[it] ** 2 - 1) for it in pairs) + beyond
+
+
+def place_price(place):
+    """What a look at the place costs: a short buffer is not asked for the byte of a far one."""
+    return 3 + max(0, 16 - place) / 4
 
 
 class Chosen:
@@ -454,7 +467,7 @@ class Chosen:
     def __init__(self, counts, chosen, gates, price):
         self.counts, self.price = counts, price
         self.used, self.places, self.gates = {}, {}, frozenset(gates)
-        self.count, self.place_count, self.common, self.cost = 0, 0, 0, 0
+        self.count, self.looked_at, self.common, self.cost = 0, 0, 0, 0
         for pair in self.gates:
             self.look(pair, 1)
         for way in chosen:
@@ -483,11 +496,11 @@ class Chosen:
         place, byte = pair
         before = self.places.get(place, 0)
         self.places[place] = before + by
-        self.place_count += (before + by > 0) - (before > 0)
+        self.looked_at += place_price(place) * ((before + by > 0) - (before > 0))
         self.common += by * (byte in COMMON)
 
     def weight(self):
-        return 3 * self.place_count + self.cost + 100 * max(0, self.count - MOST_GUARDS) + 3 * self.common
+        return self.looked_at + self.cost + 100 * max(0, self.count - MOST_GUARDS) + 3 * self.common
 
     def changed(self, olds, new):
         """What it weighs with the new guards in the place of each of the old."""
@@ -581,32 +594,56 @@ def free_of(rows, zeros):
     return [(number, it) for number, it in numbered if not is_listed(number, it, zeros) and not is_wide(it)]
 
 
+def begun_by(rows, zeros):
+    """For each first byte the alternatives that it leads to, each with the number of its row, and those that begin with a zero
+    and are told by a spot. The most of a zero's that one place tells are picked by the byte there, as those of another byte are."""
+    listed = [(number, it) for number, row in enumerate(rows) if not row.parent for it in row.outlines(TOLD) if is_listed(number, it, zeros)]
+    zeroed = [it for it in listed if it[1][0] == {0}]
+    places = sorted({place for _, it in zeroed for place in it})
+    best = max(places, key=lambda place: sum(is_picked_at(place, it) for _, it in zeroed), default=None)
+    spotted = [it for it in zeroed if not is_picked_at(best, it[1])]
+    return [[(number, it) for number, it in listed if byte in it[0] and (number, it) not in spotted] for byte in range(256)], spotted
+
+
+def is_picked_at(place, alternative):
+    """Whether few bytes tell it at the place, none of which stands where a zero picks."""
+    return is_told_at(place, alternative) and all(byte % PICKS for byte in alternative[place])
+
+
 def is_told_at(place, alternative):
     """Whether few bytes, and not the zero of many files, tell it at the place."""
     return place in alternative and len(alternative[place]) <= MOST_BYTES and 0 not in alternative[place]
 
 
-def groups_at(place, told):
-    """What a place tells, a few rows at a time, those with one byte together: first come the bytes of the most rows."""
+def groups_at(place, told, most):
+    """What a place tells, so many rows at a time, those with one byte together: first come the bytes of the most rows."""
     by_byte = {}
     for number, it in told:
         by_byte.setdefault(min(it[place]), []).append((number, it))
     groups = [[]]
     for some in sorted(by_byte.values(), key=len, reverse=True):
-        is_full = len({number for number, _ in groups[-1] + some}) > MOST_SEEN
+        is_full = len({number for number, _ in groups[-1] + some}) > most
         groups = [*groups, some] if is_full else [*groups[:-1], groups[-1] + some]
     return [(place, sorted(it, key=lambda it: it[0])) for it in groups if it]
 
 
-def spots_of(left):
+def spots_of(left, most):
     """The places that tell these alternatives, each with some that it tells: next comes what tells most, by the fewest bytes."""
     spots = []
     while left:
         told = {place: [(number, it) for number, it in left if is_told_at(place, it)] for place in sorted({place for _, it in left for place in it})}
         place = min(told, key=lambda place: (-len(told[place]), len(set().union(*(it[place] for _, it in told[place])))))
-        spots += groups_at(place, told[place])
+        spots += groups_at(place, told[place], most)
         left = [it for it in left if it not in told[place]]
     return sorted(spots, key=lambda it: it[0])
+
+
+def all_spots(rows, zeros):
+    """The spots of all buffers, and those of a zero: no more than there are marks."""
+    first, zeroed = first_spotted(rows), begun_by(rows, zeros)[1]
+    others = [(number, it) for number, it in free_of(rows, zeros) if number >= first]
+    both = ((spots_of(others, most), spots_of(zeroed, most)) for most in range(LEAST_SEEN, 256))
+    return next((spots, own) for spots, own in both if len(spots) + len(own) <= MARKS)
 
 
 def marks_of(spots):
@@ -620,12 +657,12 @@ def in_spots(spots, first):
         yield f"            {place} 0x{1 << bit:X} {listed(entries(of_each_row(some)))};"
 
 
-def last_place(rows):
-    """The last place at which a buffer without an answer is looked at for all of these."""
+def looked_at(rows):
+    """The places at which a buffer without an answer is looked at for all of these."""
     zeros, ((place, _), outside, inside) = with_zeros(rows)
-    spots = spots_of([(number, it) for number, it in free_of(rows, zeros) if number >= first_spotted(rows)])
+    spots = itertools.chain(*all_spots(rows, zeros))
     wides = [min(it) for row in rows if not row.parent for it in row.outlines(TOLD) if is_wide(it)]
-    return max(place, *(at for (at, _), _ in [*outside, *inside]), *(at for at, _ in spots), *wides)
+    return {place, *(at for (at, _), _ in [*outside, *inside]), *(at for at, _ in spots), *wides}
 
 
 def gated(rows, zeros):
@@ -656,17 +693,31 @@ def picking(place, alternatives):
     return by_bits, [it for it in alternatives if it not in picked]
 
 
+def walk(count):
+    """What it costs to look through a list of so many entries: one needs no loop."""
+    return ONE * count if count < 2 else LOOP + EACH * count
+
+
 def looks(place, alternatives):
-    """How many entries are looked at in all, if each of the alternatives is asked for, where a byte at the place picks."""
+    """What it costs in all, if each of the alternatives is asked for, where a byte at the place picks. Where it allows more
+    bytes than pick, a buffer has mostly zeros; and of those that begin with a zero most have only zeros."""
     by_bits, rest = picking(place, alternatives)
-    return len(alternatives) * (LOOK + len(rest)) + sum(len(it) ** 2 for it in by_bits)
+    picks = [{byte % PICKS for byte in it[place]} if len(it.get(place, ALL)) <= MOST_BYTES else {0} for _, it in alternatives]
+    zeros = 99 * walk(len(by_bits[0])) if any(it[0] == {0} for _, it in alternatives) else 0
+    return len(alternatives) * walk(len(rest)) + zeros + sum(sum(walk(len(by_bits[bits])) for bits in some) / len(some) for some in picks)
 
 
 def second(alternatives):
-    """The place of the byte that leaves the fewest entries to look at, or None if no byte does better than none."""
+    """The place of the byte that leaves the least to look at, or None if no byte does better than none."""
     places = sorted({place for _, it in alternatives for place in it if place})
     best = min(places, key=lambda place: looks(place, alternatives), default=None)
-    return None if best is None or looks(best, alternatives) >= len(alternatives) ** 2 else best
+    return None if best is None or looks(best, alternatives) >= len(alternatives) * walk(len(alternatives)) else best
+
+
+def least_looks(alternatives):
+    """What it costs with the second byte that leaves the least."""
+    place = second(alternatives)
+    return len(alternatives) * walk(len(alternatives)) if place is None else looks(place, alternatives)
 
 
 def of_each_row(alternatives):
@@ -674,24 +725,49 @@ def of_each_row(alternatives):
     return [(number, [it for _, it in some]) for number, some in itertools.groupby(alternatives, key=lambda it: it[0])]
 
 
-def seconds(led):
+def picks(place, alternatives):
+    """The entries of each of the spans from which a byte at the place picks, of alternatives of one first byte."""
+    for bits, some in enumerate(picking(place, alternatives)[0]):
+        # The first byte is known there, and of the other the low bits.
+        own = [(number, {at: its for at, its in it.items() if at} | {place: {its for its in it[place] if its % PICKS == bits}}) for number, it in some]
+        yield list(entries(of_each_row(own)))
+
+
+def third(alternatives):
+    """The place of a third byte that tells most beside a second one, and what that saves: some of the alternatives are picked
+    by it, and the others as if there were none."""
+    best = (0, None)
+    for place in sorted({place for _, it in alternatives for place in it if place}):
+        rest = picking(place, alternatives)[1]
+        own = [it for it in alternatives if it not in rest]
+        best = max(best, (least_looks(alternatives) - least_looks(rest) - looks(place, own), place), key=lambda it: it[0])
+    return best
+
+
+def thirds(led):
+    """The first bytes that have a third byte, each with its place: those that most is saved of, but for the first of a byte
+    order mark, behind which few rows tell a byte."""
+    saved = [(*third(alternatives), byte) for byte, alternatives in enumerate(led) if byte != 0xEF]
+    return {byte: place for _, place, byte in sorted(saved, key=lambda it: -it[0])[:MOST_THIRDS] if place}
+
+
+def picked_of(led):
     """For each first byte, of the alternatives that it leads to: the entries for all buffers with it, the place of the byte
-    that picks, and the number of its first span, and after these the entries of each span."""
-    every, places, picked = [], [], [[]] * PICKS
+    that picks, and the number of its first span; the same of those that have a third byte; and the entries of each span that
+    is picked."""
+    every, seconds, own, picked = [], [], [], [[]] * PICKS
+    places = thirds(led)
     for byte, alternatives in enumerate(led):
+        if byte in places:
+            own.append((byte, places[byte], len(led) + len(picked)))
+            picked = [*picked, *picks(places[byte], alternatives)]
+            alternatives = picking(places[byte], alternatives)[1]
         place = second(alternatives)
-        if place is None:
-            every.append(list(entries(of_each_row(alternatives), (0, byte))))
-            places.append((0, len(led)))
-            continue
-        by_bits, rest = picking(place, alternatives)
+        rest = alternatives if place is None else picking(place, alternatives)[1]
         every.append(list(entries(of_each_row(rest), (0, byte))))
-        places.append((place, len(led) + len(picked)))
-        for bits, some in enumerate(by_bits):
-            # The first byte is known there, and of the second the low bits.
-            own = [(number, {at: its for at, its in it.items() if at} | {place: {its for its in it[place] if its % PICKS == bits}}) for number, it in some]
-            picked = [*picked, list(entries(of_each_row(own)))]
-    return every, places, picked
+        seconds.append((0, len(led)) if place is None else (place, len(led) + len(picked)))
+        picked = picked if place is None else [*picked, *picks(place, alternatives)]
+    return every, seconds, own, picked
 
 
 def spans(lists):
@@ -803,9 +879,8 @@ def lists(rows, parents):
     yield BELOW_OTHERS.format(in_list_of(apart(ways)), arms(apart(ways), "below_{}()"))
     yield "pub(super) static PARENTLESS: Parentless = Parentless {"
     zeros, ((place, first), outside, inside) = with_zeros(rows)
-    led = [[(k, it) for k, row in numbered if not row.parent for it in row.outlines(TOLD) if is_listed(k, it, zeros) and byte in it[0] and it[0] != {0}] for byte in range(256)]
-    zeroed = [(k, it) for k, row in numbered if not row.parent for it in row.outlines(TOLD) if is_listed(k, it, zeros) and it.get(0) == {0}]
-    every, places, picked = seconds(led)
+    led, _ = begun_by(rows, zeros)
+    every, places, own, picked = picked_of(led)
     yield "    first: Begun {"
     yield "        spans: spans!["
     yield from in_lines(list(spans(every + picked)))
@@ -813,6 +888,7 @@ def lists(rows, parents):
     yield "        seconds: seconds!["
     yield from in_lines([f"{place} {first}" for place, first in places])
     yield "        ],"
+    yield f"        thirds: thirds![{', '.join(f'0x{byte:02X} {place} {first}' for byte, place, first in own)}],"
     yield "        entries: entries!["
     yield from in_lines([" ".join(in_words(it)) for some in every + picked for it in some])
     yield "        ],"
@@ -827,11 +903,9 @@ def lists(rows, parents):
     yield "    ranges: ranges!["
     yield from (wide(number, it) for number, row in numbered if not row.parent for it in row.outlines(TOLD) if is_wide(it))
     yield "    ],"
-    spotted = first_spotted(rows)
-    spots = spots_of([(number, it) for number, it in free_of(rows, zeros) if number >= spotted])
-    zero_spots = spots_of(zeroed)
+    spots, zero_spots = all_spots(rows, zeros)
     yield "    spots: Spots {"
-    yield f"        from: {spotted},"
+    yield f"        from: {first_spotted(rows)},"
     yield "        marks: marks!["
     yield textwrap.indent(textwrap.fill(", ".join(f"0x{it:X}" for it in marks_of(spots + zero_spots)), WIDTH - 13), 12 * " ")
     yield "        ],"
@@ -839,11 +913,11 @@ def lists(rows, parents):
     yield from in_spots(zero_spots, len(spots))
     yield "        ],"
     yield "        near: spots!["
-    yield from in_spots([it for it in spots if it[0] < FAR], 0)
+    yield from in_spots([it for it in spots if it[0] <= FAR], 0)
     yield "        ],"
-    yield f"        beyond: {min(place for place, _ in spots if place >= FAR)},"
+    yield f"        beyond: {min(place for place, _ in spots if place > FAR)},"
     yield "        far: spots!["
-    yield from in_spots([it for it in spots if it[0] >= FAR], sum(place < FAR for place, _ in spots))
+    yield from in_spots([it for it in spots if it[0] > FAR], sum(place <= FAR for place, _ in spots))
     yield "        ],"
     yield "    },"
     yield f"    roots: {rooted([(k, row) for k, row in numbered if not row.parent])},"
@@ -937,4 +1011,5 @@ def by_number(rows):
 
 def text(rows, parents):
     """The file of the index."""
-    return HEAD.format(len(rows), last_place(rows)) + "\n".join(lists(rows, parents)) + "\n" + by_parent(rows, parents)
+    places = looked_at(rows)
+    return HEAD.format(len(rows), max(places), max(it for it in places if it <= FAR)) + "\n".join(lists(rows, parents)) + "\n" + by_parent(rows, parents)

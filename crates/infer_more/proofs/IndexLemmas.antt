@@ -1,11 +1,11 @@
 -- A row of which a buffer has the bytes is tried.
 use Rattle.std.proofs.lemmas.Bool.{or_cases, or_left, or_right}
-use Rattle.infer_more.proofs.Common.{◌≡◌, ◌↔◌, ℕ, zero, suc, ◌+◌, ◌-◌, ◌<◌, ◌≤◌, ◌==◌, ◌⊎◌, inl, inr, Bool, true, false, IsTrue, List, [], ◌∷◌, ◌++◌, Option, None, Some, length, ap, sym, ◌∙◌, subst, arith, refl, nat_le, nat_lt, ◌&&◌, if◌then◌else◌, slice_index, list_all, list_any, option_map_or, cases_lt, eq-eqb, eqb-true, leb-true, lt-ltb, get_or_from_slice_get, slice_get_cases, at_least, Bytes, any_of, between, all_but, Part, any_text, allows, fits, has_part, stands, StandsByPlace, is_listed, tried_parentless, candidate, candidates, excepted, guarded, has_byte, is_excepted, is_tried_parentless, is_covered, is_settled, ranged, unless, within, Except, Parentless, and_from, and_parts}
+use Rattle.infer_more.proofs.Common.{◌≡◌, ◌↔◌, ℕ, zero, suc, ◌+◌, ◌-◌, ◌<◌, ◌≤◌, ◌==◌, ◌⊎◌, inl, inr, Bool, true, false, IsTrue, List, [], ◌∷◌, ◌++◌, Option, None, Some, length, ap, sym, ◌∙◌, subst, arith, refl, nat_le, nat_lt, ◌&&◌, ◌||◌, if◌then◌else◌, slice_index, list_all, list_any, option_map_or, cases_lt, eq-eqb, eqb-true, leb-true, lt-ltb, get_or_from_slice_get, slice_get_cases, at_least, Bytes, any_of, between, all_but, Part, any_text, allows, fits, has_part, stands, StandsByPlace, is_listed, tried_parentless, candidate, candidates, excepted, guarded, has_byte, is_excepted, is_tried_parentless, is_covered, is_settled, ranged, unless, within, Except, Parentless, and_from, and_parts}
 use Rattle.std.specs.List.{range_with_len}
 use Rattle.std.proofs.lemmas.Bool.{ltb-true}
 use Rattle.infer_sig.specs.Signature.{Alternative, text, byte}
 use Rattle.std.specs.Prelude.{slice_get}
-use Rattle.infer_more.specs.Index.{begun, behind, bucket, entries_at, gated, has_between, has_entry, has_guard, has_other, is_begun, is_but, is_other, is_gated, is_guarded, is_met, is_picked, is_seen, is_spotted, is_tested, is_ranged, is_within, all_seen, has_mark, has_marked, picked, seconded, seen, spotted, is_zeroed, zeroed}
+use Rattle.infer_more.specs.Index.{begun, behind, bucket, entries_at, gated, has_between, has_entry, has_guard, has_other, is_begun, is_but, is_other, is_gated, is_guarded, is_met, is_picked, is_seen, is_spotted, is_tested, is_third, is_ranged, is_within, all_of, all_seen, has_mark, has_marked, picked, seconded, seen, spotted, third, thirded, tried_elsewhere, is_zeroed, zeroed}
 use Rattle.infer_more.specs.declared.index.Entry.{Entry}
 use Rattle.infer_more.specs.declared.index.Gate.{Gate}
 use Rattle.infer_more.specs.declared.index.Guard.{Guard}
@@ -13,6 +13,7 @@ use Rattle.infer_more.specs.declared.index.Range.{Range}
 use Rattle.infer_more.specs.declared.index.Second.{Second}
 use Rattle.infer_more.specs.declared.index.Spot.{Spot}
 use Rattle.infer_more.specs.declared.index.Spots.{Spots}
+use Rattle.infer_more.specs.declared.index.Third.{Third}
 
 -- both of two tests pass
 pub both_left : (a b : Bool) → IsTrue (a && b) → IsTrue a
@@ -260,7 +261,7 @@ seconded_by index (x ∷ rest) s lt found within =
     let own : seconded index (x ∷ rest) ≡ picked index.first s (x ∷ rest) = ap (λ o. option_map_or (λ t. picked index.first t (x ∷ rest)) o []) found in
     own ∙ ap (λ t. if t then bucket index.first s (slice_index (x ∷ rest) s.place) else []) (lt-ltb s.place (length (x ∷ rest)) within)
 
--- a row is listed by the first byte or by the second
+-- a row is listed by the first byte, by the second or by a third
 module _ (by_place : (place : ℕ) (t buf : List ℕ) → IsTrue (stands place t buf) ↔ StandsByPlace place t buf) (index : Parentless) (b : List ℕ) (i : ℕ) where
   begun_here : (a : Alternative) → IsTrue (fits b a) → 0 < length b → IsTrue (is_met i a (entries_at index.first (slice_index b 0)) 0 (slice_index b 0))
       → IsTrue (is_listed (candidates b (begun index b)) i)
@@ -283,33 +284,65 @@ module _ (by_place : (place : ℕ) (t buf : List ℕ) → IsTrue (stands place t
   seconded_here a k lt None found h = absurd (cc)
   seconded_here a k lt (Some s) found h = picked_here a s k lt found h
 
+  -- the buffer begins with the byte of one that picks the row
+  third_here : (a : Alternative) (t : Third) → IsTrue (fits b a) → 0 < length b → IsTrue (is_third index.first i a (slice_index b 0) t)
+      → IsTrue (is_listed (third index.first b t) i)
+  third_here a t k lt h =
+      let s = t.second in
+      let same_byte : t.byte ≡ slice_index b 0 = eqb-true t.byte (slice_index b 0) (both_left (t.byte == slice_index b 0) _ h) in
+      let on : has_byte b 0 t.byte ≡ true = and_from (nat_lt 0 (length b)) _ (lt-ltb 0 (length b) lt) (eq-eqb (slice_index b 0) t.byte (sym same_byte)) in
+      let here = passes by_place (λ y. is_met i a (bucket index.first s y) s.place y) s.place b a (both_right (t.byte == slice_index b 0) _ h) k in
+      let entries = bucket index.first s (slice_index b s.place) in
+      let own : picked index.first s b ≡ entries = ap (λ u. if u then entries else []) (lt-ltb s.place (length b) here.0) in
+      subst (λ u. IsTrue (is_listed (if u then candidates b (picked index.first s b) else []) i)) (sym on)
+      (subst (λ (l : List Entry). IsTrue (is_listed (candidates b l) i)) (sym own) (met_here by_place b i a entries s.place (slice_index b s.place) k here.0 refl here.1))
+
+  thirds_here : (a : Alternative) (thirds : List Third) → IsTrue (fits b a) → 0 < length b → IsTrue (list_any (is_third index.first i a (slice_index b 0)) thirds)
+      → IsTrue (is_listed (all_of (third index.first b) thirds) i)
+  thirds_here a [] k lt h = absurd (cc)
+  thirds_here a (t ∷ thirds) k lt h = elim (or_cases (is_third index.first i a (slice_index b 0) t) _ h) [
+    | inl e ↦ listed_left (third index.first b t) (all_of (third index.first b) thirds) i (third_here a t k lt e)
+    | inr e ↦ listed_right (third index.first b t) (all_of (third index.first b) thirds) i (thirds_here a thirds k lt e)
+  ]
+
   led_here : (a : Alternative) → IsTrue (is_tested (is_begun index.first i a) 0 a) → IsTrue (fits b a)
-      → IsTrue (is_listed (candidates b (begun index b)) i) ⊎ IsTrue (is_listed (candidates b (seconded index b)) i)
+      → IsTrue (is_listed (candidates b (begun index b)) i) ⊎ (IsTrue (is_listed (candidates b (seconded index b)) i) ⊎ IsTrue (is_listed (thirded index.first b) i))
   led_here a h k =
       let here = passes by_place (is_begun index.first i a) 0 b a h k in
       let x = slice_index b 0 in
       elim (or_cases (is_met i a (entries_at index.first x) 0 x) _ here.1) [
         | inl e ↦ inl (begun_here a k here.0 e)
-        | inr e ↦ inr (seconded_here a k here.0 (slice_get index.first.seconds.now x) refl e)
+        | inr e ↦ inr (elim (or_cases (option_map_or (is_picked i a index.first) (slice_get index.first.seconds.now x) false) _ e) [
+          | inl second ↦ inl (seconded_here a k here.0 (slice_get index.first.seconds.now x) refl second)
+          | inr other ↦ inr (thirds_here a index.first.thirds.now k here.0 other)
+        ])
       ]
+
+  elsewhere_here : (a : Alternative)
+      → IsTrue (is_zeroed i a index.spots || (is_guarded i a index.guards.now || (is_gated i a index.gate || (is_ranged i a index.ranges.now || is_spotted i a index.spots))))
+      → IsTrue (fits b a) → IsTrue (is_listed (tried_elsewhere index b) i)
+  elsewhere_here a h k = elim (or_cases (is_zeroed i a index.spots) _ h) [
+    | inl begins ↦ listed_left (zeroed b index.spots) _ i (zeroed_here by_place b i a index.spots begins k)
+    | inr rest ↦ listed_right (zeroed b index.spots) _ i (elim (or_cases (is_guarded i a index.guards.now) _ rest) [
+      | inl beside ↦ listed_left (guarded b index.guards.now) _ i (guarded_here by_place b i a index.guards.now beside k)
+      | inr other ↦ listed_right (guarded b index.guards.now) _ i (elim (or_cases (is_gated i a index.gate) _ other) [
+        | inl inside ↦ listed_left (gated b index.gate) _ i (gated_here by_place b i a index.gate inside k)
+        | inr other ↦ listed_right (gated b index.gate) _ i (elim (or_cases (is_ranged i a index.ranges.now) _ other) [
+          | inl wide ↦ listed_left (ranged b index.ranges.now) _ i (ranged_here by_place b i a index.ranges.now wide k)
+          | inr spot ↦ listed_right (ranged b index.ranges.now) _ i (spotted_here by_place b i a index.spots spot k)
+        ])
+      ])
+    ])
+  ]
 
   pub parentless_here : (a : Alternative) → IsTrue (is_tried_parentless index i a) → IsTrue (fits b a) → IsTrue (is_listed (tried_parentless index b) i)
   parentless_here a h k = elim (or_cases (is_tested (is_begun index.first i a) 0 a) _ h) [
     | inl e ↦ elim (led_here a e k) [
       | inl first ↦ listed_left (candidates b (begun index b)) _ i first
-      | inr second ↦ listed_right (candidates b (begun index b)) _ i (listed_left (candidates b (seconded index b)) _ i second)
-    ]
-    | inr e ↦ listed_right (candidates b (begun index b)) _ i (listed_right (candidates b (seconded index b)) _ i (elim (or_cases (is_zeroed i a index.spots) _ e) [
-      | inl begins ↦ listed_left (zeroed b index.spots) _ i (zeroed_here by_place b i a index.spots begins k)
-      | inr rest ↦ listed_right (zeroed b index.spots) _ i (elim (or_cases (is_guarded i a index.guards.now) _ rest) [
-        | inl beside ↦ listed_left (guarded b index.guards.now) _ i (guarded_here by_place b i a index.guards.now beside k)
-        | inr other ↦ listed_right (guarded b index.guards.now) _ i (elim (or_cases (is_gated i a index.gate) _ other) [
-          | inl inside ↦ listed_left (gated b index.gate) _ i (gated_here by_place b i a index.gate inside k)
-          | inr other ↦ listed_right (gated b index.gate) _ i (elim (or_cases (is_ranged i a index.ranges.now) _ other) [
-            | inl wide ↦ listed_left (ranged b index.ranges.now) _ i (ranged_here by_place b i a index.ranges.now wide k)
-            | inr spot ↦ listed_right (ranged b index.ranges.now) _ i (spotted_here by_place b i a index.spots spot k)
-          ])
-        ])
+      | inr more ↦ listed_right (candidates b (begun index b)) _ i (elim more [
+        | inl second ↦ listed_right (thirded index.first b) _ i (listed_left (candidates b (seconded index b)) _ i second)
+        | inr other ↦ listed_left (thirded index.first b) _ i other
       ])
-    ]))
+    ]
+    | inr e ↦ listed_right (candidates b (begun index b)) _ i (listed_right (thirded index.first b) _ i (listed_right (candidates b (seconded index b)) _ i (elsewhere_here a e k)))
   ]

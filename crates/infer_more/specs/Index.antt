@@ -37,6 +37,7 @@ use Rattle.infer_more.specs.declared.index.Span.{Span}
 use Rattle.infer_more.specs.declared.index.Spot.{Spot}
 use Rattle.infer_more.specs.declared.index.Spots.{Spots}
 use Rattle.infer_more.specs.declared.index.Texts.{Texts}
+use Rattle.infer_more.specs.declared.index.Third.{Third}
 
 -- the buffer has the byte at the place
 abbrev pub has_byte : List ℕ → ℕ → ℕ → Bool
@@ -144,6 +145,13 @@ bucket lists s y = entries_at lists (s.first + y % 16)
 abbrev pub picked : Begun → Second → List ℕ → List Entry
 picked lists s b = if nat_lt s.place (length b) then bucket lists s (slice_index b s.place) else []
 
+-- the rows of those that a third byte picks, if the buffer begins with the first
+abbrev pub third : Begun → List ℕ → Third → List ℕ
+third lists b t = if has_byte b 0 t.byte then candidates b (picked lists t.second b) else []
+
+abbrev pub thirded : Begun → List ℕ → List ℕ
+thirded lists b = all_of (third lists b) lists.thirds.now
+
 -- how the rows below built-in row i are told
 abbrev pub below_at : List below.Below → ℕ → below.Below
 below_at ways i = option_map_or (λ way. way) (slice_get ways i) Nothing
@@ -166,7 +174,7 @@ module _ (index : Parentless) where
 
   -- the rows that are tried of a buffer without a built-in answer
   abbrev pub tried_parentless : List ℕ → List ℕ
-  tried_parentless b = candidates b (begun b) ++ (candidates b (seconded b) ++ tried_elsewhere b)
+  tried_parentless b = candidates b (begun b) ++ (thirded index.first b ++ (candidates b (seconded b) ++ tried_elsewhere b))
 
 -- `after` is the least of `before` and of the numbers that have P
 pub record IsLeast (P : ℕ → Type 0) (before after : ℕ) : Type 0 where
@@ -319,9 +327,15 @@ is_excepted i a excepts = list_any (is_but i a) excepts
 abbrev pub is_picked : ℕ → fixed.Alternative → Begun → Second → Bool
 is_picked i a lists s = is_tested (λ y. is_met i a (bucket lists s y) s.place y) s.place a
 
--- with that first byte row i is listed, by it or by the second byte
+-- and so by a third byte, for buffers with that first byte
+abbrev pub is_third : Begun → ℕ → fixed.Alternative → ℕ → Third → Bool
+is_third lists i a x t = t.byte == x && is_picked i a lists t.second
+
+-- with that first byte row i is listed, by it, by the second byte or by a third
 abbrev pub is_begun : Begun → ℕ → fixed.Alternative → ℕ → Bool
-is_begun lists i a x = is_met i a (entries_at lists x) 0 x || option_map_or (is_picked i a lists) (slice_get lists.seconds.now x) false
+is_begun lists i a x =
+    is_met i a (entries_at lists x) 0 x
+    || (option_map_or (is_picked i a lists) (slice_get lists.seconds.now x) false || list_any (is_third lists i a x) lists.thirds.now)
 
 -- each buffer without a built-in answer that has such bytes has row i among the rows that are tried of it
 abbrev pub is_tried_parentless : Parentless → ℕ → fixed.Alternative → Bool

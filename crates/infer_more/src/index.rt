@@ -109,19 +109,27 @@ pub(crate) struct Second {
     pub first: u16,
 }
 
+/// Where a buffer with this first byte has one more that picks among rows of it. With such a byte so many rows begin that a
+/// second one leaves too many.
+pub(crate) struct Third {
+    pub byte: u8,
+    pub second: Second,
+}
+
 /// The entries by their first byte: a span for each, of those that all buffers with it are asked for, and behind these the
-/// spans from which a second byte picks one. They stand in one list, as the check of a static takes time quadratic in the
-/// lists inside it.
+/// spans from which a second byte picks one, and a third one for few first bytes. They stand in one list, as the check of a
+/// static takes time quadratic in the lists inside it.
 pub(crate) struct Begun {
     pub spans: &'static [Span],
     pub seconds: &'static [Second],
+    pub thirds: &'static [Third],
     pub entries: &'static [Entry],
 }
 
-/// The rows without a parent that are tried: by their first byte and a second one, and behind guards those that allow any
-/// first byte. Of these the rows that share another byte stand behind the gate, so
-/// that a buffer without it is told by one look. Ranges have the rows that allow many bytes, and spots the last rows, told by
-/// a byte elsewhere. The root of markup is looked for once for all rows that ask for one. The texts come last.
+/// The rows without a parent that are tried: by their first byte and a second or third one, and behind guards those that
+/// allow any first byte. Of these the rows that share another byte stand behind the gate, so that a buffer without it is told
+/// by one look. Ranges have the rows that allow many bytes, and spots the last rows, told by a byte elsewhere. The root of
+/// markup is looked for once for all rows that ask for one. The texts come last.
 pub(crate) struct Parentless {
     pub first: Begun,
     pub guards: &'static [Guard],
@@ -204,6 +212,18 @@ macro_rules! seconds {
     };
 }
 
+macro_rules! thirds {
+    ($($byte:literal $place:literal $first:literal),*) => {
+        &[$(Third {
+            byte: $byte,
+            second: Second {
+                place: $place,
+                first: $first,
+            },
+        }),*]
+    };
+}
+
 macro_rules! guards {
     ($($place:literal $byte:literal ($($at:literal $also:literal $row:literal),*);)*) => {
         &[$(Guard {
@@ -264,7 +284,7 @@ mod generated;
 
 pub use generated::FURTHER_COUNT;
 pub(crate) use generated::found_below;
-use generated::{LAST_PLACE, PARENTLESS, told_below};
+use generated::{LAST_PLACE, NEAR_PLACE, PARENTLESS, told_below};
 
 /// How the rows below this built-in row are told: in a way by which just those are found that widen its answer.
 #[inline(always)]

@@ -5,14 +5,14 @@ ghost use Rattle.infer_deep.specs.ClassId.{HasClassId};
 ghost use Rattle.infer_deep.specs.Find.{OccursAt};
 ghost use Rattle.infer_formats.specs.Json.{IsJson, IsJsonLines};
 ghost use Rattle.infer_formats.specs.Zip.{IsPackageWith};
-ghost use Rattle.infer_more.specs.Index.{AllApplications, AreClassIds, HasTagText, IsFoundBelow, IsLeast, IsNamed, IsOfProgram, IsRooted, IsRootedBy, IsTextRow, IsTried, MayBeginMarkup, are_spans, are_spots, are_texts, all_seen, ascends, begun, behind, below_at, bucket_at, bucket_of, candidate, candidates, entries_at, excepted, gated, guarded, has_between, has_byte, has_marked, has_other, is_far, is_true_below, mark_at, named_row, picked, ranged, rooted_row, seconded, seen, spotted, tried_elsewhere, tried_parentless, unless, within, zeroed};
+ghost use Rattle.infer_more.specs.Index.{AllApplications, AreClassIds, HasTagText, IsFoundBelow, IsLeast, IsNamed, IsOfProgram, IsRooted, IsRootedBy, IsTextRow, IsTried, MayBeginMarkup, are_spans, are_spots, are_texts, all_seen, ascends, begun, behind, below_at, bucket_at, bucket_of, candidate, candidates, entries_at, excepted, gated, guarded, has_between, has_byte, has_marked, has_other, is_far, is_true_below, mark_at, named_row, picked, ranged, rooted_row, seconded, seen, spotted, third, thirded, tried_elsewhere, tried_parentless, unless, within, zeroed};
 ghost use Rattle.infer_more.specs.Parents.{is_marked};
 ghost use Rattle.infer_more.specs.Wider.{IsWidened, WidensAt};
 ghost use Rattle.infer_more.specs.declared.index.generated.TheConstants.{FURTHER_COUNT};
 
 use crate::index::{
-    Begun, Below, Entry, Except, FURTHER_COUNT, Gate, Guard, LAST_PLACE, Named, Parentless, Range,
-    Rooted, Second, Spot, Spots, Texts, way_below, without_parent,
+    Begun, Below, Entry, Except, FURTHER_COUNT, Gate, Guard, LAST_PLACE, NEAR_PLACE, Named,
+    Parentless, Range, Rooted, Second, Spot, Spots, Texts, Third, way_below, without_parent,
 };
 use crate::table::widens;
 use infer::rows::ROW_COUNT;
@@ -418,6 +418,42 @@ fn least_seconded(index: &Parentless, buf: &[u8], before: usize) -> usize
     least_listed(entries_seconded(index, buf), buf, before)
 }
 
+/// [`least_listed`] of the entries of the bucket that the buffer's own byte picks.
+#[inline(always)]
+fn least_picked(lists: &Begun, second: &Second, buf: &[u8], before: usize) -> usize
+    requires { IsTrue (are_spans lists.now) }
+    ensures { IsLeast (IsTried None buf.now
+        (candidates buf.now (picked lists.now second.now buf.now))) before result }
+{
+    least_listed(entries_picked(lists, second, buf), buf, before)
+}
+
+/// [`least_picked`] by a third byte: the number before if the buffer begins with another byte.
+#[tactic(auto, using(crate::proofs::LeastLemmas::tried_behind, crate::proofs::LeastLemmas::tried_shut))]
+#[inline(always)]
+fn least_third(lists: &Begun, own: &Third, buf: &[u8], before: usize) -> usize
+    requires { IsTrue (are_spans lists.now) }
+    ensures { IsLeast (IsTried None buf.now (third lists.now buf.now own.now)) before result }
+{
+    if !has_byte(buf, 0, own.byte) {
+        return before;
+    }
+    least_picked(lists, &own.second, buf, before)
+}
+
+/// The least of the number before and of the rows that a third byte picks and that widen the answer.
+#[inline(always)]
+fn least_thirded(lists: &Begun, buf: &[u8], before: usize) -> usize
+    requires { IsTrue (are_spans lists.now) }
+    ensures { IsLeast (IsTried None buf.now (thirded lists.now buf.now)) before result }
+{
+    let mut least = before;
+    for own in lists.thirds {
+        least = least_third(lists, own, buf, least);
+    }
+    least
+}
+
 /// The least of the number before and of the rows that bytes elsewhere tell and that widen the answer. Copies have numbers,
 /// since the compiler makes one call of two that are alike.
 #[inline(always)]
@@ -432,17 +468,20 @@ fn least_elsewhere<const COPY: usize>(index: &Parentless, buf: &[u8], before: us
     least_spotted(&index.spots, buf, ranged)
 }
 
-/// [`least_elsewhere`], by a copy of its own for buffers that have each place that is looked at: there the compiler knows so.
+/// [`least_elsewhere`], by copies of its own for buffers that have each place that is looked at, and for those that have each
+/// near one: there the compiler knows so.
 #[inline(always)]
 fn least_placed(index: &Parentless, buf: &[u8], before: usize) -> usize
     requires { IsTrue (are_spots index.now.spots) }
     ensures { IsLeast (IsTried None buf.now (tried_elsewhere index.now buf.now)) before result }
 {
-    if buf.len() > LAST_PLACE {
-        least_elsewhere::<1>(index, buf, before)
-    } else {
-        least_elsewhere::<0>(index, buf, before)
+    if buf.len() <= NEAR_PLACE {
+        return least_elsewhere::<0>(index, buf, before);
     }
+    if buf.len() <= LAST_PLACE {
+        return least_elsewhere::<1>(index, buf, before);
+    }
+    least_elsewhere::<2>(index, buf, before)
 }
 
 /// The least of the rows that such an index tries and that widen the answer, or their count.
@@ -454,7 +493,8 @@ fn least_tried(index: &Parentless, buf: &[u8]) -> usize
         (tried_parentless index.now buf.now)) FURTHER_COUNT result }
 {
     let begun = least_begun(index, buf);
-    let seconded = least_seconded(index, buf, begun);
+    let thirded = least_thirded(&index.first, buf, begun);
+    let seconded = least_seconded(index, buf, thirded);
     least_placed(index, buf, seconded)
 }
 
