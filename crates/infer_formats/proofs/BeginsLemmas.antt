@@ -1,6 +1,6 @@
 -- What texts begin with: what more bytes keep and may bring, and what a computation says of it.
 use Rattle.infer_formats.proofs.Common.{[], IsFirstWithin, Option, None, Some, is_some, refl, ◌↔◌, ◌⊎◌, inl, inr, ℕ, ◌+◌, ◌≤◌, IsTrue, List, ◌∷◌, ◌++◌, length, suc, zero, arith, OccursAt, OccursAt-append, AgreesAt, MayBecome, grown_agrees, StandsByPlace, accepts, stands, at_least, utf8_mark}
-use Rattle.infer_formats.specs.Begins.{Begins, BeginsAndHas}
+use Rattle.infer_formats.specs.Begins.{Begins, BeginsAndHas, BeginsAndHasAll}
 use Rattle.infer_formats.proofs.OutlineLemmas.{marked, marked_line, occurs, one}
 use Rattle.infer_formats.specs.Outline.{first_lines}
 use Rattle.infer_sig.specs.Signature.{text}
@@ -15,6 +15,10 @@ module _ (b more t : List ℕ) where
 
   pub begins_and_has-lasts : (u : List ℕ) → BeginsAndHas t u b → BeginsAndHas t u (b ++ more)
   begins_and_has-lasts u (h, (p, o)) = (begins-lasts h, (p, OccursAt-append b more u p o))
+
+  pub begins_and_has_all-lasts : (u v w : List ℕ) → BeginsAndHasAll t u v w b → BeginsAndHasAll t u v w (b ++ more)
+  begins_and_has_all-lasts u v w (h, (p, o), (q, n), (r, m)) =
+      (begins-lasts h, (p, OccursAt-append b more u p o), (q, OccursAt-append b more v q n), (r, OccursAt-append b more w r m))
 
 pub finds_somewhere : (b u : List ℕ) (r : Option ℕ) → IsFirstWithin OccursAt b u 0 (length b) r → IsTrue (is_some r) ↔ ((p : ℕ) × OccursAt b u p)
 finds_somewhere b u (Some p) first = (λ is. (p, first.here.stands), λ has. refl)
@@ -47,3 +51,12 @@ module _ (by_place : ByPlace) (b : List ℕ) where
     begun ← needs (known_begins t) (λ h. h.0)
     there ← needs (known_somewhere u (length t)) (λ h. h.1)
     proved (begun, there)
+
+  -- the others stand one behind the other, or nowhere
+  abbrev pub known_begins_and_has_all : (t u v w : List ℕ) → Known (BeginsAndHasAll t u v w b)
+  known_begins_and_has_all t u v w = do
+    begun ← needs (known_begins t) (λ h. h.0)
+    first ← needs (known_somewhere u (length t)) (λ h. h.1)
+    second ← needs (known_somewhere v (length t + length u)) (λ h. h.2)
+    third ← needs (known_somewhere w (length t + length u + length v)) (λ h. h.3)
+    proved (begun, first, second, third)

@@ -7,14 +7,14 @@ use Rattle.infer_formats.proofs.OutlineLemmas.{begins_among, marked}
 use Rattle.infer_sig.specs.Signature as fixed
 
 -- one more byte of white space
-one_more : (x : ℕ) (w : List ℕ) → IsBlank x → BeginsBehindBlanks w → BeginsBehindBlanks (x ∷ w)
+pub one_more : (x : ℕ) (w : List ℕ) → IsBlank x → BeginsBehindBlanks w → BeginsBehindBlanks (x ∷ w)
 one_more x w blank (k, all, is) = (suc k, each, is)
   where
     each : (j : ℕ) → j < suc k → IsBlank (slice_index (x ∷ w) j)
     each zero lt = blank
     each (suc j) lt = all j (omega arith)
 
-at_once : (x : ℕ) (w : List ℕ) → IsBracket x → BeginsBehindBlanks (x ∷ w)
+pub at_once : (x : ℕ) (w : List ℕ) → IsBracket x → BeginsBehindBlanks (x ∷ w)
 at_once x w is = (0, λ j lt. absurd (omega arith), is)
 
 begins_text : (w : List ℕ) → BehindBlanks BeginsWithToken w → BeginsBehindBlanks w
@@ -76,7 +76,7 @@ text_past = past_mark BeginsText (λ w t. begins_text w t.0)
 lines_past : (b : List ℕ) → IsJsonLines b → UpToMark BeginsBehindBlanks b
 lines_past = past_mark BeginsLines begins_lines
 
-leads : (b : List ℕ) → UpToMark BeginsBehindBlanks b → BeginsJson b × HasBracket b
+pub leads : (b : List ℕ) → UpToMark BeginsBehindBlanks b → BeginsJson b × HasBracket b
 leads b (inl (k, all, is)) = (inr (k, all, is), (k, is))
 leads b (inr (w, e, (k, all, is))) = (inl (OccursAt-begins b utf8_mark w e), subst HasBracket (sym e) (suc (suc (suc k)), is))
 

@@ -3,8 +3,10 @@ pub mod Common
 pub mod CompleteLemmas
 pub mod DbaseLemmas
 pub mod ElfLemmas
+pub mod FirstKeyLemmas
 pub mod FrontLemmas
 pub mod GrowthLemmas
+pub mod HeaderLemmas
 pub mod Id3Lemmas
 pub mod JsonLeadLemmas
 pub mod JsonLemmas

@@ -1,9 +1,11 @@
 -- Each relation, by the lemmas of its format.
 use Rattle.infer_formats.proofs.Common.{[], ◌≡◌, ◌↔◌, IsTrue, List, ℕ, OccursAt-append, Lasts, arith, refl, StandsByPlace, stands, Stays, png_header, Fits, HasLines, Relation, animated, class_id, dbase, directory_tag, first_entry_ends_in, first_entry_has_extra, first_entry_is, is_lasting, json_lines, json_text, package_with, plain_text, program, relation_listed, root, root_with, shared_object, subrip, tar_checksum}
-use Rattle.infer_formats.specs.Relation.{behind_id3, has_entry, java_archive, text_first, text_first_with}
-use Rattle.infer_formats.proofs.BeginsLemmas.{begins_and_has-lasts, begins-lasts, begins_lines, known_begins, known_begins_and_has}
+use Rattle.infer_formats.specs.Relation.{behind_id3, first_key, first_key_with, has_entry, header, java_archive, text_first, text_first_with, text_first_with_all}
+use Rattle.infer_formats.proofs.BeginsLemmas.{begins_and_has-lasts, begins_and_has_all-lasts, begins-lasts, begins_lines, known_begins, known_begins_and_has, known_begins_and_has_all}
 use Rattle.infer_formats.proofs.DbaseLemmas.{dbase_lines, dbase-lasts, known_table}
 use Rattle.infer_formats.proofs.ElfLemmas.{object_lines, shared_object-lasts, known_object}
+use Rattle.infer_formats.proofs.FirstKeyLemmas.{first_key-lasts, first_key_with-lasts, key_lines, known_key, known_value, value_lines}
+use Rattle.infer_formats.proofs.HeaderLemmas.{header-lasts, header_lines, known_header}
 use Rattle.infer_formats.proofs.Id3Lemmas.{behind-lasts, behind_lines, known_behind}
 use Rattle.infer_formats.proofs.JsonLeadLemmas.{lines_lead, text_leads, json_begins}
 use Rattle.infer_formats.proofs.LeadLemmas.{begins_markup, markup_begins}
@@ -39,7 +41,11 @@ relation_lasts (directory_tag tag) l = λ b more. tag-lasts b more tag
 relation_lasts (behind_id3 t) l = λ b more. behind-lasts b more t
 relation_lasts (text_first t) l = λ b more. begins-lasts b more t
 relation_lasts (text_first_with t u) l = λ b more. begins_and_has-lasts b more t u
-relation_lasts animated l = λ b more (header, chunks). (OccursAt-append b more png_header 0 header, chunk b more 8 chunks)
+relation_lasts (text_first_with_all t u v w) l = λ b more. begins_and_has_all-lasts b more t u v w
+relation_lasts (header t far low high) l = λ b more. header-lasts b more t far low high
+relation_lasts (first_key k) l = first_key-lasts k
+relation_lasts (first_key_with k v) l = first_key_with-lasts k v
+relation_lasts animated l = λ b more (front, chunks). (OccursAt-append b more png_header 0 front, chunk b more 8 chunks)
 relation_lasts subrip l = subrip-lasts
 relation_lasts dbase l = dbase-lasts
 relation_lasts tar_checksum l = tar_checksum-lasts
@@ -72,6 +78,10 @@ module _ (by_place : (place : ℕ) (t buf : List ℕ) → IsTrue (stands place t
   has_lines (behind_id3 t) small h = behind_lines by_place b t h
   has_lines (text_first t) small h = begins_lines by_place b t h
   has_lines (text_first_with t u) small h = begins_lines by_place b t h.0
+  has_lines (text_first_with_all t u v w) small h = begins_lines by_place b t h.0
+  has_lines (header t far low high) small h = header_lines by_place b t far low high h
+  has_lines (first_key k) small h = key_lines by_place b k h
+  has_lines (first_key_with k v) small h = value_lines by_place b k v h
   has_lines animated small (o, a) = let le = o.fits in begins by_place b 4 png_header (omega arith) o
   has_lines subrip small h = subrip_lines by_place b h
   has_lines dbase small h = dbase_lines by_place b h
@@ -99,6 +109,10 @@ module _ (by_place : ByPlace) (inside : Leads) (single : Single) (b : List ℕ) 
   known_relation (behind_id3 t) = known_behind by_place b t
   known_relation (text_first t) = known_begins by_place b t
   known_relation (text_first_with t u) = known_begins_and_has by_place b t u
+  known_relation (text_first_with_all t u v w) = known_begins_and_has_all by_place b t u v w
+  known_relation (header t far low high) = known_header by_place b t far low high
+  known_relation (first_key k) = known_key b k
+  known_relation (first_key_with k v) = known_value b k v
   known_relation animated = known_animation by_place b
   known_relation subrip = known_subrip by_place b
   known_relation dbase = known_table b

@@ -10,3 +10,7 @@ Begins t b = OccursAt b t 0 ⊎ (OccursAt b utf8_mark 0 × OccursAt b t 3)
 -- and the other stands somewhere
 abbrev pub BeginsAndHas : List ℕ → List ℕ → List ℕ → Type 0
 BeginsAndHas t u b = Begins t b × ((p : ℕ) × OccursAt b u p)
+
+-- and three others stand somewhere, of which the last may be empty
+abbrev pub BeginsAndHasAll : List ℕ → List ℕ → List ℕ → List ℕ → List ℕ → Type 0
+BeginsAndHasAll t u v w b = Begins t b × ((p : ℕ) × OccursAt b u p) × ((p : ℕ) × OccursAt b v p) × ((p : ℕ) × OccursAt b w p)

@@ -2,6 +2,7 @@
 use Rattle.std.specs.Prelude.{IsTrue, ◌≡◌, ◌⊎◌, ℕ, ◌+◌, ◌<◌, ◌≤◌, List, [], ◌∷◌, ◌++◌, slice_index}
 use Rattle.memchr.specs.Find.{OccursAt}
 use Rattle.infer_deep.specs.Signatures.{Lasts}
+use Rattle.infer_formats.specs.FirstKey.{HasFirstKey, HasFirstKeyWith}
 use Rattle.infer_formats.specs.Json.{CanBe, IsBlank, IsJson, IsJsonLines, blanks, text}
 use Rattle.infer_formats.specs.JsonStates.{IsBracket}
 use Rattle.infer_formats.specs.Markup.{BeginsElement, HasRoot, HasRootWith, IsRootElement, IsXmlSpace, utf8_mark}
@@ -39,12 +40,14 @@ abbrev pub HasBracket : List ℕ → Type 0
 HasBracket b = (k : ℕ) × IsBracket (slice_index b k)
 
 -- with what a buffer begins that has a root, and that an element starts in it; one with a text in the tag has the root;
--- with what JSON begins, and that it has a bracket; and with what bytes a buffer that fits a relation
+-- with what JSON begins, and that it has a bracket, as an object has with its first key; and with what bytes a buffer that fits a relation
 pub record Leads : Type 0 where
   pub root : (name b : List ℕ) → HasRoot name b → BeginsMarkup b
   pub element : (name b : List ℕ) → HasRoot name b → StartsElement b
   pub json : (b : List ℕ) → IsJson b → BeginsJson b × HasBracket b
   pub json_lines : (b : List ℕ) → IsJsonLines b → BeginsJson b × HasBracket b
+  pub key : (k b : List ℕ) → HasFirstKey k b → HasBracket b
+  pub value : (k v b : List ℕ) → HasFirstKeyWith k v b → HasBracket b
   pub root_with : (name text b : List ℕ) → HasRootWith name text b → HasRoot name b
   pub outline : (r : Relation) (b : List ℕ) → HasLines r b
 

@@ -6,6 +6,7 @@ pub mod Tiff
 pub mod Png
 pub mod Dbase
 pub mod Elf
+pub mod Header
 pub mod Id3
 pub mod Subtitles
 pub mod Tar
@@ -13,6 +14,7 @@ pub mod Runs
 pub mod Script
 pub mod Json
 pub mod JsonStates
+pub mod FirstKey
 pub mod Markup
 pub mod Open
 pub mod Outline

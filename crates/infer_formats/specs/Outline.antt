@@ -40,6 +40,11 @@ abbrev pub json_outline : List fixed.Alternative
 json_outline =
     at_least 1 (byte 0 (any_of (0x09 ∷ 0x0A ∷ 0x0D ∷ 0x20 ∷ 0x5B ∷ 0x7B ∷ [])) ∷ []) ∷ at_least 3 (text 0 (0xEF ∷ 0xBB ∷ 0xBF ∷ []) ∷ []) ∷ []
 
+-- a byte order mark, white space or the bracket of an object first
+abbrev pub object_outline : List fixed.Alternative
+object_outline =
+    at_least 1 (byte 0 (any_of (0x09 ∷ 0x0A ∷ 0x0D ∷ 0x20 ∷ 0x7B ∷ [])) ∷ []) ∷ at_least 3 (text 0 (0xEF ∷ 0xBB ∷ 0xBF ∷ []) ∷ []) ∷ []
+
 -- the first entry of a ZIP archive with the text behind its header, and the low byte of its length at the place
 abbrev pub model_entry : ℕ → List ℕ → fixed.Alternative
 model_entry place t = at_least (30 + length t) (text 0 zip_header ∷ text place (length t % 256 ∷ []) ∷ text 30 t ∷ [])

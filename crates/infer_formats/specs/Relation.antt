@@ -3,13 +3,15 @@ use Rattle.std.specs.Prelude.{ℕ, ◌+◌, ◌/◌, ◌%◌, ◌<◌, Bool, fal
 use Rattle.infer_deep.specs.ClassId.{HasClassId, compound_header}
 use Rattle.infer_deep.specs.Office.{zip_header}
 use Rattle.memchr.specs.Find.{OccursAt}
-use Rattle.infer_formats.specs.Begins.{Begins, BeginsAndHas}
+use Rattle.infer_formats.specs.Begins.{Begins, BeginsAndHas, BeginsAndHasAll}
 use Rattle.infer_formats.specs.Dbase.{IsDbase, versions}
 use Rattle.infer_formats.specs.Elf.{IsSharedObject}
+use Rattle.infer_formats.specs.FirstKey.{HasFirstKey, HasFirstKeyWith}
+use Rattle.infer_formats.specs.Header.{HasLaterHeader}
 use Rattle.infer_formats.specs.Id3.{IsBehindId3}
 use Rattle.infer_formats.specs.Json.{IsJson, IsJsonLines}
 use Rattle.infer_formats.specs.Markup.{HasRoot, HasRootWith}
-use Rattle.infer_formats.specs.Outline.{counted_for, digits_behind, first_lines, json_outline, markup_lines, model_entry, named}
+use Rattle.infer_formats.specs.Outline.{counted_for, digits_behind, first_lines, json_outline, markup_lines, model_entry, named, object_outline}
 use Rattle.infer_formats.specs.Png.{IsAnimated, png_header}
 use Rattle.infer_formats.specs.Script.{IsProgram}
 use Rattle.infer_formats.specs.Subtitles.{IsSubRip}
@@ -47,6 +49,10 @@ pub data Relation : Type 0 where
   behind_id3 : List ℕ → Relation
   text_first : List ℕ → Relation
   text_first_with : List ℕ → List ℕ → Relation
+  text_first_with_all : List ℕ → List ℕ → List ℕ → List ℕ → Relation
+  header : List ℕ → ℕ → ℕ → ℕ → Relation
+  first_key : List ℕ → Relation
+  first_key_with : List ℕ → List ℕ → Relation
   animated : Relation
   subrip : Relation
   dbase : Relation
@@ -72,6 +78,10 @@ relation_listed (listed.DirectoryTag tag) = directory_tag tag
 relation_listed (listed.BehindId3 t) = behind_id3 t.now
 relation_listed (listed.TextFirst t) = text_first t.now
 relation_listed (listed.TextFirstWith t u) = text_first_with t.now u.now
+relation_listed (listed.TextFirstWithAll t u v w) = text_first_with_all t.now u.now v.now w.now
+relation_listed (listed.Header t far low high) = header t.now far low high
+relation_listed (listed.FirstKey k) = first_key k.now
+relation_listed (listed.FirstKeyWith k v) = first_key_with k.now v.now
 relation_listed listed.Animated = animated
 relation_listed listed.SubRip = subrip
 relation_listed listed.Dbase = dbase
@@ -108,6 +118,7 @@ names =
     ∷ (bare (codes "begins") ∷ separator 0x3A ∷ [], Takes.Begins)
     ∷ (bare (codes "program") ∷ separator 0x3A ∷ [], Program)
     ∷ (bare (codes "first") ∷ bare (codes "entry") ∷ separator 0x3A ∷ [], Entry)
+    ∷ (bare (codes "first") ∷ bare (codes "key") ∷ separator 0x3A ∷ [], Takes.FirstKey)
     ∷ (bare (codes "class") ∷ bare (codes "id") ∷ separator 0x3A ∷ [], ClassId)
     ∷ (bare (codes "root") ∷ separator 0x3A ∷ [], Root)
     ∷ []
@@ -129,6 +140,10 @@ Fits (directory_tag tag) b = HasTag tag b
 Fits (behind_id3 t) b = IsBehindId3 t b
 Fits (text_first t) b = Begins t b
 Fits (text_first_with t u) b = BeginsAndHas t u b
+Fits (text_first_with_all t u v w) b = BeginsAndHasAll t u v w b
+Fits (header t far low high) b = HasLaterHeader t far low high b
+Fits (first_key k) b = HasFirstKey k b
+Fits (first_key_with k v) b = HasFirstKeyWith k v b
 Fits animated b = OccursAt b png_header 0 × IsAnimated b
 Fits subrip b = IsSubRip b
 Fits dbase b = IsDbase b
@@ -166,6 +181,10 @@ lines (directory_tag tag) = at_least 4 (text 0 (0x49 ∷ 0x49 ∷ 0x2A ∷ 0x00 
 lines (behind_id3 t) = at_least 3 (text 0 (codes "ID3") ∷ []) ∷ []
 lines (text_first t) = first_lines t
 lines (text_first_with t u) = first_lines t
+lines (text_first_with_all t u v w) = first_lines t
+lines (header t far low high) = at_least 2 (text 0 (codes "MZ") ∷ []) ∷ []
+lines (first_key k) = object_outline
+lines (first_key_with k v) = object_outline
 lines animated = at_least 4 (text 0 png_header ∷ []) ∷ []
 lines subrip = at_least 1 (byte 0 (between 0x30 0x39) ∷ []) ∷ at_least 3 (text 0 (0xEF ∷ 0xBB ∷ 0xBF ∷ []) ∷ []) ∷ []
 lines dbase = at_least 14 (byte 0 (any_of versions) ∷ text 12 (0x00 ∷ 0x00 ∷ []) ∷ []) ∷ []
@@ -205,6 +224,15 @@ model before (directory_tag tag) =
 model before (behind_id3 t) = at_least (10 + length t) (text 0 (codes "ID3") ∷ text 10 t ∷ [])
 model before (text_first t) = at_least (length t) (text 0 t ∷ [])
 model before (text_first_with t u) = at_least (length t + length u) (text 0 t ∷ text (length t) u ∷ [])
+model before (text_first_with_all t u v w) =
+    at_least (length t + length u + length v + length w)
+    (text 0 t ∷ text (length t) u ∷ text (length t + length u) v ∷ text (length t + length u + length v) w ∷ [])
+model before (header t far low high) =
+    at_least (66 + length t + far) (text 0 (codes "MZ") ∷ text 60 (0x40 ∷ []) ∷ text 64 t ∷ text (64 + far) (low % 256 ∷ low / 256 ∷ []) ∷ [])
+model before (first_key k) = at_least (4 + length k) (text 0 (codes "{\"") ∷ text 2 k ∷ text (2 + length k) (codes "\":") ∷ [])
+model before (first_key_with k v) =
+    at_least (6 + length k + length v)
+    (text 0 (codes "{\"") ∷ text 2 k ∷ text (2 + length k) (codes "\":\"") ∷ text (5 + length k) v ∷ text (5 + length k + length v) (codes "\"") ∷ [])
 model before animated = at_least 16 (text 0 png_header ∷ text 12 (codes "acTL") ∷ [])
 model before subrip = at_least 31 (text 0 (codes "0\n00:00:00,000 --> 00:00:00,000") ∷ [])
 model before dbase =

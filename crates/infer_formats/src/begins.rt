@@ -1,7 +1,7 @@
 //! Texts by what they begin with. The byte order mark that may stand before it is that of UTF-8: RFC 3629, section 6.
 ghost use Rattle.std.specs.Prelude.{◌↔◌, ℕ, IsTrue};
 ghost use Rattle.memchr.specs.Find.{OccursAt};
-ghost use Rattle.infer_formats.specs.Begins.{Begins, BeginsAndHas};
+ghost use Rattle.infer_formats.specs.Begins.{Begins, BeginsAndHas, BeginsAndHasAll};
 
 mod open;
 
@@ -24,6 +24,13 @@ pub fn begins_and_has(buf: &[u8], text: &[u8], other: &[u8]) -> bool
     ensures { IsTrue result ↔ BeginsAndHas text.now other.now buf.now }
 {
     begins(buf, text) && has(buf, other)
+}
+
+/// The first text stands so, and each of the others anywhere.
+pub fn begins_and_has_all(buf: &[u8], text: &[u8], u: &[u8], v: &[u8], w: &[u8]) -> bool
+    ensures { IsTrue result ↔ BeginsAndHasAll text.now u.now v.now w.now buf.now }
+{
+    begins(buf, text) && has(buf, u) && has(buf, v) && (w.is_empty() || has(buf, w))
 }
 
 fn has(buf: &[u8], text: &[u8]) -> bool

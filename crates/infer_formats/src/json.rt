@@ -4,11 +4,13 @@ ghost use Rattle.std.specs.Bool.{OnTrue};
 ghost use Rattle.infer_formats.specs.Json.{IsBlank, IsJson, IsJsonLines, IsKind, text};
 ghost use Rattle.infer_formats.specs.JsonStates.{IsBracket, IsKindBefore, IsKindPastMark, IsPastMark, StartsLine};
 
+mod key;
 mod lines;
 mod open;
 mod reader;
 mod token;
 
+pub use key::{has_first_key, has_first_key_with, may_have_first_key, may_have_first_key_with};
 use lines::{Line, begins_line, is_bracket, past_blanks, read_line};
 pub use open::{may_become_json, may_become_json_lines};
 use token::has_token;

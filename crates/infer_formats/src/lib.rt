@@ -5,6 +5,7 @@
 pub mod begins;
 pub mod dbase;
 pub mod elf;
+pub mod header;
 pub mod id3;
 pub mod json;
 pub mod laws;

@@ -3,15 +3,20 @@
 ghost use Rattle.std.specs.Prelude.{◌≡◌, ◌≤◌, ◌↔◌, [], IsTrue, length, map};
 ghost use Rattle.infer_deep.specs.Signatures.{MayBecome};
 ghost use Rattle.infer_formats.specs.Open.{Stays};
-ghost use Rattle.infer_formats.specs.Relation.{Fits, IsSound, class_id, dbase, directory_tag, has_entry, least_of, model, model_listed, name_listed, names, of_text, package_with, program, relation_listed, root, root_with, shared_object};
+ghost use Rattle.infer_formats.specs.Relation.{Fits, IsSound, class_id, dbase, directory_tag, has_entry, header, least_of, model, model_listed, name_listed, names, of_text, package_with, program, relation_listed, root, root_with, shared_object};
 
-use crate::begins::{begins, begins_and_has, may_begin};
+use crate::begins::{begins, begins_and_has, begins_and_has_all, may_begin};
 use crate::dbase::{is_dbase, may_become_dbase};
 use crate::elf::{is_shared_object, may_become_shared_object};
+use crate::header::{has_later_header, may_have_later_header};
 use crate::id3::{is_behind_id3, may_be_behind_id3};
-use crate::json::{is_json, is_json_lines, may_become_json, may_become_json_lines};
+use crate::json::{
+    has_first_key, has_first_key_with, is_json, is_json_lines, may_become_json,
+    may_become_json_lines, may_have_first_key, may_have_first_key_with,
+};
 use crate::markup::{has_root, has_root_with, may_have_root, may_have_root_with};
 use crate::model::{Model, Text, at, entry, five, four, made, one, three, two};
+use crate::numbers::bytes16;
 use crate::png::{is_animated, may_become_animated};
 use crate::script::{is_program, may_become_program};
 use crate::subtitles::{is_subrip, may_become_subrip};
@@ -43,6 +48,11 @@ pub enum Relation<'a> {
     BehindId3(&'a [u8]),
     TextFirst(&'a [u8]),
     TextFirstWith(&'a [u8], &'a [u8]),
+    /// The last text may be empty.
+    TextFirstWithAll(&'a [u8], &'a [u8], &'a [u8], &'a [u8]),
+    Header(&'a [u8], u16, u16, u16),
+    FirstKey(&'a [u8]),
+    FirstKeyWith(&'a [u8], &'a [u8]),
     Animated,
     SubRip,
     Dbase,
@@ -63,6 +73,7 @@ pub enum Takes {
     Tag,
     Program,
     Entry,
+    FirstKey,
     ClassId,
     Root,
     Begins,
@@ -159,6 +170,10 @@ static NAMES: &[(&[Token<'static>], Takes)] = &[
         Takes::Entry,
     ),
     (
+        &[Word(b"first"), Word(b"key"), Separator(b':')],
+        Takes::FirstKey,
+    ),
+    (
         &[Word(b"class"), Word(b"id"), Separator(b':')],
         Takes::ClassId,
     ),
@@ -193,6 +208,12 @@ impl<'a> Relation<'a> {
             Relation::BehindId3(text) => is_behind_id3(buf, text),
             Relation::TextFirst(text) => begins(buf, text),
             Relation::TextFirstWith(text, other) => begins_and_has(buf, text, other),
+            Relation::TextFirstWithAll(text, u, v, w) => begins_and_has_all(buf, text, u, v, w),
+            Relation::Header(text, far, low, high) => has_later_header(
+                buf, text, *far, *low, *high,
+            ),
+            Relation::FirstKey(key) => has_first_key(buf, key),
+            Relation::FirstKeyWith(key, value) => has_first_key_with(buf, key, value),
             Relation::Animated => stands_at(buf, b"\x89PNG", 0) && is_animated(buf),
             Relation::SubRip => is_subrip(buf),
             Relation::Dbase => is_dbase(buf),
@@ -226,6 +247,12 @@ impl<'a> Relation<'a> {
             Relation::TextFirst(text) => may_begin(buf, text),
             // So may the other text.
             Relation::TextFirstWith(text, _) => may_begin(buf, text),
+            Relation::TextFirstWithAll(text, _, _, _) => may_begin(buf, text),
+            Relation::Header(text, far, low, high) => {
+                may_have_later_header(buf, text, *far, *low, *high)
+            }
+            Relation::FirstKey(key) => may_have_first_key(buf, key),
+            Relation::FirstKeyWith(key, value) => may_have_first_key_with(buf, key, value),
             Relation::Animated => may_stand_at(buf, b"\x89PNG", 0) && may_become_animated(buf),
             Relation::SubRip => may_become_subrip(buf),
             Relation::Dbase => may_become_dbase(buf),
@@ -275,6 +302,28 @@ impl<'a> Relation<'a> {
                 text.len() + other.len(),
                 at(0, text),
                 at(text.len(), other),
+            ),
+            Relation::TextFirstWithAll(text, u, v, w) => four(
+                text.len() + u.len() + v.len() + w.len(),
+                at(0, text),
+                at(text.len(), u),
+                at(text.len() + u.len(), v),
+                at(text.len() + u.len() + v.len(), w),
+            ),
+            Relation::Header(text, far, low, _) => program_with_header(text, *far, *low),
+            Relation::FirstKey(key) => three(
+                4 + key.len(),
+                at(0, b"{\""),
+                at(2, key),
+                at(2 + key.len(), b"\":"),
+            ),
+            Relation::FirstKeyWith(key, value) => five(
+                6 + key.len() + value.len(),
+                at(0, b"{\""),
+                at(2, key),
+                at(2 + key.len(), b"\":\""),
+                at(5 + key.len(), value),
+                at(5 + key.len() + value.len(), b"\""),
             ),
             Relation::Animated => two(16, at(0, b"\x89PNG"), at(12, b"acTL")),
             Relation::SubRip => one(31, at(0, b"0\n00:00:00,000 --> 00:00:00,000")),
@@ -371,6 +420,21 @@ fn table() -> Model<'static>
         at(32, b"A"),
         at(43, b"+"),
         at(64, b"\r"),
+    )
+}
+
+/// That of a program whose later header stands right behind the first, with this number in it.
+fn program_with_header<'b>(text: &'b [u8], far: u16, low: u16) -> Model<'b>
+    requires { length text.now ≤ 65536 }
+    ensures model { model_listed result ≡ model [] (header text.now far low low) }
+    ensures few { result.count ≤ 5 }
+{
+    four(
+        66 + text.len() + usize::from(far),
+        at(0, b"MZ"),
+        at(60, b"\x40"),
+        at(64, text),
+        made(64 + usize::from(far), Text::Two(bytes16(low, false))),
     )
 }
 

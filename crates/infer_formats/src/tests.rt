@@ -3,8 +3,10 @@
 mod begins;
 mod dbase;
 mod elf;
+mod header;
 mod id3;
 mod json;
+mod key;
 mod markup;
 mod png;
 mod script;

@@ -6,17 +6,17 @@ use Rattle.std.proofs.lemmas.List.{append_assoc}
 use Rattle.std.proofs.lemmas.List.Splits.{slice_split-cons_yes}
 use Rattle.std.proofs.Math.Bool.{and-false}
 use Rattle.std.proofs.lemmas.Bool.{eq-eqb, not-true}
-use Rattle.infer_formats.specs.Relation.{Relation, class_id, directory_tag, first_entry_ends_in, first_entry_has_extra, first_entry_is, of_text, program, relation_listed, root, root_with, text_first, text_first_with}
+use Rattle.infer_formats.specs.Relation.{Relation, class_id, directory_tag, first_entry_ends_in, first_entry_has_extra, first_entry_is, first_key, first_key_with, of_text, program, relation_listed, root, root_with, text_first, text_first_with, text_first_with_all}
 use Rattle.infer_formats.specs.declared.relation.Relation as relations
-use Rattle.infer_notation.specs.Described.{AreBytes, Asks, AsksEach, AsksFor, Describes, IsGroup, IsName, IsNameIn, IsParted, NamesRelation, a_text, a_name, a_program, a_beginning, a_relation, a_tag, a_text_behind, a_text_within, an_element, an_end, an_extra, an_id, last, nothing, other, programs}
-use Rattle.infer_notation.specs.Relations.{alone, beginning_of, directory_of, ending_entry, entry_of, extra_field, id_of, is_word, named_entry, or_else, text_of, program_of, root_of}
+use Rattle.infer_notation.specs.Described.{AreBytes, Asks, AsksEach, AsksFor, Describes, IsGroup, IsName, IsNameIn, IsParted, NamesRelation, a_key, a_text, a_name, a_program, a_beginning, a_relation, a_tag, a_text_behind, a_text_within, a_value, an_element, an_end, an_extra, an_id, last, nothing, other, programs, two_texts_behind}
+use Rattle.infer_notation.specs.Relations.{alone, beginning_of, directory_of, ending_entry, entry_of, extra_field, id_of, is_word, key_of, named_entry, or_else, text_of, program_of, root_of}
 use Rattle.infer_notation.specs.Tokens.{Token, set}
 use Rattle.infer_notation.specs.Words.{is_digit}
 use Rattle.infer_notation.proofs.GrammarLemmas as grammar
 use Rattle.infer_notation.proofs.GrammarLemmas.{is_derived}
 use Rattle.infer_notation.proofs.MadeLemmas.{is_made, is_read, not_blank}
 use Rattle.infer_formats.specs.declared.relation.OfText.{OfText}
-use Rattle.infer_formats.specs.declared.relation.Takes.TheVariants.{Begins, ClassId, Entry, OneText, Root, Tag}
+use Rattle.infer_formats.specs.declared.relation.Takes.TheVariants.{Begins, ClassId, Entry, FirstKey, OneText, Root, Tag}
 use Rattle.infer_notation.proofs.OptionLemmas.{bind_some, cond_given, map_some}
 use Rattle.infer_notation.proofs.RelationLemmas.{begins_not}
 
@@ -277,7 +277,20 @@ beginning_so (quoted s ∷ []) a e = let same : text_first s ≡ a = cc in subst
 beginning_so (quoted s ∷ t ∷ quoted u ∷ []) a e =
     let both = cond_some (is_word (codes "has") t) (text_first_with s u) a e in
     subst (λ v. Asks Begins (quoted s ∷ v ∷ quoted u ∷ []) a) (sym (word_is (codes "has") t both.0)) (subst (Asks Begins (quoted s ∷ bare (codes "has") ∷ quoted u ∷ [])) both.1 (a_text_behind s u))
+beginning_so (quoted s ∷ t ∷ quoted u ∷ v ∷ quoted w ∷ []) a e =
+    let both = cond_some (is_word (codes "has") t && is_word (codes "has") v) (text_first_with_all s u w []) a e in
+    let words = and_parts (is_word (codes "has") t) (is_word (codes "has") v) both.0 in
+    subst (λ x. Asks Begins (quoted s ∷ x ∷ quoted u ∷ v ∷ quoted w ∷ []) a) (sym (word_is (codes "has") t words.0))
+    (subst (λ x. Asks Begins (quoted s ∷ bare (codes "has") ∷ quoted u ∷ x ∷ quoted w ∷ []) a) (sym (word_is (codes "has") v words.1))
+    (subst (Asks Begins (quoted s ∷ bare (codes "has") ∷ quoted u ∷ bare (codes "has") ∷ quoted w ∷ [])) both.1 (two_texts_behind s u w)))
 beginning_so ts a e = absurd cc
+
+key_so : (ts : List Token) (a : Relation) → key_of ts ≡ Some a → Asks FirstKey ts a
+key_so (quoted k ∷ []) a e = let same : first_key k ≡ a = cc in subst (Asks FirstKey (quoted k ∷ [])) same (a_key k)
+key_so (quoted k ∷ t ∷ quoted v ∷ []) a e =
+    let both = cond_some (is_word (codes "is") t) (first_key_with k v) a e in
+    subst (λ u. Asks FirstKey (quoted k ∷ u ∷ quoted v ∷ []) a) (sym (word_is (codes "is") t both.0)) (subst (Asks FirstKey (quoted k ∷ bare (codes "is") ∷ quoted v ∷ [])) both.1 (a_value k v))
+key_so ts a e = absurd cc
 
 asked_so : (takes : Takes) (ts : List Token) (a : Relation) → item_of takes ts ≡ Some a → Asks takes ts a
 asked_so (Nothing r) ts a e = alone_so r ts a e
@@ -285,6 +298,7 @@ asked_so Tag ts a e = directory_so ts a e
 asked_so (OneText which) ts a e = text_so which ts a e
 asked_so Program ts a e = program_so ts a e
 asked_so Entry ts a e = entry_so ts a e
+asked_so FirstKey ts a e = key_so ts a e
 asked_so ClassId ts a e = id_so ts a e
 asked_so Root ts a e = root_so ts a e
 asked_so Begins ts a e = beginning_so ts a e
@@ -336,6 +350,7 @@ asked_for Tag ts bs e = one_so Tag ts bs e
 asked_for (OneText which) ts bs e = one_so (OneText which) ts bs e
 asked_for Program ts bs e = programs_so ts bs e
 asked_for Entry ts bs e = one_so Entry ts bs e
+asked_for FirstKey ts bs e = one_so FirstKey ts bs e
 asked_for ClassId ts bs e = one_so ClassId ts bs e
 asked_for Root ts bs e = one_so Root ts bs e
 asked_for Begins ts bs e = one_so Begins ts bs e

@@ -1,7 +1,7 @@
 -- What a text describes, as relations between its bytes, its tokens and alternatives.
 use Rattle.std.specs.Prelude.{◌≡◌, ◌+◌, ◌*◌, ◌<◌, ◌≤◌, ◌⊎◌, ℕ, false, All, IsFalse, IsTrue, List, [], ◌∷◌, ◌++◌, Some, codes, length, map}
 use Rattle.std.specs.List.{list_all}
-use Rattle.infer_formats.specs.Relation.{Relation, class_id, directory_tag, first_entry_ends_in, first_entry_has_extra, first_entry_is, names, of_text, program, relation_listed, root, root_with, text_first, text_first_with}
+use Rattle.infer_formats.specs.Relation.{Relation, class_id, directory_tag, first_entry_ends_in, first_entry_has_extra, first_entry_is, first_key, first_key_with, names, of_text, program, relation_listed, root, root_with, text_first, text_first_with, text_first_with_all}
 use Rattle.infer_formats.specs.declared.relation.Relation as relations
 use Rattle.infer_notation.specs.Alternative.{Alternative, related}
 use Rattle.infer_notation.specs.Fixed.{Asked, rest_of}
@@ -12,7 +12,7 @@ use Rattle.infer_notation.specs.Tokens.{Token, bare, is_separator, is_of, separa
 use Rattle.infer_notation.specs.Words.{byte_of, byte_with, first_passes, is_blank}
 use Rattle.infer_formats.specs.declared.relation.OfText.{OfText}
 use Rattle.infer_formats.specs.declared.relation.Takes.{Takes}
-use Rattle.infer_formats.specs.declared.relation.Takes.TheVariants.{Begins, ClassId, Entry, Nothing, OneText, Program, Root, Tag}
+use Rattle.infer_formats.specs.declared.relation.Takes.TheVariants.{Begins, ClassId, Entry, FirstKey, Nothing, OneText, Program, Root, Tag}
 use Rattle.infer_notation.specs.declared.tokens.Run.{Run}
 use Rattle.infer_notation.specs.declared.tokens.Run.TheVariants.{Bare, Quoted, Set}
 
@@ -63,6 +63,10 @@ pub data Asks : Takes → List Token → Relation → Type 0 where
   a_text_within : (name text : List ℕ) → Asks Root (bare name ∷ bare (codes "with") ∷ quoted text ∷ []) (root_with name text)
   a_beginning : (text : List ℕ) → Asks Begins (quoted text ∷ []) (text_first text)
   a_text_behind : (text other : List ℕ) → Asks Begins (quoted text ∷ bare (codes "has") ∷ quoted other ∷ []) (text_first_with text other)
+  two_texts_behind : (text one two : List ℕ)
+      → Asks Begins (quoted text ∷ bare (codes "has") ∷ quoted one ∷ bare (codes "has") ∷ quoted two ∷ []) (text_first_with_all text one two [])
+  a_key : (key : List ℕ) → Asks FirstKey (quoted key ∷ []) (first_key key)
+  a_value : (key value : List ℕ) → Asks FirstKey (quoted key ∷ bare (codes "is") ∷ quoted value ∷ []) (first_key_with key value)
 
 -- it asks for the alternatives: the relation, or programs, each by a word
 pub data AsksFor : Takes → List Token → List Alternative → Type 0 where

@@ -3,7 +3,7 @@ use Rattle.std.specs.Prelude.{◌≡◌, ◌+◌, ◌*◌, ◌↔◌, ◌==◌, 
 use Rattle.std.specs.List.{slice_split}
 use Rattle.std.specs.Str.{bytes_eq}
 use denote.Ref.{Bor}
-use Rattle.infer_formats.specs.Relation.{Relation, class_id, directory_tag, first_entry_ends_in, first_entry_has_extra, first_entry_is, names, of_text, program, relation_listed, root, root_with, text_first, text_first_with}
+use Rattle.infer_formats.specs.Relation.{Relation, class_id, directory_tag, first_entry_ends_in, first_entry_has_extra, first_entry_is, first_key, first_key_with, names, of_text, program, relation_listed, root, root_with, text_first, text_first_with, text_first_with_all}
 use Rattle.infer_notation.specs.Alternative.{Accepted, Alternative, related}
 use Rattle.infer_notation.specs.Grammar.{tokens_of}
 use Rattle.infer_notation.specs.Tokens.{Token, bare, separator, quoted, set, token_listed}
@@ -12,7 +12,7 @@ use Rattle.infer_notation.specs.declared.relations.Group.{Group}
 use Rattle.infer_formats.specs.declared.token.Token as declared
 use Rattle.infer_formats.specs.declared.relation.OfText.{OfText}
 use Rattle.infer_formats.specs.declared.relation.Takes.{Takes}
-use Rattle.infer_formats.specs.declared.relation.Takes.TheVariants.{Begins, ClassId, Entry, Nothing, OneText, Program, Root, Tag}
+use Rattle.infer_formats.specs.declared.relation.Takes.TheVariants.{Begins, ClassId, Entry, FirstKey, Nothing, OneText, Program, Root, Tag}
 
 -- what stands behind a name, and the tokens there
 abbrev pub rest_listed : Takes × Bor (List declared.Token) → Takes × List Token
@@ -136,10 +136,18 @@ root_of (bare n ∷ []) = Some (root n)
 root_of (bare n ∷ with ∷ quoted t ∷ []) = if is_word (codes "with") with then Some (root_with n t) else None
 root_of other = None
 
--- `"TEXT"` or `"TEXT" has "OTHER"`
+-- `"KEY"` or `"KEY" is "VALUE"`
+abbrev pub key_of : List Token → Option Relation
+key_of (quoted k ∷ []) = Some (first_key k)
+key_of (quoted k ∷ is ∷ quoted v ∷ []) = if is_word (codes "is") is then Some (first_key_with k v) else None
+key_of other = None
+
+-- `"TEXT"`, or `"TEXT" has "OTHER"` with one or two others
 abbrev pub beginning_of : List Token → Option Relation
 beginning_of (quoted t ∷ []) = Some (text_first t)
 beginning_of (quoted t ∷ has ∷ quoted u ∷ []) = if is_word (codes "has") has then Some (text_first_with t u) else None
+beginning_of (quoted t ∷ has ∷ quoted u ∷ also ∷ quoted v ∷ []) =
+    if is_word (codes "has") has && is_word (codes "has") also then Some (text_first_with_all t u v []) else None
 beginning_of other = None
 
 -- the relation that the tokens ask for behind a name
@@ -149,6 +157,7 @@ item_of (OneText which) ts = text_of which ts
 item_of Tag ts = directory_of ts
 item_of Program ts = program_of ts
 item_of Entry ts = entry_of ts
+item_of FirstKey ts = key_of ts
 item_of ClassId ts = id_of ts
 item_of Root ts = root_of ts
 item_of Begins ts = beginning_of ts

@@ -1,7 +1,7 @@
 //! Relations that tokens ask for, behind a name.
 ghost use Rattle.std.specs.Prelude.{◌≡◌, map, option_map};
 ghost use Rattle.infer_formats.specs.Relation.{relation_listed};
-ghost use Rattle.infer_notation.specs.Relations.{alone, beginning_of, directory_of, ending_entry, entry_of, extra_field, id_of, is_word, item_of, extra_entry, named_entry, program_of, root_of, text_of, token_byte};
+ghost use Rattle.infer_notation.specs.Relations.{alone, beginning_of, directory_of, ending_entry, entry_of, extra_field, id_of, is_word, item_of, key_of, extra_entry, named_entry, program_of, root_of, text_of, token_byte};
 ghost use Rattle.infer_notation.specs.Tokens.{token_listed};
 
 use crate::names::is_word;
@@ -20,6 +20,7 @@ pub fn read_relation<'a>(takes: Takes, tokens: &[Token<'a>]) -> Option<Relation<
         Takes::Tag => directory(tokens),
         Takes::Program => program(tokens),
         Takes::Entry => entry(tokens),
+        Takes::FirstKey => key(tokens),
         Takes::ClassId => compound(tokens),
         Takes::Root => markup(tokens),
         Takes::Begins => beginning(tokens),
@@ -151,7 +152,24 @@ fn markup<'a>(tokens: &[Token<'a>]) -> Option<Relation<'a>>
     }
 }
 
-/// `"TEXT"` or `"TEXT" has "OTHER"`.
+/// `"KEY"` or `"KEY" is "VALUE"`.
+fn key<'a>(tokens: &[Token<'a>]) -> Option<Relation<'a>>
+    ensures { option_map relation_listed result ≡ key_of (map token_listed tokens.now) }
+{
+    match tokens {
+        [Quoted(key)] => Some(Relation::FirstKey(key)),
+        [Quoted(key), is, Quoted(value)] => {
+            if is_word(*is, b"is") {
+                Some(Relation::FirstKeyWith(key, value))
+            } else {
+                None
+            }
+        }
+        _ => None,
+    }
+}
+
+/// `"TEXT"`, or `"TEXT" has "OTHER"` with one or two others.
 fn beginning<'a>(tokens: &[Token<'a>]) -> Option<Relation<'a>>
     ensures { option_map relation_listed result ≡ beginning_of (map token_listed tokens.now) }
 {
@@ -160,6 +178,13 @@ fn beginning<'a>(tokens: &[Token<'a>]) -> Option<Relation<'a>>
         [Quoted(text), has, Quoted(other)] => {
             if is_word(*has, b"has") {
                 Some(Relation::TextFirstWith(text, other))
+            } else {
+                None
+            }
+        }
+        [Quoted(text), has, Quoted(other), also, Quoted(last)] => {
+            if is_word(*has, b"has") && is_word(*also, b"has") {
+                Some(Relation::TextFirstWithAll(text, other, last, b""))
             } else {
                 None
             }

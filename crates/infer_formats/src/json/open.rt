@@ -24,7 +24,7 @@ pub fn may_become_json_lines(buf: &[u8]) -> bool
 }
 
 /// Whether a bracket stands behind the byte order mark, if there is one, and white space, or `buf` ends before one does.
-fn may_reach_bracket(buf: &[u8]) -> bool
+pub(super) fn may_reach_bracket(buf: &[u8]) -> bool
     ensures { MayBecome (UpToMark BeginsBehindBlanks) buf.now → IsTrue result }
 {
     match past_blanks(past_mark(buf)) {

@@ -1,4 +1,4 @@
-use crate::begins::{begins, begins_and_has, may_begin};
+use crate::begins::{begins, begins_and_has, begins_and_has_all, may_begin};
 
 // By hand. A mark that is cut may go on.
 #[test]
@@ -34,4 +34,24 @@ fn what_follows(rt: HostRuntime) {
     for (buf, expected) in cases {
         assert_eq!(rt; begins_and_has(buf, b"solid", b"facet normal "), expected);
     }
+}
+
+#[test]
+fn all_that_follows(rt: HostRuntime) {
+    let cases: [(&[u8], bool); 7] = [
+        (b"#\nv 1\nvn 2\nf 3", true),
+        (b"\xEF\xBB\xBF#\nv \nvn \nf ", true),
+        (b"#\nf 3\nvn 2\nv 1", true),
+        (b"#\nv 1\nvn 2\n", false),
+        (b"#\nvn 2\nf 3", false),
+        (b"#\nv 1\nf 3", false),
+        (b"\nv 1\nvn 2\nf 3", false),
+    ];
+    for (buf, expected) in cases {
+        assert_eq!(rt;
+            begins_and_has_all(buf, b"#", b"\nv ", b"\nvn ", b"\nf "),
+            expected
+        );
+    }
+    assert!(rt; begins_and_has_all(b"#\nv \nvn ", b"#", b"\nv ", b"\nvn ", b""));
 }

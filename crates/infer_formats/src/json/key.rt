@@ -1,0 +1,88 @@
+//! JSON objects by their first key.
+ghost use Rattle.std.specs.Prelude.{◌≡◌, ◌↔◌, ◌∷◌, ◌++◌, [], ℕ, IsTrue, List, MatchOption};
+ghost use Rattle.infer_deep.specs.Signatures.{MayBecome};
+ghost use Rattle.infer_formats.specs.Json.{IsBlank};
+ghost use Rattle.infer_formats.specs.FirstKey.{BeginsByKey, HasFirstKey, HasFirstKeyWith, StandsNext, in_quotes};
+
+use super::lines::past_blanks;
+use super::open::may_reach_bracket;
+use super::past_mark;
+
+/// An object begins the buffer, whose first key is this.
+#[inline(never)]
+pub fn has_first_key(buf: &[u8], key: &[u8]) -> bool
+    ensures { IsTrue result ↔ HasFirstKey key.now buf.now }
+{
+    past_key(past_mark(buf), key).is_some()
+}
+
+/// And its value is this text.
+#[inline(never)]
+pub fn has_first_key_with(buf: &[u8], key: &[u8], value: &[u8]) -> bool
+    ensures { IsTrue result ↔ HasFirstKeyWith key.now value.now buf.now }
+{
+    match past_key(past_mark(buf), key) {
+        Some(rest) => past_quoted(rest, value).is_some(),
+        None => false,
+    }
+}
+
+/// Whether some bytes after `buf`, or none, may make it have the key. What stands behind the first bracket is not asked.
+pub fn may_have_first_key(buf: &[u8], key: &[u8]) -> bool
+    ensures { MayBecome (HasFirstKey key.now) buf.now → IsTrue result }
+{
+    may_reach_bracket(buf)
+}
+
+/// Whether some bytes after `buf`, or none, may make it have the key with the value. What stands behind the first bracket is
+/// not asked.
+pub fn may_have_first_key_with(buf: &[u8], key: &[u8], value: &[u8]) -> bool
+    ensures { MayBecome (HasFirstKeyWith key.now value.now) buf.now → IsTrue result }
+{
+    may_reach_bracket(buf)
+}
+
+/// What stands behind the colon of the first key of an object.
+fn past_key<'b>(buf: &'b [u8], key: &[u8]) -> Option<&'b [u8]>
+    ensures { MatchOption result ((left : List ℕ) → ¬ BeginsByKey key.now buf.now left)
+        (λ rest. (left : List ℕ) → BeginsByKey key.now buf.now left ↔ (left ≡ rest.now)) }
+{
+    let inside = past_byte(buf, b'{')?;
+    let behind = past_quoted(inside, key)?;
+    past_byte(behind, b':')
+}
+
+/// What stands behind the byte, which white space may precede.
+fn past_byte(buf: &[u8], byte: u8) -> Option<&[u8]>
+    requires { ¬ IsBlank byte }
+    ensures { MatchOption result ((left : List ℕ) → ¬ StandsNext (byte ∷ []) buf.now left)
+        (λ rest. (left : List ℕ) → StandsNext (byte ∷ []) buf.now left ↔ (left ≡ rest.now)) }
+{
+    match past_blanks(buf) {
+        [first, rest @ ..] => { if *first == byte { Some(rest) } else { None } }
+        [] => None,
+    }
+}
+
+/// What stands behind the text in quotes, which white space may precede.
+#[tactic(auto, using(crate::proofs::FirstKeyLemmas::none_quoted))]
+fn past_quoted<'b>(buf: &'b [u8], text: &[u8]) -> Option<&'b [u8]>
+    ensures { MatchOption result ((left : List ℕ) → ¬ StandsNext (in_quotes text.now) buf.now left)
+        (λ rest. (left : List ℕ) → StandsNext (in_quotes text.now) buf.now left ↔ (left ≡ rest.now)) }
+{
+    match past_byte(buf, b'"') {
+        Some(inside) => past_closing(inside, text),
+        None => None,
+    }
+}
+
+/// What stands behind the text and a quote, which stand first.
+fn past_closing<'b>(buf: &'b [u8], text: &[u8]) -> Option<&'b [u8]>
+    ensures { MatchOption result ((left : List ℕ) → ¬ (buf.now ≡ text.now ++ 0x22 ∷ left))
+        (λ rest. buf.now ≡ text.now ++ 0x22 ∷ rest.now) }
+{
+    match buf.strip_prefix(text) {
+        Some(rest) => rest.strip_prefix(b"\""),
+        None => None,
+    }
+}
