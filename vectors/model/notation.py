@@ -236,6 +236,19 @@ def begins(buf, text):
     return buf.startswith(text) or buf.startswith(b"\xef\xbb\xbf" + text)
 
 
+def is_behind(buf, *texts):
+    """Whether the texts stand first, one behind the other, with white space before each."""
+    blank = rb"[ \t\n\r]*"
+    return re.match(rb"(?:\xEF\xBB\xBF)?" + b"".join(blank + re.escape(it) for it in texts), buf) is not None
+
+
+def has_header(buf, text, far, low, high):
+    """Whether that stands at the place that the header of DOS names, and so far from there a number between these two."""
+    place = int.from_bytes(buf[60:64], "little")
+    number = buf[place + far : place + far + 2]
+    return len(buf) >= 64 and buf[:2] == b"MZ" and buf[place:].startswith(text) and len(number) == 2 and low <= int.from_bytes(number, "little") <= high
+
+
 def is_java(buf):
     """The first entry is in META-INF/: the manifest, or the folder and the manifest somewhere, or it has the extra field."""
     name = first_name(buf)[1]
@@ -267,7 +280,9 @@ RELATIONS = [
     ('behind an ID3 tag :', QUOTED, lambda buf, words: behind_tag(buf).startswith(words[0][1:-1])),
     ('entry :', QUOTED, lambda buf, words: has_entry(buf, words[0][1:-1])),
     ('begins :', QUOTED, lambda buf, words: begins(buf, words[0][1:-1])),
-    ('begins :', QUOTED + rb"\0has\0" + QUOTED, lambda buf, words: begins(buf, words[0][1:-1]) and words[2][1:-1] in buf),
+    ('begins :', QUOTED + rb"(?:\0has\0" + QUOTED + rb"){1,2}", lambda buf, words: begins(buf, words[0][1:-1]) and all(it[1:-1] in buf for it in words[2::2])),
+    ('first key :', QUOTED, lambda buf, words: is_behind(buf, b"{", words[0], b":")),
+    ('first key :', QUOTED + rb"\0is\0" + QUOTED, lambda buf, words: is_behind(buf, b"{", words[0], b":", words[2])),
     ('program :', rb"%s(?:\0%s)*" % (WORD, WORD), lambda buf, words: program(buf) in words),
     ('first entry :', rb"is\0" + QUOTED, lambda buf, words: first_name(buf)[1] == words[1][1:-1]),
     ('first entry :', rb"ends\0in\0" + QUOTED, lambda buf, words: first_name(buf)[1] is not None and first_name(buf)[1].endswith(words[2][1:-1])),
@@ -350,6 +365,32 @@ def row(line):
     class_name = word(2, "|".join(CLASSES).encode(), "unknown class")
     parent = word(3, b"|".join(re.escape(it.encode()) for it in [*PARENTS, "-"]), "no such parent")
     return Row(class_name, mime_type, extension, parent, signature(line, words[3].end()))
+
+
+def unescaped(said):
+    """The bytes of a text, in which some are told by their digits."""
+    return re.sub(rb"\\x([0-9A-F]{2})", lambda it: bytes.fromhex(it[1].decode()), said.encode())
+
+
+def unwritten(line):
+    """The row of a remark of further/types.txt that begins with `#? `, which no text of types can write."""
+    extension, mime_type, class_name, parent, said = line.removeprefix("#? ").split(maxsplit=4)
+    name, _, said = said.partition(": ")
+    found = []
+    for one in said.split(" or "):
+        texts = [unescaped(it) for it in re.findall(r'"([^"]*)"', one)]
+        if name == "header":
+            found.append((lambda buf, words: has_header(buf, *words), texts + [int(it) for it in one.split()[-3:]]))
+        elif name == "begins":
+            found.append((lambda buf, words: begins(buf, words[0]) and all(it in buf for it in words[1:]), texts))
+        else:
+            raise Mistake("unknown relation", 1)
+    return Row(class_name, mime_type, extension, parent, found)
+
+
+def row_of(line):
+    """The row of a line of further/types.txt, be it a remark or not."""
+    return unwritten(line) if line.startswith("#? ") else row(line.encode())
 
 
 def rows(text):

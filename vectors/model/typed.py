@@ -85,7 +85,7 @@ def name(rng):
 def relation(rng):
     """The words of a relation, a buffer that fits it, and the parent below which that is asked. Of what the model does not
     decide the buffer is none that is asked."""
-    names, kind = [rng.choice(["flow", "flows", "svg", "or", "with", "x.y", "with3"]) for _ in range(rng.choice([1, 1, 2, 3]))], rng.randrange(7)
+    names, kind = [rng.choice(["flow", "flows", "svg", "or", "with", "x.y", "with3"]) for _ in range(rng.choice([1, 1, 2, 3]))], rng.randrange(8)
     one = rng.choice(names).encode()
     if kind == 0:
         texts = [rng.choice([[], [], ["with", '"urn:a"'], ["with", '"b"']]) for _ in names]
@@ -106,10 +106,15 @@ def relation(rng):
         buf = b"PK\3\4" + bytes(rng.choice([0, 3, 30])) + rng.choice([b"", b"PK", b"PK\3\4"]) + head + one
         return ["entry", ":", *joined([[f'"{name}"'] for name in names])], buf[: len(buf) - rng.choice([0, 0, 0, 1])], "zip"
     if kind == 4:
-        said = [rng.choice([[f'"{name}"'], [f'"{name}"', "has", '"urn:a"']]) for name in names]
+        said = [rng.choice([[f'"{name}"'], [f'"{name}"', "has", '"urn:a"'], [f'"{name}"', "has", '"urn:"', "has", '"a"']]) for name in names]
         return ["begins", ":", *joined(said)], rng.choice([b"", b"\xef\xbb\xbf", b"\xef\xbb"]) + one + rng.choice([b"", b" urn:a", b" urn:"]), "-"
     if kind == 5:
         return ["text"], rng.choice([b"abc", b"a\0", b"\xff\xfe\0", b"a\x0b", b"a\x1b"]), "-"
+    if kind == 6:
+        said = [rng.choice([[f'"{name}"'], [f'"{name}"', "is", '"urn:a"']]) for name in names]
+        parts = [rng.choice([b"{", b"{", b"{", b"["]), b'"%s"' % one, b":", rng.choice([b'"urn:a"', b'"urn:a', b"1", b""])]
+        blanks = [rng.choice([b"", b"", b" ", b"\n\t", b"\r\n", b"\x0b"]) for _ in parts]
+        return ["first", "key", ":", *joined(said)], rng.choice([b"", b"\xef\xbb\xbf"]) + b"".join(map(bytes.__add__, blanks, parts)), "-"
     ids = [[pair(rng, rng.randrange(256)) for _ in range(16)] for _ in names]
     said = [
         "shared object", 'chunk "acTL" before "IDAT"', "first cue of SubRip", "dBASE header", "Java archive", "tar checksum", "JSON lines", "JSON",
@@ -273,15 +278,18 @@ def decoded(tokens):
 def wrong_further(program):
     """How many buffers the text of the further rows answers otherwise than the rows do. Each type of the text has another
     extension here, which tells its answers from those of the library's own rows."""
-    names, text = [], b""
+    names, text, unwritten = [], b"", set()
     for it in lines_of("types.txt"):
-        if not it.startswith("#"):
-            extension, _, class_name, parent = it.split()[:4]
-            text += b"own-" + it.encode() + b"\n"
+        if not it.startswith("#") or it.startswith("#? "):
+            extension, _, class_name, parent = it.removeprefix("#? ").split()[:4]
             names.append(f"{class_name.capitalize()}/{extension}{'' if parent == '-' else f' below {parent}'}")
+            if it.startswith("#"):
+                unwritten.add(names[-1])
+            else:
+                text += b"own-" + it.encode() + b"\n"
     rows = ["{0}/{2}{3}".format(*it[:3], "" if it[3] == "none" else f" below {it[3]}") for it in (line.split("\t") for line in lines_of("rows.tsv"))]
     wrong = [f"its rows are others than those of rows.tsv: {[*{*rows} ^ {*names}][:3]}"] * (names != rows)
-    vectors = [line.split("\t") for line in lines_of("vectors.tsv")]
+    vectors = [it for it in (line.split("\t") for line in lines_of("vectors.tsv")) if it[2] not in unwritten]
     for (how, _, row, shown), said in zip(vectors, asked(program, [(text, decoded(it[1])) for it in vectors])):
         is_own = said[2:3] != said[6:7]
         if len(said) == 3 or is_own != (row != "-") or f"{said[1]} {said[2].removeprefix('own-')}".strip() != shown.replace("unknown", ""):

@@ -103,8 +103,24 @@ def never_behind_tag(buf: bytes, said: str) -> bool:
 
 def never_begun(buf: bytes, said: str) -> bool:
     """It begins otherwise. What it has to have beside may always follow."""
-    text = said[1 : said.index('"', 1)].encode()
+    text = notation.unescaped(said[1 : said.index('"', 1)])
     return not agrees(buf, text, 0) and not (agrees(buf, MARKS[0], 0) and agrees(buf, text, 3))
+
+
+def never_headed(buf: bytes, said: str) -> bool:
+    """No header of DOS stands first, or another one later, or another number in that."""
+    if not agrees(buf, b"MZ", 0):
+        return True
+    if len(buf) < 64:
+        return False
+    text, (far, low, high) = notation.unescaped(said[1 : said.index('"', 1)]), map(int, said.split(" ")[-3:])
+    place = little(buf, 60, 4)
+    return not agrees(buf, text, place) or len(buf) >= place + far + 2 and not low <= little(buf, place + far, 2) <= high
+
+
+def never_keyed(buf: bytes, _: str) -> bool:
+    """What stands first is no object."""
+    return not agrees(buf, b"\xEF\xBB\xBF", 0) and re.match(rb"[ \t\r\n]*[^ \t\r\n\[{]", buf) is not None
 
 
 def never_animated(buf: bytes, _: str) -> bool:
@@ -168,7 +184,7 @@ def never_summed(buf: bytes, _: str) -> bool:
 # What each relation is called in the notation, and what rules an alternative of it out.
 NEVER: dict[str, Callable[[bytes, str], bool]] = {
     "shared object": never_shared, "first entry:": never_named, "package with:": never_packed, "Java archive": never_java, "first directory has tag": never_tagged,
-    'chunk "acTL" before "IDAT"': never_animated, "behind an ID3 tag:": never_behind_tag, "class id:": never_class, "entry:": lambda buf, said: False, "begins:": never_begun, "JSON lines": never_json,
+    'chunk "acTL" before "IDAT"': never_animated, "behind an ID3 tag:": never_behind_tag, "class id:": never_class, "entry:": lambda buf, said: False, "begins:": never_begun, "header:": never_headed, "first key:": never_keyed, "JSON lines": never_json,
     "JSON": never_json, "root:": never_rooted, "program:": never_run, "text": never_text, "first cue of SubRip": never_subtitles, "dBASE header": never_dbase, "tar checksum": never_summed,
 }
 
@@ -177,9 +193,9 @@ class Further:
     """A further row, by its line of `further/types.txt`."""
 
     def __init__(self, line: str):
-        self.extension, _, _, self.parent, self.signature = line.split(maxsplit=4)
+        self.extension, _, _, self.parent, self.signature = line.removeprefix("#? ").split(maxsplit=4)
         self.relation = next((it for it in NEVER if self.signature.startswith(it)), None)
-        self.alternatives = notation.rows(line.encode())[0].alternatives
+        self.alternatives = notation.row_of(line).alternatives
 
     def never(self, buf: bytes) -> bool:
         """Whether a rule says that no bytes after the buffer make this row accept."""
@@ -222,7 +238,7 @@ def asked(program: str, bufs: list[bytes]) -> list[tuple[bool, int]]:
 
 def main(program: str) -> int:
     with open(os.path.join(DATA, "further/types.txt"), encoding="utf-8") as file:
-        rows = [Further(line) for line in file.read().splitlines() if line and not line.startswith("#")]
+        rows = [Further(line) for line in file.read().splitlines() if line and (not line.startswith("#") or line.startswith("#? "))]
     wholes = [decode(tokens) for _, tokens, _, _ in fields_of("further/vectors.tsv")]
     cuts = [(cut, whole) for whole in wholes for cut in cuts_of(whole)]
     told, answers = asked(program, [cut for cut, _ in cuts]), dict(zip(wholes, asked(program, wholes)))
