@@ -1,20 +1,12 @@
 -- The table's length, that no row asks for more than its least length, and that it can be told what more bytes bring each.
 use Rattle.infer_more.proofs.Common.{◌≡◌, IsTrue, length, refl, list_all, is_row_sound, is_row_closed, archives, code, further, headers, images, late, markup, media, packages, records, disks, elements, games, kinds, office, others, packed, papers, pictures, rasters, roots, sounds, stores, scripts, documents, secrets, openings, prefaces, bitmaps, shapes, chunks, tunes, squeezed, bundles, volumes, assorted, databases, science, measures, prints, compiled, keyrings, consoles, shallow, schemas, dialects, notations, unheaded, mended, remarks, captions, headlines, inner, deeper, farther, buried, texts, FURTHER_COUNT}
 use Rattle.std.proofs.Common.{◌*◌}
-use Rattle.infer_more.proofs.Common.{◌+◌, ◌<◌, ℕ, Bool, zero, suc, arith, subst, NoneRefused, passed}
-use Rattle.infer_more.proofs.NamedLemmas.{all_pass}
+use Rattle.infer_more.proofs.Common.{◌+◌, ◌<◌, ℕ, Bool, zero, suc, arith, subst, get_or, Further, NoneRefused, passed}
+use Rattle.std.proofs.lemmas.List.Sums.{list_all-from_AllPass}
 
 pub length-further : length further ≡ FURTHER_COUNT
 unfolding further archives code headers images late markup media packages records disks elements games kinds office others packed papers pictures rasters roots sounds stores scripts documents secrets openings prefaces bitmaps shapes chunks tunes squeezed bundles volumes assorted databases science measures prints compiled keyrings consoles shallow schemas dialects notations unheaded mended remarks captions headlines inner deeper farther buried texts
 length-further = refl
-
-pub all_closed : IsTrue (list_all is_row_closed further)
-unfolding further archives code headers images late markup media packages records disks elements games kinds office others packed papers pictures rasters roots sounds stores scripts documents secrets openings prefaces bitmaps shapes chunks tunes squeezed bundles volumes assorted databases science measures prints compiled keyrings consoles shallow schemas dialects notations unheaded mended remarks captions headlines inner deeper farther buried texts
-all_closed = all_pass is_row_closed 0 further refl
-
-pub all_sound : IsTrue (list_all is_row_sound further)
-unfolding further archives code headers images late markup media packages records disks elements games kinds office others packed papers pictures rasters roots sounds stores scripts documents secrets openings prefaces bitmaps shapes chunks tunes squeezed bundles volumes assorted databases science measures prints compiled keyrings consoles shallow schemas dialects notations unheaded mended remarks captions headlines inner deeper farther buried texts
-all_sound = all_pass is_row_sound 0 further refl
 
 -- none of m steps of sixteen rows is refused, and none of k steps behind them
 none_behind : (test : ℕ → Bool) (m k s : ℕ) → NoneRefused test FURTHER_COUNT s m → NoneRefused test FURTHER_COUNT (s + 16 * m) k
@@ -41,3 +33,27 @@ each_row test none i lt =
     let upper = none_behind test 16 16 512 none.2 none.3 in
     let all = none_behind test 16 48 0 none.0 (none_behind test 16 32 256 none.1 upper) in
     passed test FURTHER_COUNT 64 all (omega arith) i (omega arith)
+
+-- a test of every row, whose refusal shows the numbers of the rows that fail, counted from 0
+pub all_numbered : (test : Further → Bool) → ((d : Further) → NoRowFails (λ i. test (get_or further i d))) → IsTrue (list_all test further)
+all_numbered test none = list_all-from_AllPass test further (λ i d lt. each_row (λ j. test (get_or further j d)) (none d) i lt)
+
+pub all_closed : IsTrue (list_all is_row_closed further)
+unfolding further archives code headers images late markup media packages records disks elements games kinds office others packed papers pictures rasters roots sounds stores scripts documents secrets openings prefaces bitmaps shapes chunks tunes squeezed bundles volumes assorted databases science measures prints compiled keyrings consoles shallow schemas dialects notations unheaded mended remarks captions headlines inner deeper farther buried texts
+all_closed =
+    all_numbered is_row_closed (λ d. (
+      (refl, (refl, (refl, (refl, (refl, (refl, (refl, (refl, (refl, (refl, (refl, (refl, (refl, (refl, (refl, (refl, tt)))))))))))))))),
+      (refl, (refl, (refl, (refl, (refl, (refl, (refl, (refl, (refl, (refl, (refl, (refl, (refl, (refl, (refl, (refl, tt)))))))))))))))),
+      (refl, (refl, (refl, (refl, (refl, (refl, (refl, (refl, (refl, (refl, (refl, (refl, (refl, (refl, (refl, (refl, tt)))))))))))))))),
+      (refl, (refl, (refl, (refl, (refl, (refl, (refl, (refl, (refl, (refl, (refl, (refl, (refl, (refl, (refl, (refl, tt)))))))))))))))),
+    ))
+
+pub all_sound : IsTrue (list_all is_row_sound further)
+unfolding further archives code headers images late markup media packages records disks elements games kinds office others packed papers pictures rasters roots sounds stores scripts documents secrets openings prefaces bitmaps shapes chunks tunes squeezed bundles volumes assorted databases science measures prints compiled keyrings consoles shallow schemas dialects notations unheaded mended remarks captions headlines inner deeper farther buried texts
+all_sound =
+    all_numbered is_row_sound (λ d. (
+      (refl, (refl, (refl, (refl, (refl, (refl, (refl, (refl, (refl, (refl, (refl, (refl, (refl, (refl, (refl, (refl, tt)))))))))))))))),
+      (refl, (refl, (refl, (refl, (refl, (refl, (refl, (refl, (refl, (refl, (refl, (refl, (refl, (refl, (refl, (refl, tt)))))))))))))))),
+      (refl, (refl, (refl, (refl, (refl, (refl, (refl, (refl, (refl, (refl, (refl, (refl, (refl, (refl, (refl, (refl, tt)))))))))))))))),
+      (refl, (refl, (refl, (refl, (refl, (refl, (refl, (refl, (refl, (refl, (refl, (refl, (refl, (refl, (refl, (refl, tt)))))))))))))))),
+    ))
