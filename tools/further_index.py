@@ -267,10 +267,12 @@ NAMED = {
     "FirstEntryHasExtra": lambda extra: counted(28),
     "TextFirst": begun,
     "TextFirstWith": begun,
+    "TextFirstWithAll": begun,
     "PackageWith": lambda folder: [named(it) for it in (b"[Content_Types].xml", b"_rels/", b"docProps/", folder)],
 }
 MARKUP = [{0: set(b"\t\n\r <")}, {0: {0xEF}, 1: {0xBB}, 2: {0xBF}}]
 JSON = [{0: set(b"\t\n\r [{")}, {0: {0xEF}, 1: {0xBB}, 2: {0xBF}}]
+OBJECT = [{0: set(b"\t\n\r {")}, {0: {0xEF}, 1: {0xBB}, 2: {0xBF}}]
 OUTLINES = {
     "HasEntry": [ZIP],
     "JavaArchive": [named(b"META-INF/")],
@@ -286,6 +288,8 @@ OUTLINES = {
     "RootWith": MARKUP,
     "JsonLines": JSON,
     "JsonText": JSON,
+    "FirstKey": OBJECT,
+    "FirstKeyWith": OBJECT,
 }
 
 

@@ -5,7 +5,7 @@ from further_index import TEXT, TEXT_OF_BYTES, byte_of, bytes_of
 from texts import kept, text_of
 
 HEAD = """# The further types of the library, as a text of types, in the order in which they are asked. tools/tables writes it from
-# the rows.
+# the rows. A remark that begins with `#?` is a row that no text of types can write: in its texts \\x0A is a byte.
 """
 # What each alternative is called that takes something other than a text, and what it takes.
 NAMES = {
@@ -17,7 +17,11 @@ NAMES = {
     "DirectoryTag": lambda it: f"first directory has tag {int(it, 0):04X}",
     "Program": lambda it: f"program: {bytes_of(it).decode()}",
     "TextFirst": lambda it: f"begins: {quoted(it)}",
-    "TextFirstWith": lambda it: "begins: {} has {}".format(*map(quoted, texts(it))),
+    "TextFirstWith": lambda it: "begins: " + " has ".join(map(quoted, texts(it))),
+    "TextFirstWithAll": lambda it: "begins: " + " has ".join(quoted(text) for text in texts(it) if bytes_of(text)),
+    "Header": lambda it: "header: {} {} {} {}".format(quoted(texts(it)[0]), *(int(number, 0) for number in it.split(", ")[-3:])),
+    "FirstKey": lambda it: f"first key: {quoted(it)}",
+    "FirstKeyWith": lambda it: "first key: {} is {}".format(*map(quoted, texts(it))),
     "Root": lambda it: f"root: {bytes_of(it).decode()}",
     "RootWith": lambda it: "root: {} with {}".format(bytes_of(texts(it)[0]).decode(), quoted(texts(it)[1])),
 }
@@ -49,7 +53,15 @@ def spaced(literal):
 
 
 def quoted(literal):
-    return f'"{bytes_of(literal).decode("ascii")}"'
+    """A text between quotes. Bytes that the notation cannot write there are told by their digits."""
+    said = bytes_of(literal)
+    digits = not re.fullmatch(rb"[ !#-~]*", said)
+    return '"' + "".join(f"\\x{it:02X}" if it in b'"' or not 0x20 <= it < 0x7F or digits and it in b"\\" else chr(it) for it in said) + '"'
+
+
+def is_written(alternatives):
+    """Whether the notation can write the alternatives, as it can but for some bytes, more texts, and later headers."""
+    return not any(re.match(r"begins: .*\\x[0-9A-F]{2}|begins: .* has .* has .* has |header: ", it) for it in alternatives)
 
 
 def written(said):
@@ -96,7 +108,7 @@ def line(row, parents):
     once = "" if kind.isdigit() else kind + colon
     said = first + "".join((" " if kind == "program" else " or ") + it.removeprefix(once) for it in others)
     words = [f"{row.extension:<11}", f"{row.mime_type:<36}", f"{row.group.lower():<7}", f"{parents[row.parent] if row.parent else '-':<6}", said]
-    return "  ".join(words) + "\n"
+    return ("" if is_written([first, *others]) else "#? ") + "  ".join(words) + "\n"
 
 
 def text(rows, parents):

@@ -20,16 +20,18 @@ COPIES = [b"~", b".bak", b".orig", b".old"]
 MAKERS = [b"makefile", b"gnumakefile", b"dockerfile", b"containerfile"]
 WHITE = b"\t\n\x0c\r "
 TEXTS = (
-    "3dmodel abook abw afm age amf application/x-pem-key asc asx asxref atom aup awk bdf bookmarks busconfig catmeta ccmx "
-    "clj cloudcfg cmap cml cms csh csr dae dart dbk dbusintro dep5 dia diashape dif dtsi eps escript execline exs fb2 fish "
-    "fl flatpakref flatpakrepo fodg fodp fods fodt fontconfig gcurve gff3 ggr gitpatch gjs glade gml gnucash gnumeric "
-    "gnuplot gpl gpx gresource groovy gschema gtkbuilder gx hqx hs html http ics igs imy info iptables it87 jad jarmf jl jnlp "
-    "js json kml ldml lingts lisp ll lua lyx m m3u8 m4u meta4 metainfo metalink microdvd mif mimeinfo minisig mk ml mml "
-    "modulefile mol2 mpd mpl2 msbuild mscx mup musicxml ncx ndjson nex nft nsc nzb openssh opf opml osm owx p7c param "
-    "pdbmol pem pfa pgp php pkginfo pkgmeta pl plist pom ppd ppk ps ps1 pubkey puml py pysu qml qti r raku raml rb rdf rkt "
-    "rng rq rss rtf sam sami sbml scala scc sch scm sdp sed sfd sgf sh sig sitemap sla smil srt srx ssa ssh2pub sshpub "
-    "sshsig stp subviewer svg t2t tcl tei texi texlua tgif tres tscn ttml ttx ui usda uu vault vcf vcfg vnt vtt wordml wreg "
-    "wsdl x3d xbel xhtml xib xkbrules xliff xmcd xmi xml xmp xpm xpm2 xsd xslt xspf yaml"
+    "3dmodel abook abw afm age agekey amf application/x-pem-key asc asx asxref atom aup awk bdf bib bookmarks busconfig "
+    "catmeta ccmx cdx clj cloudcfg cmap cml cms csh csr cue dae dart dbk dbusintro dbusservice dep5 desktop dia diashape dif "
+    "diff docker dsc dtsi dxf elisp eml eps escript execline exs fb2 fish fl flatpakref flatpakrepo fodg fodp fods fodt "
+    "fontconfig gcurve geojson gff3 ggr gitpatch gjs glade gltf gml gnucash gnumeric gnuplot gpgsec gpl gpx gresource groovy "
+    "gschema gtkbuilder gv gx hqx hs html http icontheme ics igs imy inf info iptables ipynb it87 jad jarmf jl jnlp js json "
+    "kml la ldif ldml lingts lisp ll lua ly lyx m m3u8 m4u mbox meta4 metainfo metalink microdvd mif mimeinfo minisig mk ml "
+    "mml model/obj modulefile mol2 mpd mpl2 mpsub msbuild mscx mtl mup musicxml ncx ndjson news nex nft nsc nzb openssh opf "
+    "opml osm owx p7c param pc pcd pdbmol pem pfa pgp php pkginfo pkgmeta pl plist po pom ppd ppk ps ps1 pubkey puml py pysu "
+    "qml qti r raku raml rb rdf rkt rng rq rss rtf sam sami sbml scala scc sch scm sdp sed sfd sgf sh sig sitemap sla smil "
+    "spec srt srx ssa ssh2pub sshpub sshsig stp subviewer svg t2t tcl tei tex texi texlua tgif toc tres tscn ttl ttml ttx ui "
+    "unit usda uu vault vcf vcfg vnt vpnpcf vtt wordml wreg wsdl x3d xbel xbm xhtml xib xkbrules xliff xmcd xmi xml xmp xpm "
+    "xpm2 xsd xslt xspf yaml"
 ).split()
 
 

@@ -96,7 +96,7 @@ pub use Rattle.infer_more.specs.Samples.{parts_of, written}
 unfoldable pub use Rattle.infer_more.specs.Table.{archives, code, further, headers, images, late, markup, media}
 unfoldable pub use Rattle.infer_more.specs.Table.{packages, records}
 unfoldable pub use Rattle.infer_more.specs.Table.{disks, elements, games, kinds, office, others, packed}
-unfoldable pub use Rattle.infer_more.specs.Table.{papers, pictures, rasters, roots, sounds, stores, scripts, documents, secrets, openings, prefaces, bitmaps, shapes, chunks, tunes, squeezed, bundles, volumes, assorted, databases, science, measures, prints, compiled, keyrings, consoles, shallow, schemas, dialects, notations, unheaded, mended, remarks, captions, headlines, inner, deeper, farther, buried, texts}
+unfoldable pub use Rattle.infer_more.specs.Table.{papers, pictures, rasters, roots, sounds, stores, scripts, documents, secrets, openings, prefaces, bitmaps, shapes, chunks, tunes, squeezed, bundles, volumes, assorted, databases, science, measures, prints, compiled, keyrings, consoles, shallow, schemas, dialects, notations, unheaded, mended, remarks, captions, headlines, inner, deeper, farther, buried, letters, settings, scores, objects, texts}
 pub use Rattle.infer_more.specs.Text.{Answers, IsFirstShown, found_shows, is_line_end, left_size, lines_of, rows_in}
 pub use Rattle.infer_more.specs.Text.{rows_left, rows_of, with_row}
 unfoldable pub use Rattle.infer_more.specs.Wider.{shown}

@@ -1,6 +1,7 @@
 -- Laws of further rows.
 use Rattle.std.proofs.lemmas.Bool.{and_parts, or_cases, or_left, not_from_false}
-use Rattle.infer_more.proofs.Common.{◌↔◌, ℕ, ◌<◌, ◌≤◌, inl, inr, true, false, IsTrue, List, [], ◌∷◌, ◌++◌, Option, None, Some, length, get_or, arith, nat_le, refl, subst, sym, ◌≡◌, zero, suc, codes, ◌⊎◌, not, slice_index, HoldsAt, list_all, list_any, cases_lt, leb-true, nat_tests, get_or_from_slice_get, slice_get_cases, OccursAt, HasBracket, HasRoot, there, Lasts, StandsByPlace, at_least, Part, any_text, accepts, fits, has_part, stands, IsFirstOf, is_white, is_settled, AllLast, IsLost, is_dark, is_filled, is_lasting, is_plain, lines, outline, Further, Accepted, Fits, binary_bytes, bytes, related, plain_text, root, root_with, json_lines, json_text, further, Widens, IsFirst, not_both, cases_Bool}
+use Rattle.infer_more.proofs.Common.{◌↔◌, ◌+◌, ℕ, ◌<◌, ◌≤◌, inl, inr, true, false, IsTrue, List, [], ◌∷◌, ◌++◌, Option, None, Some, length, get_or, arith, nat_le, refl, subst, sym, ◌≡◌, zero, suc, codes, ◌⊎◌, not, slice_index, HoldsAt, list_all, list_any, cases_lt, leb-true, nat_tests, get_or_from_slice_get, slice_get_cases, OccursAt, HasBracket, HasRoot, there, Lasts, StandsByPlace, at_least, Part, any_text, accepts, fits, has_part, stands, IsFirstOf, is_white, is_settled, AllLast, IsLost, is_dark, is_filled, is_lasting, is_plain, lines, outline, Further, Accepted, Fits, binary_bytes, bytes, related, plain_text, root, root_with, json_lines, json_text, further, Widens, IsFirst, not_both, cases_Bool}
+use Rattle.infer_formats.specs.Relation.{first_key, first_key_with}
 use Rattle.std.proofs.Common.{All, slice_get}
 use Rattle.std.proofs.lemmas.List.Elements.{All-cons, All-nil, AllWithin-from_all}
 use Rattle.std.proofs.lemmas.List.Sums.{AllPass-from_list_all}
@@ -92,6 +93,14 @@ module _ (all_lasts : AllLast) (parent : Option ℕ) (short more : List ℕ) whe
     | inr le ↦ inl le
   ]
 
+-- where a byte of the text is that is no white space
+dark_place : (t : List ℕ) → IsTrue (list_any (λ x. not (is_white x)) t) → (i : ℕ) × (i < length t) × IsTrue (not (is_white (slice_index t i)))
+dark_place [] h = absurd (cc)
+dark_place (x ∷ t) h = elim (or_cases (not (is_white x)) (list_any (λ y. not (is_white y)) t) h) [
+  | inl dark ↦ (0, omega arith, dark)
+  | inr later ↦ let (i, lt, dark) = dark_place t later in (suc i, omega arith, dark)
+]
+
 pub steady : AllLast → IsSteady
 steady all_lasts parent short more before after = steady_at all_lasts parent short more before after
 
@@ -101,8 +110,16 @@ module _ (by_place : (place : ℕ) (t buf : List ℕ) → IsTrue (stands place t
       let here = passes_part by_place (λ x. not (is_white x)) p b part h k in
       not_both (is_white (slice_index b p)) (AllWithin-from_all (λ x. IsTrue (is_white x)) b white p 0 (omega arith) here.0) here.1
 
+  -- a text with a byte that is no white space
+  refused_text : (p : ℕ) (t : List ℕ) → IsTrue (list_any (λ x. not (is_white x)) t) → IsTrue (stands p t b) → ⊥
+  refused_text p t h k =
+      let (i, lt, dark) = dark_place t h in
+      let (within, same) = (by_place p t b).0 k i lt in
+      let is = AllWithin-from_all (λ x. IsTrue (is_white x)) b white (p + i) 0 (omega arith) within in
+      not_both (is_white (slice_index b (p + i))) is (subst (λ x. IsTrue (not (is_white x))) (sym same) dark)
+
   refused_part : (part : Part) → IsTrue (is_dark_part part) → IsTrue (has_part b part) → ⊥
-  refused_part (text p t) h k = refused_at p (text p t) h k
+  refused_part (text p t) h k = refused_text p t h k
   refused_part (any_text p ts) h k = refused_at p (any_text p ts) h k
   refused_part (byte p set) h k = refused_at p (byte p set) h k
 
@@ -160,6 +177,8 @@ module _ (by_place : (place : ℕ) (t buf : List ℕ) → IsTrue (stands place t
   refused_alternative b white (related (root_with name t)) dark h = no_markup b white name (leads.root_with name t b h)
   refused_alternative b white (related json_lines) dark h = no_json b white (leads.json_lines b h).1
   refused_alternative b white (related json_text) dark h = no_json b white (leads.json b h).1
+  refused_alternative b white (related (first_key k)) dark h = no_json b white (leads.key k b h)
+  refused_alternative b white (related (first_key_with k v)) dark h = no_json b white (leads.value k v b h)
   refused_alternative b white a dark h = by_outline b white a dark h
 
   refused_signature : (b : List ℕ) → All (λ x. IsTrue (is_white x)) b → (signature : List Alternative) → IsTrue (list_all is_dark_relation signature) → ¬ Accepted signature b

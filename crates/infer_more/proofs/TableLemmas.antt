@@ -1,11 +1,11 @@
 -- The table's length, that no row asks for more than its least length, and that it can be told what more bytes bring each.
-use Rattle.infer_more.proofs.Common.{◌≡◌, IsTrue, length, refl, list_all, is_row_sound, is_row_closed, archives, code, further, headers, images, late, markup, media, packages, records, disks, elements, games, kinds, office, others, packed, papers, pictures, rasters, roots, sounds, stores, scripts, documents, secrets, openings, prefaces, bitmaps, shapes, chunks, tunes, squeezed, bundles, volumes, assorted, databases, science, measures, prints, compiled, keyrings, consoles, shallow, schemas, dialects, notations, unheaded, mended, remarks, captions, headlines, inner, deeper, farther, buried, texts, FURTHER_COUNT}
+use Rattle.infer_more.proofs.Common.{◌≡◌, IsTrue, length, refl, list_all, is_row_sound, is_row_closed, archives, code, further, headers, images, late, markup, media, packages, records, disks, elements, games, kinds, office, others, packed, papers, pictures, rasters, roots, sounds, stores, scripts, documents, secrets, openings, prefaces, bitmaps, shapes, chunks, tunes, squeezed, bundles, volumes, assorted, databases, science, measures, prints, compiled, keyrings, consoles, shallow, schemas, dialects, notations, unheaded, mended, remarks, captions, headlines, inner, deeper, farther, buried, letters, settings, scores, objects, texts, FURTHER_COUNT}
 use Rattle.std.proofs.Common.{◌*◌}
 use Rattle.infer_more.proofs.Common.{◌+◌, ◌<◌, ℕ, Bool, zero, suc, arith, subst, get_or, Further, NoneRefused, passed}
 use Rattle.std.proofs.lemmas.List.Sums.{list_all-from_AllPass}
 
 pub length-further : length further ≡ FURTHER_COUNT
-unfolding further archives code headers images late markup media packages records disks elements games kinds office others packed papers pictures rasters roots sounds stores scripts documents secrets openings prefaces bitmaps shapes chunks tunes squeezed bundles volumes assorted databases science measures prints compiled keyrings consoles shallow schemas dialects notations unheaded mended remarks captions headlines inner deeper farther buried texts
+unfolding further archives code headers images late markup media packages records disks elements games kinds office others packed papers pictures rasters roots sounds stores scripts documents secrets openings prefaces bitmaps shapes chunks tunes squeezed bundles volumes assorted databases science measures prints compiled keyrings consoles shallow schemas dialects notations unheaded mended remarks captions headlines inner deeper farther buried letters settings scores objects texts
 length-further = refl
 
 -- none of m steps of sixteen rows is refused, and none of k steps behind them
@@ -39,7 +39,7 @@ pub all_numbered : (test : Further → Bool) → ((d : Further) → NoRowFails (
 all_numbered test none = list_all-from_AllPass test further (λ i d lt. each_row (λ j. test (get_or further j d)) (none d) i lt)
 
 pub all_closed : IsTrue (list_all is_row_closed further)
-unfolding further archives code headers images late markup media packages records disks elements games kinds office others packed papers pictures rasters roots sounds stores scripts documents secrets openings prefaces bitmaps shapes chunks tunes squeezed bundles volumes assorted databases science measures prints compiled keyrings consoles shallow schemas dialects notations unheaded mended remarks captions headlines inner deeper farther buried texts
+unfolding further archives code headers images late markup media packages records disks elements games kinds office others packed papers pictures rasters roots sounds stores scripts documents secrets openings prefaces bitmaps shapes chunks tunes squeezed bundles volumes assorted databases science measures prints compiled keyrings consoles shallow schemas dialects notations unheaded mended remarks captions headlines inner deeper farther buried letters settings scores objects texts
 all_closed =
     all_numbered is_row_closed (λ d. (
       (refl, (refl, (refl, (refl, (refl, (refl, (refl, (refl, (refl, (refl, (refl, (refl, (refl, (refl, (refl, (refl, tt)))))))))))))))),
@@ -49,7 +49,7 @@ all_closed =
     ))
 
 pub all_sound : IsTrue (list_all is_row_sound further)
-unfolding further archives code headers images late markup media packages records disks elements games kinds office others packed papers pictures rasters roots sounds stores scripts documents secrets openings prefaces bitmaps shapes chunks tunes squeezed bundles volumes assorted databases science measures prints compiled keyrings consoles shallow schemas dialects notations unheaded mended remarks captions headlines inner deeper farther buried texts
+unfolding further archives code headers images late markup media packages records disks elements games kinds office others packed papers pictures rasters roots sounds stores scripts documents secrets openings prefaces bitmaps shapes chunks tunes squeezed bundles volumes assorted databases science measures prints compiled keyrings consoles shallow schemas dialects notations unheaded mended remarks captions headlines inner deeper farther buried letters settings scores objects texts
 all_sound =
     all_numbered is_row_sound (λ d. (
       (refl, (refl, (refl, (refl, (refl, (refl, (refl, (refl, (refl, (refl, (refl, (refl, (refl, (refl, (refl, (refl, tt)))))))))))))))),

@@ -2,7 +2,7 @@
 use Rattle.std.specs.Prelude.{◌≡◌, ◌<◌, ◌≤◌, ◌⊎◌, ◌||◌, ℕ, Bool, true, IfSome, IsTrue, List, [], ◌++◌, Option, None, Some, All, MatchOption, if◌then◌else◌, length, nat_le, nat_lt, not, option_map, slice_get}
 use Rattle.std.specs.List.{HoldsAt, list_all, list_any}
 use Rattle.infer_formats.specs.Relation as relation
-use Rattle.infer_formats.specs.Relation.{json_lines, json_text, root, root_with}
+use Rattle.infer_formats.specs.Relation.{first_key, first_key_with, json_lines, json_text, root, root_with}
 use Rattle.infer_sig.specs.Signature as fixed
 use Rattle.infer_sig.specs.Signature.{at_least, Part, text, any_text, byte}
 use Rattle.infer.specs.Buffer.{IsBuffer}
@@ -59,9 +59,9 @@ pub record NoneIsBlank : Type 0 where
   pub white : (b : List ℕ) → All (λ x. IsTrue (is_white x)) b → NoneHas (λ r. Accepted r.signature b × IsTrue (not (list_any is_plain r.signature))) further
   pub empty : NoneHas (λ r. Accepted r.signature []) further
 
--- the part asks first for a byte that is no white space
+-- the part asks for a byte that is no white space
 abbrev pub is_dark_part : Part → Bool
-is_dark_part (text p t) = is_settled (λ x. not (is_white x)) p (text p t)
+is_dark_part (text p t) = list_any (λ x. not (is_white x)) t
 is_dark_part (any_text p ts) = is_settled (λ x. not (is_white x)) p (any_text p ts)
 is_dark_part (byte p set) = is_settled (λ x. not (is_white x)) p (byte p set)
 
@@ -73,6 +73,8 @@ is_dark_alternative (at_least n parts) = list_any is_dark_part parts
 abbrev pub is_dark_relation : Alternative → Bool
 is_dark_relation (related json_lines) = true
 is_dark_relation (related json_text) = true
+is_dark_relation (related (first_key k)) = true
+is_dark_relation (related (first_key_with k v)) = true
 is_dark_relation (related (root name)) = true
 is_dark_relation (related (root_with name t)) = true
 is_dark_relation a = list_all is_dark_alternative (lines a)

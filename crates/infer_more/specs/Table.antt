@@ -1,6 +1,6 @@
 -- The further rows, in order. A row whose signature has no alternative accepts nothing.
 use Rattle.std.specs.Prelude.{ℕ, List, [], ◌∷◌, ◌++◌, Option, None, Some, codes}
-use Rattle.infer_formats.specs.Relation.{animated, behind_id3, class_id, dbase, directory_tag, first_entry_ends_in, first_entry_is, has_entry, java_archive, json_lines, json_text, package_with, plain_text, program, root, root_with, shared_object, subrip, tar_checksum, text_first, text_first_with}
+use Rattle.infer_formats.specs.Relation.{animated, behind_id3, class_id, dbase, directory_tag, first_entry_ends_in, first_entry_is, first_key, first_key_with, has_entry, header, java_archive, json_lines, json_text, package_with, plain_text, program, root, root_with, shared_object, subrip, tar_checksum, text_first, text_first_with, text_first_with_all}
 use Rattle.infer_sig.specs.Signature as fixed
 use Rattle.infer_sig.specs.Signature.{text, byte, any_of, between}
 use Rattle.infer.specs.Triple.{triple}
@@ -985,6 +985,11 @@ mended =
     ∷ row Font (codes "application/x-dfont") (codes "dfont") (Some ICO) (at_least 16 (text 4 (0x00 ∷ 0x00 ∷ []) ∷ text 8 (0x00 ∷ 0x00 ∷ []) ∷ text 12 (0x00 ∷ 0x00 ∷ []) ∷ []) ∷ [])
     ∷ row Font (codes "font/woff2") (codes "woff2") (Some WOFF2) (at_least 8 (text 4 (0x00 ∷ 0x01 ∷ 0x00 ∷ 0x00 ∷ []) ∷ []) ∷ [])
     ∷ row Font (codes "font/woff2") (codes "woff2") None (at_least 8 (text 0 (codes "wOF2OTTO") ∷ []) ∷ at_least 8 (text 0 (codes "wOF2true") ∷ []) ∷ [])
+    ∷ row App (codes "application/efi") (codes "efi") (Some EXE) (related (header (codes "PE" ++ 0x00 ∷ 0x00 ∷ []) 0x5C 0x0A 0x0D) ∷ [])
+    ∷ row App (codes "application/vnd.microsoft.portable-executable") (codes "sys") (Some EXE) (related (header (codes "PE" ++ 0x00 ∷ 0x00 ∷ []) 0x5C 0x01 0x01) ∷ [])
+    ∷ row App (codes "application/vnd.microsoft.portable-executable") (codes "dll") (Some EXE) (related (header (codes "PE" ++ 0x00 ∷ 0x00 ∷ []) 0x16 0x2000 0x3FFF) ∷ related (header (codes "PE" ++ 0x00 ∷ 0x00 ∷ []) 0x16 0xA000 0xBFFF) ∷ [])
+    ∷ row App (codes "application/x-ms-ne-executable") (codes "ne") (Some EXE) (related (header (codes "NE") 0x01 0x145 0xFF45) ∷ [])
+    ∷ row App (codes "application/x-lx-executable") (codes "lx") (Some EXE) (related (header (codes "LX") 0x02 0x00 0x00) ∷ related (header (codes "LE") 0x02 0x00 0x00) ∷ [])
     ∷ []
 
 -- texts that begin with a text of their own
@@ -1080,6 +1085,63 @@ headlines =
     ∷ row Text (codes "text/x-gimp-curve") (codes "gcurve") None (related (text_first (codes "# GIMP Curves File")) ∷ [])
     ∷ []
 
+-- texts by their first words and others behind them: patches and mail
+unfoldable pub letters : List Further
+letters =
+    row Text (codes "text/x-diff") (codes "diff") None (related (text_first (codes "diff --git ")) ∷ related (text_first_with (codes "diff -") (0x0A ∷ [] ++ codes "+++ ")) ∷ related (text_first_with (codes "diff -") (0x0A ∷ [] ++ codes "< ")) ∷ related (text_first_with_all (codes "--- ") (0x0A ∷ [] ++ codes "+++ ") (0x0A ∷ [] ++ codes "@@ -") []) ∷ related (text_first_with_all (codes "Index: ") (0x0A ∷ [] ++ codes "=======") (0x0A ∷ [] ++ codes "+++ ") []) ∷ related (text_first_with_all (codes "*** ") (0x0A ∷ [] ++ codes "--- ") (0x0A ∷ [] ++ codes "***************") []) ∷ [])
+    ∷ row Text (codes "application/mbox") (codes "mbox") None (related (text_first_with (codes "From ") (0x0A ∷ [] ++ codes "Received: ")) ∷ related (text_first_with (codes "From ") (0x0A ∷ [] ++ codes "From: ")) ∷ related (text_first_with (codes "From ") (0x0A ∷ [] ++ codes "Message-I")) ∷ [])
+    ∷ row Text (codes "message/rfc822") (codes "eml") None (related (text_first (codes "Return-Path: <")) ∷ related (text_first (codes "Return-path: <")) ∷ related (text_first_with (codes "Delivered-To: ") (0x0A ∷ [] ++ codes "Received: ")) ∷ related (text_first (codes "Received: from ")) ∷ related (text_first (codes "Received: by ")) ∷ related (text_first (codes "Received: (")) ∷ related (text_first_with (codes "MIME-Version: 1.0") (0x0A ∷ [] ++ codes "Content-")) ∷ related (text_first (codes "Message-ID: <")) ∷ related (text_first_with_all (codes "From: ") (0x0A ∷ [] ++ codes "Date: ") (0x0A ∷ [] ++ codes "To: ") []) ∷ related (text_first_with (codes "From: ") (0x0A ∷ [] ++ codes "MIME-Version: 1.0")) ∷ related (text_first (codes "X-Mozilla-Status: ")) ∷ related (text_first_with_all (codes "Date: ") (0x0A ∷ [] ++ codes "From: ") (0x0A ∷ [] ++ codes "To: ") []) ∷ related (text_first_with_all (codes "Subject: ") (0x0A ∷ [] ++ codes "From: ") (0x0A ∷ [] ++ codes "To: ") []) ∷ [])
+    ∷ row Text (codes "message/news") (codes "news") None (related (text_first_with (codes "Path: ") (0x0A ∷ [] ++ codes "Newsgroups: ")) ∷ related (text_first_with (codes "Xref: ") (0x0A ∷ [] ++ codes "Newsgroups: ")) ∷ [])
+    ∷ row Text (codes "text/x-ldif") (codes "ldif") None (related (text_first_with (codes "dn: ") (0x0A ∷ [] ++ codes "objectClass: ")) ∷ related (text_first_with (codes "dn: ") (0x0A ∷ [] ++ codes "objectclass: ")) ∷ related (text_first_with (codes "dn: ") (0x0A ∷ [] ++ codes "changetype: ")) ∷ related (text_first_with (codes "version: 1" ++ 0x0A ∷ []) (0x0A ∷ [] ++ codes "dn: ")) ∷ [])
+    ∷ []
+
+-- more of them: settings, graphs and shapes
+unfoldable pub settings : List Further
+settings =
+    row Text (codes "application/x-desktop") (codes "desktop") None (related (text_first (codes "[Desktop Entry]" ++ 0x0A ∷ [])) ∷ related (text_first (codes "[Desktop Entry]" ++ 0x0D ∷ 0x0A ∷ [])) ∷ related (text_first_with (codes "#") (0x0A ∷ [] ++ codes "[Desktop Entry]" ++ 0x0A ∷ [])) ∷ related (text_first (0x0A ∷ [] ++ codes "[Desktop Entry]" ++ 0x0A ∷ [])) ∷ related (text_first (codes "[KDE Desktop Entry]" ++ 0x0A ∷ [])) ∷ [])
+    ∷ row Text (codes "text/x-systemd-unit") (codes "unit") None (related (text_first (codes "[Unit]" ++ 0x0A ∷ [])) ∷ related (text_first_with (codes "#") (0x0A ∷ [] ++ codes "[Unit]" ++ 0x0A ∷ [])) ∷ related (text_first (0x0A ∷ [] ++ codes "[Unit]" ++ 0x0A ∷ [])) ∷ related (text_first (codes "[Socket]" ++ 0x0A ∷ [])) ∷ related (text_first (codes "[Service]" ++ 0x0A ∷ [])) ∷ related (text_first (codes "[Timer]" ++ 0x0A ∷ [])) ∷ related (text_first (codes "[Mount]" ++ 0x0A ∷ [])) ∷ [])
+    ∷ row Text (codes "text/x-dbus-service") (codes "dbusservice") None (related (text_first (codes "[D-BUS Service]" ++ 0x0A ∷ [])) ∷ related (text_first_with (codes "#") (0x0A ∷ [] ++ codes "[D-BUS Service]" ++ 0x0A ∷ [])) ∷ [])
+    ∷ row Text (codes "text/x-icon-theme") (codes "icontheme") None (related (text_first (codes "[Icon Theme]" ++ 0x0A ∷ [])) ∷ related (text_first_with (codes "#") (0x0A ∷ [] ++ codes "[Icon Theme]" ++ 0x0A ∷ [])) ∷ [])
+    ∷ row Text (codes "text/turtle") (codes "ttl") None (related (text_first_with (codes "@prefix ") (codes "<")) ∷ related (text_first (codes "@base <")) ∷ related (text_first_with (codes "#") (0x0A ∷ [] ++ codes "@prefix ")) ∷ [])
+    ∷ row Image (codes "model/x-pcd") (codes "pcd") None (related (text_first (codes "# .PCD v")) ∷ related (text_first_with (codes "VERSION .") (0x0A ∷ [] ++ codes "FIELDS ")) ∷ [])
+    ∷ row Image (codes "image/vnd.dxf") (codes "dxf") None (related (text_first (codes "AutoCAD Binary DXF" ++ 0x0D ∷ 0x0A ∷ [])) ∷ related (text_first (codes "0" ++ 0x0A ∷ [] ++ codes "SECTION")) ∷ related (text_first (codes "  0" ++ 0x0A ∷ [] ++ codes "SECTION")) ∷ related (text_first (codes "0" ++ 0x0D ∷ 0x0A ∷ [] ++ codes "SECTION")) ∷ related (text_first (codes "  0" ++ 0x0D ∷ 0x0A ∷ [] ++ codes "SECTION")) ∷ related (text_first_with (codes "999" ++ 0x0A ∷ []) (0x0A ∷ [] ++ codes "SECTION")) ∷ related (text_first_with (codes "999" ++ 0x0D ∷ 0x0A ∷ []) (codes "SECTION")) ∷ [])
+    ∷ row Image (codes "image/x-xbitmap") (codes "xbm") None (related (text_first_with_all (codes "#define ") (codes "_width ") (codes "_bits[]") []) ∷ [])
+    ∷ row Text (codes "text/x-bibtex") (codes "bib") None (related (text_first (codes "% This file was created with JabRef")) ∷ related (text_first_with (codes "% Encoding: ") (0x0A ∷ [] ++ codes "@")) ∷ related (text_first (codes "@article{")) ∷ related (text_first (codes "@book{")) ∷ related (text_first (codes "@inproceedings{")) ∷ related (text_first (codes "@misc{")) ∷ related (text_first (codes "@Article{")) ∷ related (text_first (codes "@ARTICLE{")) ∷ [])
+    ∷ []
+
+-- more of them: papers, lists of tracks and packages
+unfoldable pub scores : List Further
+scores =
+    row Text (codes "text/x-tex") (codes "tex") None (related (text_first (0x5C ∷ [] ++ codes "documentclass")) ∷ related (text_first (0x5C ∷ [] ++ codes "documentstyle")) ∷ related (text_first_with (codes "%") (0x0A ∷ 0x5C ∷ [] ++ codes "documentclass")) ∷ related (text_first_with (codes "%") (0x0A ∷ 0x5C ∷ [] ++ codes "NeedsTeXFormat")) ∷ related (text_first_with (codes "%") (0x0A ∷ 0x5C ∷ [] ++ codes "ProvidesPackage")) ∷ [])
+    ∷ row Text (codes "application/x-setupscript") (codes "inf") None (related (text_first_with (codes "[Version]") (codes "ignature")) ∷ related (text_first_with_all (codes ";") (0x0A ∷ [] ++ codes "[Version]") (codes "ignature") []) ∷ [])
+    ∷ row Text (codes "application/x-cdrdao-toc") (codes "toc") None (related (text_first (codes "CD_ROM" ++ 0x0A ∷ [])) ∷ related (text_first (codes "CD_DA" ++ 0x0A ∷ [])) ∷ related (text_first (codes "CD_ROM_XA" ++ 0x0A ∷ [])) ∷ related (text_first_with (codes "CATALOG " ++ 0x22 ∷ []) (0x0A ∷ [] ++ codes "CD_")) ∷ [])
+    ∷ row Text (codes "application/x-cue") (codes "cue") None (related (text_first_with (codes "FILE " ++ 0x22 ∷ []) (codes "TRACK ")) ∷ related (text_first_with (codes "PERFORMER " ++ 0x22 ∷ []) (codes "TRACK ")) ∷ related (text_first_with_all (codes "REM ") (codes "FILE " ++ 0x22 ∷ []) (codes "TRACK ") []) ∷ related (text_first_with (codes "TITLE " ++ 0x22 ∷ []) (codes "TRACK ")) ∷ related (text_first_with_all (codes "CATALOG ") (codes "FILE " ++ 0x22 ∷ []) (codes "TRACK ") []) ∷ [])
+    ∷ row Text (codes "text/x-mpsub") (codes "mpsub") None (related (text_first_with (codes "TITLE=") (0x0A ∷ [] ++ codes "FORMAT=")) ∷ related (text_first (codes "FORMAT=TIME")) ∷ [])
+    ∷ row Text (codes "text/vnd.graphviz") (codes "gv") None (related (text_first_with (codes "digraph ") (codes "{")) ∷ related (text_first_with (codes "strict digraph ") (codes "{")) ∷ related (text_first_with (codes "strict graph ") (codes "{")) ∷ related (text_first_with_all (codes "graph ") (codes "{") (codes " -- ") []) ∷ related (text_first (codes "digraph{")) ∷ [])
+    ∷ row Text (codes "text/x-po") (codes "po") None (related (text_first (codes "msgid " ++ 0x22 ∷ 0x22 ∷ 0x0A ∷ [] ++ codes "msgstr " ++ 0x22 ∷ [])) ∷ related (text_first_with (codes "#") (0x0A ∷ [] ++ codes "msgid " ++ 0x22 ∷ 0x22 ∷ 0x0A ∷ [] ++ codes "msgstr " ++ 0x22 ∷ 0x22 ∷ 0x0A ∷ [])) ∷ [])
+    ∷ row Text (codes "text/x-rpm-spec") (codes "spec") None (related (text_first_with (codes "Summary: ") (0x0A ∷ [] ++ codes "%description")) ∷ related (text_first_with_all (codes "Name:") (0x0A ∷ [] ++ codes "Version:") (0x0A ∷ [] ++ codes "%description") []) ∷ related (text_first_with (codes "%define ") (0x0A ∷ [] ++ codes "%description")) ∷ related (text_first_with (codes "%global ") (0x0A ∷ [] ++ codes "Name:")) ∷ related (text_first_with_all (codes "#") (0x0A ∷ [] ++ codes "Name:") (0x0A ∷ [] ++ codes "%description") []) ∷ [])
+    ∷ row Text (codes "text/x-debian-control") (codes "dsc") None (related (text_first_with (codes "Format: 3.0 (") (0x0A ∷ [] ++ codes "Source: ")) ∷ related (text_first (codes "Format: 1.0" ++ 0x0A ∷ [] ++ codes "Source: ")) ∷ related (text_first_with_all (codes "Package: ") (0x0A ∷ [] ++ codes "Version: ") (0x0A ∷ [] ++ codes "Architecture: ") []) ∷ related (text_first_with_all (codes "Source: ") (0x0A ∷ [] ++ codes "Package: ") (0x0A ∷ [] ++ codes "Maintainer: ") []) ∷ [])
+    ∷ row Text (codes "text/x-pkg-config") (codes "pc") None (related (text_first_with_all (codes "prefix=") (0x0A ∷ [] ++ codes "Name: ") (0x0A ∷ [] ++ codes "Version:") []) ∷ related (text_first_with_all (codes "Name: ") (0x0A ∷ [] ++ codes "Description: ") (0x0A ∷ [] ++ codes "Libs:") []) ∷ [])
+    ∷ row Text (codes "application/x-shared-library-la") (codes "la") None (related (text_first_with (codes "# ") (codes " - a libtool library file" ++ 0x0A ∷ [])) ∷ [])
+    ∷ []
+
+-- more of them: notes, keys and shapes; and JSON by its first key
+unfoldable pub objects : List Further
+objects =
+    row Text (codes "application/x-cisco-vpn-settings") (codes "vpnpcf") None (related (text_first_with (codes "[main]") (0x0A ∷ [] ++ codes "AuthType=")) ∷ [])
+    ∷ row Text (codes "text/x-lilypond") (codes "ly") None (related (text_first (0x5C ∷ [] ++ codes "version " ++ 0x22 ∷ [])) ∷ related (text_first_with (codes "%") (0x0A ∷ 0x5C ∷ [] ++ codes "version " ++ 0x22 ∷ [])) ∷ [])
+    ∷ row Text (codes "text/x-emacs-lisp") (codes "elisp") None (related (text_first_with_all (codes ";;; ") (codes " --- ") (0x0A ∷ [] ++ codes ";;; Code:") []) ∷ [])
+    ∷ row Text (codes "text/x-dockerfile") (codes "docker") None (related (text_first_with (codes "FROM ") (0x0A ∷ [] ++ codes "RUN ")) ∷ related (text_first (codes "# syntax=docker/dockerfile")) ∷ related (text_first (codes "FROM scratch" ++ 0x0A ∷ [])) ∷ [])
+    ∷ row Text (codes "application/x-ipynb+json") (codes "ipynb") None (related (first_key (codes "cells")) ∷ [])
+    ∷ row Text (codes "application/geo+json") (codes "geojson") None (related (first_key_with (codes "type") (codes "FeatureCollection")) ∷ related (first_key_with (codes "type") (codes "Feature")) ∷ related (first_key_with (codes "type") (codes "Point")) ∷ related (first_key_with (codes "type") (codes "Polygon")) ∷ related (first_key_with (codes "type") (codes "LineString")) ∷ related (first_key_with (codes "type") (codes "MultiPolygon")) ∷ related (first_key_with (codes "type") (codes "GeometryCollection")) ∷ [])
+    ∷ row Text (codes "application/vnd.cyclonedx+json") (codes "cdx") None (related (first_key (codes "bomFormat")) ∷ [])
+    ∷ row Image (codes "model/gltf+json") (codes "gltf") None (related (first_key (codes "asset")) ∷ [])
+    ∷ row App (codes "application/x-gnupg-private-key") (codes "gpgsec") None (related (text_first (codes "(21:protected-private-key")) ∷ related (text_first (codes "(11:private-key")) ∷ related (text_first_with (codes "Created: ") (0x0A ∷ [] ++ codes "Key: (")) ∷ related (text_first (codes "Key: (")) ∷ related (text_first (codes "(20:shadowed-private-key")) ∷ [])
+    ∷ row Text (codes "application/x-age-key") (codes "agekey") None (related (text_first (codes "AGE-SECRET-KEY-1")) ∷ related (text_first_with (codes "# created: ") (0x0A ∷ [] ++ codes "AGE-SECRET-KEY-1")) ∷ [])
+    ∷ row Image (codes "model/obj") (codes "obj") None (related (text_first_with (codes "mtllib ") (0x0A ∷ [] ++ codes "v ")) ∷ related (text_first_with_all (codes "#") (0x0A ∷ [] ++ codes "mtllib ") (0x0A ∷ [] ++ codes "v ") []) ∷ related (text_first_with_all (codes "#") (0x0A ∷ [] ++ codes "v ") (0x0A ∷ [] ++ codes "vn ") (0x0A ∷ [] ++ codes "f ")) ∷ [])
+    ∷ row Image (codes "model/mtl") (codes "mtl") None (related (text_first (codes "newmtl ")) ∷ related (text_first_with (codes "#") (0x0A ∷ [] ++ codes "newmtl ")) ∷ [])
+    ∷ []
+
 -- rows of bytes behind the front, which no first byte tells
 unfoldable pub inner : List Further
 inner =
@@ -1167,4 +1229,4 @@ texts =
 -- all of them
 unfoldable pub further : List Further
 further =
-    packages ++ (headers ++ (markup ++ (code ++ (records ++ (archives ++ (images ++ (media ++ (late ++ (office ++ (kinds ++ (roots ++ (elements ++ (pictures ++ (rasters ++ (sounds ++ (packed ++ (disks ++ (papers ++ (stores ++ (games ++ (others ++ (scripts ++ (documents ++ (secrets ++ (bitmaps ++ (shapes ++ (chunks ++ (tunes ++ (squeezed ++ (bundles ++ (volumes ++ (assorted ++ (databases ++ (science ++ (measures ++ (prints ++ (compiled ++ (keyrings ++ (consoles ++ (shallow ++ (schemas ++ (dialects ++ (notations ++ (unheaded ++ (mended ++ (openings ++ (prefaces ++ (remarks ++ (captions ++ (headlines ++ (inner ++ (deeper ++ (farther ++ (buried ++ (texts ++ [])))))))))))))))))))))))))))))))))))))))))))))))))))))))
+    packages ++ (headers ++ (markup ++ (code ++ (records ++ (archives ++ (images ++ (media ++ (late ++ (office ++ (kinds ++ (roots ++ (elements ++ (pictures ++ (rasters ++ (sounds ++ (packed ++ (disks ++ (papers ++ (stores ++ (games ++ (others ++ (scripts ++ (documents ++ (secrets ++ (bitmaps ++ (shapes ++ (chunks ++ (tunes ++ (squeezed ++ (bundles ++ (volumes ++ (assorted ++ (databases ++ (science ++ (measures ++ (prints ++ (compiled ++ (keyrings ++ (consoles ++ (shallow ++ (schemas ++ (dialects ++ (notations ++ (unheaded ++ (mended ++ (openings ++ (prefaces ++ (remarks ++ (captions ++ (headlines ++ (letters ++ (settings ++ (scores ++ (objects ++ (inner ++ (deeper ++ (farther ++ (buried ++ (texts ++ [])))))))))))))))))))))))))))))))))))))))))))))))))))))))))))

@@ -110,11 +110,13 @@ mod inner;
 mod keyrings;
 mod kinds;
 mod late;
+mod letters;
 mod markup;
 mod measures;
 mod media;
 mod mended;
 mod notations;
+mod objects;
 mod office;
 mod openings;
 mod others;
@@ -130,8 +132,10 @@ mod remarks;
 mod roots;
 mod schemas;
 mod science;
+mod scores;
 mod scripts;
 mod secrets;
+mod settings;
 mod shallow;
 mod shapes;
 mod sounds;
@@ -146,7 +150,7 @@ pub(crate) use generated::{row_at, widens};
 
 /// The rows, list by list.
 #[inline(always)]
-pub(crate) fn lists() -> [&'static [FurtherRow]; 56]
+pub(crate) fn lists() -> [&'static [FurtherRow]; 60]
     ensures listed { joined result ≡ further }
     ensures ended { All (λ rows. AreEnded rows.now) result }
 {
@@ -202,6 +206,10 @@ pub(crate) fn lists() -> [&'static [FurtherRow]; 56]
         remarks::rows(),
         captions::rows(),
         headlines::rows(),
+        letters::rows(),
+        settings::rows(),
+        scores::rows(),
+        objects::rows(),
         inner::rows(),
         deeper::rows(),
         farther::rows(),

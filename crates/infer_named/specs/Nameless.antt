@@ -3,8 +3,7 @@ use Rattle.std.specs.Prelude.{ℕ, List, [], ◌∷◌, codes}
 
 unfoldable pub nameless : List (List ℕ)
 nameless =
-    codes "dll"
-    ∷ codes "xcursor"
+    codes "xcursor"
     ∷ codes "ocamlrun"
     ∷ codes "xvthumb"
     ∷ codes "szq"

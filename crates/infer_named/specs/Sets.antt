@@ -140,2687 +140,2804 @@ rows-age = 31
 abbrev pub rows-age-asc-cms-crl-application-x-pem-key-csr-openssh-p7c-param-pgp-pubkey-sig-sshsig : ℕ
 rows-age-asc-cms-crl-application-x-pem-key-csr-openssh-p7c-param-pgp-pubkey-sig-sshsig = 32
 
+abbrev pub rows-agekey : ℕ
+rows-agekey = 33
+
 abbrev pub rows-aifc : ℕ
-rows-aifc = 33
+rows-aifc = 34
 
 abbrev pub rows-aiff : ℕ
-rows-aiff = 34
+rows-aiff = 35
 
 abbrev pub rows-alz : ℕ
-rows-alz = 35
+rows-alz = 36
 
 abbrev pub rows-amf : ℕ
-rows-amf = 36
+rows-amf = 37
 
 abbrev pub rows-aml : ℕ
-rows-aml = 37
+rows-aml = 38
 
 abbrev pub rows-amr : ℕ
-rows-amr = 38
+rows-amr = 39
 
 abbrev pub rows-amv : ℕ
-rows-amv = 39
+rows-amv = 40
 
 abbrev pub rows-ani : ℕ
-rows-ani = 40
+rows-ani = 41
 
 abbrev pub rows-anim : ℕ
-rows-anim = 41
+rows-anim = 42
 
 abbrev pub rows-ape : ℕ
-rows-ape = 42
+rows-ape = 43
 
 abbrev pub rows-apfs-bootimg-cramfs-erofs-exfat-f2fs-fat-gpt-hfsplus-jffs2-lvm-ntfs-romfs-simg-ubi-ubifs-xfs : ℕ
-rows-apfs-bootimg-cramfs-erofs-exfat-f2fs-fat-gpt-hfsplus-jffs2-lvm-ntfs-romfs-simg-ubi-ubifs-xfs = 43
+rows-apfs-bootimg-cramfs-erofs-exfat-f2fs-fat-gpt-hfsplus-jffs2-lvm-ntfs-romfs-simg-ubi-ubifs-xfs = 44
 
 abbrev pub rows-apk : ℕ
-rows-apk = 44
+rows-apk = 45
 
 abbrev pub rows-apk-jar-zip : ℕ
-rows-apk-jar-zip = 45
+rows-apk-jar-zip = 46
 
 abbrev pub rows-apm : ℕ
-rows-apm = 46
+rows-apm = 47
 
 abbrev pub rows-apng : ℕ
-rows-apng = 47
+rows-apng = 48
 
 abbrev pub rows-aportis-plucker : ℕ
-rows-aportis-plucker = 48
+rows-aportis-plucker = 49
 
 abbrev pub rows-appimage : ℕ
-rows-appimage = 49
+rows-appimage = 50
 
 abbrev pub rows-appimage-core-cubin-o-so : ℕ
-rows-appimage-core-cubin-o-so = 50
+rows-appimage-core-cubin-o-so = 51
 
 abbrev pub rows-application-vnd-apple-keynote : ℕ
-rows-application-vnd-apple-keynote = 51
+rows-application-vnd-apple-keynote = 52
 
 abbrev pub rows-application-x-installshield : ℕ
-rows-application-x-installshield = 52
+rows-application-x-installshield = 53
 
 abbrev pub rows-application-x-msi : ℕ
-rows-application-x-msi = 53
+rows-application-x-msi = 54
 
 abbrev pub rows-application-x-ole-storage : ℕ
-rows-application-x-ole-storage = 54
+rows-application-x-ole-storage = 55
 
 abbrev pub rows-application-x-ole-storage-pptm-pptx-zip : ℕ
-rows-application-x-ole-storage-pptm-pptx-zip = 55
+rows-application-x-ole-storage-pptm-pptx-zip = 56
 
 abbrev pub rows-application-x-ole-storage-pptx-zip : ℕ
-rows-application-x-ole-storage-pptx-zip = 56
+rows-application-x-ole-storage-pptx-zip = 57
 
 abbrev pub rows-application-x-ole-storage-xlsm-xlsx-zip : ℕ
-rows-application-x-ole-storage-xlsm-xlsx-zip = 57
+rows-application-x-ole-storage-xlsm-xlsx-zip = 58
 
 abbrev pub rows-application-x-ole-storage-xlsx-zip : ℕ
-rows-application-x-ole-storage-xlsx-zip = 58
+rows-application-x-ole-storage-xlsx-zip = 59
 
 abbrev pub rows-application-x-ole-storage-zip : ℕ
-rows-application-x-ole-storage-zip = 59
+rows-application-x-ole-storage-zip = 60
 
 abbrev pub rows-application-x-pem-key : ℕ
-rows-application-x-pem-key = 60
+rows-application-x-pem-key = 61
 
 abbrev pub rows-aptcache : ℕ
-rows-aptcache = 61
+rows-aptcache = 62
 
 abbrev pub rows-ar : ℕ
-rows-ar = 62
+rows-ar = 63
 
 abbrev pub rows-ar-thin : ℕ
-rows-ar-thin = 63
+rows-ar-thin = 64
 
 abbrev pub rows-arj : ℕ
-rows-arj = 64
+rows-arj = 65
 
 abbrev pub rows-arrow : ℕ
-rows-arrow = 65
+rows-arrow = 66
 
 abbrev pub rows-arsc : ℕ
-rows-arsc = 66
+rows-arsc = 67
 
 abbrev pub rows-as : ℕ
-rows-as = 67
+rows-as = 68
 
 abbrev pub rows-asar : ℕ
-rows-asar = 68
+rows-asar = 69
 
 abbrev pub rows-asc : ℕ
-rows-asc = 69
+rows-asc = 70
 
 abbrev pub rows-astc : ℕ
-rows-astc = 70
+rows-astc = 71
 
 abbrev pub rows-asx : ℕ
-rows-asx = 71
+rows-asx = 72
 
 abbrev pub rows-atom : ℕ
-rows-atom = 72
+rows-atom = 73
 
 abbrev pub rows-au : ℕ
-rows-au = 73
+rows-au = 74
 
 abbrev pub rows-aup : ℕ
-rows-aup = 74
+rows-aup = 75
 
 abbrev pub rows-aup3 : ℕ
-rows-aup3 = 75
+rows-aup3 = 76
 
 abbrev pub rows-aup3-fossil-gpkg-mbtiles-mtn : ℕ
-rows-aup3-fossil-gpkg-mbtiles-mtn = 76
+rows-aup3-fossil-gpkg-mbtiles-mtn = 77
 
 abbrev pub rows-avi : ℕ
-rows-avi = 77
+rows-avi = 78
 
 abbrev pub rows-avif : ℕ
-rows-avif = 78
+rows-avif = 79
 
 abbrev pub rows-avr : ℕ
-rows-avr = 79
+rows-avr = 80
 
 abbrev pub rows-avro : ℕ
-rows-avro = 80
+rows-avro = 81
 
 abbrev pub rows-aw : ℕ
-rows-aw = 81
+rows-aw = 82
 
 abbrev pub rows-awbm : ℕ
-rows-awbm = 82
+rows-awbm = 83
 
 abbrev pub rows-awk : ℕ
-rows-awk = 83
+rows-awk = 84
 
 abbrev pub rows-axml : ℕ
-rows-axml = 84
+rows-axml = 85
 
 abbrev pub rows-ay : ℕ
-rows-ay = 85
+rows-ay = 86
 
 abbrev pub rows-bai : ℕ
-rows-bai = 86
+rows-bai = 87
 
 abbrev pub rows-bam : ℕ
-rows-bam = 87
+rows-bam = 88
 
 abbrev pub rows-bat : ℕ
-rows-bat = 88
+rows-bat = 89
 
 abbrev pub rows-bc : ℕ
-rows-bc = 89
+rows-bc = 90
 
 abbrev pub rows-bc-bcw : ℕ
-rows-bc-bcw = 90
+rows-bc-bcw = 91
 
 abbrev pub rows-bcstm : ℕ
-rows-bcstm = 91
+rows-bcstm = 92
 
 abbrev pub rows-bcwav : ℕ
-rows-bcwav = 92
+rows-bcwav = 93
 
 abbrev pub rows-bdb : ℕ
-rows-bdb = 93
+rows-bdb = 94
 
 abbrev pub rows-bdf : ℕ
-rows-bdf = 94
+rows-bdf = 95
 
 abbrev pub rows-bdfb : ℕ
-rows-bdfb = 95
+rows-bdfb = 96
 
 abbrev pub rows-beam : ℕ
-rows-beam = 96
+rows-beam = 97
 
 abbrev pub rows-bfstm : ℕ
-rows-bfstm = 97
+rows-bfstm = 98
 
 abbrev pub rows-bgzf-karbon-kil-kpr-ksp-kwd : ℕ
-rows-bgzf-karbon-kil-kpr-ksp-kwd = 98
+rows-bgzf-karbon-kil-kpr-ksp-kwd = 99
+
+abbrev pub rows-bib : ℕ
+rows-bib = 100
 
 abbrev pub rows-biff-xls : ℕ
-rows-biff-xls = 99
+rows-biff-xls = 101
 
 abbrev pub rows-bik : ℕ
-rows-bik = 100
+rows-bik = 102
 
 abbrev pub rows-blb : ℕ
-rows-blb = 101
+rows-blb = 103
 
 abbrev pub rows-blend : ℕ
-rows-blend = 102
+rows-blend = 104
 
 abbrev pub rows-blp : ℕ
-rows-blp = 103
+rows-blp = 105
 
 abbrev pub rows-bmp : ℕ
-rows-bmp = 104
+rows-bmp = 106
 
 abbrev pub rows-bmp-dib : ℕ
-rows-bmp-dib = 105
+rows-bmp-dib = 107
 
 abbrev pub rows-bookmarks : ℕ
-rows-bookmarks = 106
+rows-bookmarks = 108
 
 abbrev pub rows-bootimg : ℕ
-rows-bootimg = 107
+rows-bootimg = 109
 
 abbrev pub rows-bpg : ℕ
-rows-bpg = 108
+rows-bpg = 110
 
 abbrev pub rows-bplist : ℕ
-rows-bplist = 109
+rows-bplist = 111
 
 abbrev pub rows-bps : ℕ
-rows-bps = 110
+rows-bps = 112
 
 abbrev pub rows-brstm : ℕ
-rows-brstm = 111
+rows-brstm = 113
 
 abbrev pub rows-bsdiff : ℕ
-rows-bsdiff = 112
+rows-bsdiff = 114
 
 abbrev pub rows-bsp : ℕ
-rows-bsp = 113
+rows-bsp = 115
 
 abbrev pub rows-btf-tif : ℕ
-rows-btf-tif = 114
+rows-btf-tif = 116
 
 abbrev pub rows-bufr : ℕ
-rows-bufr = 115
+rows-bufr = 117
 
 abbrev pub rows-bz1-bz2 : ℕ
-rows-bz1-bz2 = 116
+rows-bz1-bz2 = 118
 
 abbrev pub rows-bz2 : ℕ
-rows-bz2 = 117
+rows-bz2 = 119
 
 abbrev pub rows-bz2-gz-xz : ℕ
-rows-bz2-gz-xz = 118
+rows-bz2-gz-xz = 120
 
 abbrev pub rows-bz3 : ℕ
-rows-bz3 = 119
+rows-bz3 = 121
 
 abbrev pub rows-bzimage : ℕ
-rows-bzimage = 120
+rows-bzimage = 122
 
 abbrev pub rows-cab : ℕ
-rows-cab = 121
+rows-cab = 123
 
 abbrev pub rows-caf : ℕ
-rows-caf = 122
+rows-caf = 124
 
 abbrev pub rows-cbor : ℕ
-rows-cbor = 123
+rows-cbor = 125
 
 abbrev pub rows-cci : ℕ
-rows-cci = 124
+rows-cci = 126
 
 abbrev pub rows-ccmx : ℕ
-rows-ccmx = 125
+rows-ccmx = 127
 
 abbrev pub rows-cdf : ℕ
-rows-cdf = 126
+rows-cdf = 128
 
 abbrev pub rows-cdr : ℕ
-rows-cdr = 127
+rows-cdr = 129
+
+abbrev pub rows-cdx : ℕ
+rows-cdx = 130
 
 abbrev pub rows-cdxa : ℕ
-rows-cdxa = 128
+rows-cdxa = 131
 
 abbrev pub rows-cer : ℕ
-rows-cer = 129
+rows-cer = 132
 
 abbrev pub rows-cer-crl : ℕ
-rows-cer-crl = 130
+rows-cer-crl = 133
 
 abbrev pub rows-cer-p10-p8-pkipath : ℕ
-rows-cer-p10-p8-pkipath = 131
+rows-cer-p10-p8-pkipath = 134
 
 abbrev pub rows-chd : ℕ
-rows-chd = 132
+rows-chd = 135
 
 abbrev pub rows-chm : ℕ
-rows-chm = 133
+rows-chm = 136
 
 abbrev pub rows-chrt : ℕ
-rows-chrt = 134
+rows-chrt = 137
 
 abbrev pub rows-cin : ℕ
-rows-cin = 135
+rows-cin = 138
 
 abbrev pub rows-class : ℕ
-rows-class = 136
+rows-class = 139
 
 abbrev pub rows-clj : ℕ
-rows-clj = 137
+rows-clj = 140
 
 abbrev pub rows-cloudcfg : ℕ
-rows-cloudcfg = 138
+rows-cloudcfg = 141
 
 abbrev pub rows-cma : ℕ
-rows-cma = 139
+rows-cma = 142
 
 abbrev pub rows-cmap-eps-pfa-t2t : ℕ
-rows-cmap-eps-pfa-t2t = 140
+rows-cmap-eps-pfa-t2t = 143
 
 abbrev pub rows-cmi : ℕ
-rows-cmi = 141
+rows-cmi = 144
 
 abbrev pub rows-cml : ℕ
-rows-cml = 142
+rows-cml = 145
 
 abbrev pub rows-cmo : ℕ
-rows-cmo = 143
+rows-cmo = 146
 
 abbrev pub rows-cmt : ℕ
-rows-cmt = 144
+rows-cmt = 147
 
 abbrev pub rows-cmx : ℕ
-rows-cmx = 145
+rows-cmx = 148
 
 abbrev pub rows-cmxa : ℕ
-rows-cmxa = 146
+rows-cmxa = 149
 
 abbrev pub rows-cmxr : ℕ
-rows-cmxr = 147
+rows-cmxr = 150
 
 abbrev pub rows-core : ℕ
-rows-core = 148
+rows-core = 151
 
 abbrev pub rows-cpi : ℕ
-rows-cpi = 149
+rows-cpi = 152
 
 abbrev pub rows-cpio : ℕ
-rows-cpio = 150
+rows-cpio = 153
 
 abbrev pub rows-cpt : ℕ
-rows-cpt = 151
+rows-cpt = 154
 
 abbrev pub rows-cr2 : ℕ
-rows-cr2 = 152
+rows-cr2 = 155
 
 abbrev pub rows-cr2-dng : ℕ
-rows-cr2-dng = 153
+rows-cr2-dng = 156
 
 abbrev pub rows-cr3 : ℕ
-rows-cr3 = 154
+rows-cr3 = 157
 
 abbrev pub rows-cram : ℕ
-rows-cram = 155
+rows-cram = 158
 
 abbrev pub rows-cramfs : ℕ
-rows-cramfs = 156
+rows-cramfs = 159
 
 abbrev pub rows-crl : ℕ
-rows-crl = 157
+rows-crl = 160
 
 abbrev pub rows-crw : ℕ
-rows-crw = 158
+rows-crw = 161
 
 abbrev pub rows-crx : ℕ
-rows-crx = 159
+rows-crx = 162
 
 abbrev pub rows-csh : ℕ
-rows-csh = 160
+rows-csh = 163
 
 abbrev pub rows-csi : ℕ
-rows-csi = 161
+rows-csi = 164
 
 abbrev pub rows-cso : ℕ
-rows-cso = 162
+rows-cso = 165
 
 abbrev pub rows-csr-p10 : ℕ
-rows-csr-p10 = 163
+rows-csr-p10 = 166
 
 abbrev pub rows-cubin : ℕ
-rows-cubin = 164
+rows-cubin = 167
+
+abbrev pub rows-cue : ℕ
+rows-cue = 168
 
 abbrev pub rows-cupsraster : ℕ
-rows-cupsraster = 165
+rows-cupsraster = 169
 
 abbrev pub rows-cur : ℕ
-rows-cur = 166
+rows-cur = 170
 
 abbrev pub rows-cwk : ℕ
-rows-cwk = 167
+rows-cwk = 171
 
 abbrev pub rows-czi : ℕ
-rows-czi = 168
+rows-czi = 172
 
 abbrev pub rows-dae : ℕ
-rows-dae = 169
+rows-dae = 173
 
 abbrev pub rows-dar : ℕ
-rows-dar = 170
+rows-dar = 174
 
 abbrev pub rows-dart : ℕ
-rows-dart = 171
+rows-dart = 175
 
 abbrev pub rows-dbf : ℕ
-rows-dbf = 172
+rows-dbf = 176
 
 abbrev pub rows-dbk : ℕ
-rows-dbk = 173
+rows-dbk = 177
 
 abbrev pub rows-dbm : ℕ
-rows-dbm = 174
+rows-dbm = 178
 
 abbrev pub rows-dbpf : ℕ
-rows-dbpf = 175
+rows-dbpf = 179
+
+abbrev pub rows-dbusservice : ℕ
+rows-dbusservice = 180
 
 abbrev pub rows-dc-gcm-saturn-segacd : ℕ
-rows-dc-gcm-saturn-segacd = 176
+rows-dc-gcm-saturn-segacd = 181
 
 abbrev pub rows-dcm : ℕ
-rows-dcm = 177
+rows-dcm = 182
 
 abbrev pub rows-dcr : ℕ
-rows-dcr = 178
+rows-dcr = 183
 
 abbrev pub rows-dcx : ℕ
-rows-dcx = 179
+rows-dcx = 184
 
 abbrev pub rows-dds : ℕ
-rows-dds = 180
+rows-dds = 185
 
 abbrev pub rows-deb : ℕ
-rows-deb = 181
+rows-deb = 186
 
 abbrev pub rows-deb-goa : ℕ
-rows-deb-goa = 182
+rows-deb-goa = 187
 
 abbrev pub rows-der : ℕ
-rows-der = 183
+rows-der = 188
 
 abbrev pub rows-der-application-x-pem-key-pem : ℕ
-rows-der-application-x-pem-key-pem = 184
+rows-der-application-x-pem-key-pem = 189
 
 abbrev pub rows-der-p7b-pem : ℕ
-rows-der-p7b-pem = 185
+rows-der-p7b-pem = 190
 
 abbrev pub rows-der-pem : ℕ
-rows-der-pem = 186
+rows-der-pem = 191
 
 abbrev pub rows-der-pem-txt : ℕ
-rows-der-pem-txt = 187
+rows-der-pem-txt = 192
+
+abbrev pub rows-desktop : ℕ
+rows-desktop = 193
 
 abbrev pub rows-dex : ℕ
-rows-dex = 188
+rows-dex = 194
 
 abbrev pub rows-dey : ℕ
-rows-dey = 189
+rows-dey = 195
 
 abbrev pub rows-dff : ℕ
-rows-dff = 190
+rows-dff = 196
 
 abbrev pub rows-dfont : ℕ
-rows-dfont = 191
+rows-dfont = 197
 
 abbrev pub rows-dgn : ℕ
-rows-dgn = 192
+rows-dgn = 198
 
 abbrev pub rows-dia : ℕ
-rows-dia = 193
+rows-dia = 199
 
 abbrev pub rows-diashape : ℕ
-rows-diashape = 194
+rows-diashape = 200
 
 abbrev pub rows-dif : ℕ
-rows-dif = 195
+rows-dif = 201
+
+abbrev pub rows-diff : ℕ
+rows-diff = 202
 
 abbrev pub rows-djvm : ℕ
-rows-djvm = 196
+rows-djvm = 203
 
 abbrev pub rows-djvu : ℕ
-rows-djvu = 197
+rows-djvu = 204
 
 abbrev pub rows-dmp : ℕ
-rows-dmp = 198
+rows-dmp = 205
 
 abbrev pub rows-dng : ℕ
-rows-dng = 199
+rows-dng = 206
 
 abbrev pub rows-doc-doc2 : ℕ
-rows-doc-doc2 = 200
+rows-doc-doc2 = 207
+
+abbrev pub rows-docker : ℕ
+rows-docker = 208
 
 abbrev pub rows-docm : ℕ
-rows-docm = 201
+rows-docm = 209
 
 abbrev pub rows-docm-docx-application-x-ole-storage-zip : ℕ
-rows-docm-docx-application-x-ole-storage-zip = 202
+rows-docm-docx-application-x-ole-storage-zip = 210
 
 abbrev pub rows-docx : ℕ
-rows-docx = 203
+rows-docx = 211
 
 abbrev pub rows-docx-application-x-ole-storage-zip : ℕ
-rows-docx-application-x-ole-storage-zip = 204
+rows-docx-application-x-ole-storage-zip = 212
 
 abbrev pub rows-dpx : ℕ
-rows-dpx = 205
+rows-dpx = 213
 
 abbrev pub rows-drc : ℕ
-rows-drc = 206
+rows-drc = 214
 
 abbrev pub rows-drdoscpi : ℕ
-rows-drdoscpi = 207
+rows-drdoscpi = 215
+
+abbrev pub rows-dsc : ℕ
+rows-dsc = 216
 
 abbrev pub rows-dsf : ℕ
-rows-dsf = 208
+rows-dsf = 217
 
 abbrev pub rows-dss : ℕ
-rows-dss = 209
+rows-dss = 218
 
 abbrev pub rows-dtb : ℕ
-rows-dtb = 210
+rows-dtb = 219
 
 abbrev pub rows-dts : ℕ
-rows-dts = 211
+rows-dts = 220
 
 abbrev pub rows-dtsi : ℕ
-rows-dtsi = 212
+rows-dtsi = 221
 
 abbrev pub rows-dv : ℕ
-rows-dv = 213
+rows-dv = 222
 
 abbrev pub rows-dvb : ℕ
-rows-dvb = 214
+rows-dvb = 223
 
 abbrev pub rows-dvi : ℕ
-rows-dvi = 215
+rows-dvi = 224
 
 abbrev pub rows-dwg : ℕ
-rows-dwg = 216
+rows-dwg = 225
+
+abbrev pub rows-dxf : ℕ
+rows-dxf = 226
 
 abbrev pub rows-e57 : ℕ
-rows-e57 = 217
+rows-e57 = 227
 
 abbrev pub rows-eac3 : ℕ
-rows-eac3 = 218
+rows-eac3 = 228
 
 abbrev pub rows-edf : ℕ
-rows-edf = 219
+rows-edf = 229
 
 abbrev pub rows-edid : ℕ
-rows-edid = 220
+rows-edid = 230
 
 abbrev pub rows-eet : ℕ
-rows-eet = 221
+rows-eet = 231
 
 abbrev pub rows-egg : ℕ
-rows-egg = 222
+rows-egg = 232
 
 abbrev pub rows-elc : ℕ
-rows-elc = 223
+rows-elc = 233
 
 abbrev pub rows-elf : ℕ
-rows-elf = 224
+rows-elf = 234
 
 abbrev pub rows-elf-so : ℕ
-rows-elf-so = 225
+rows-elf-so = 235
+
+abbrev pub rows-elisp : ℕ
+rows-elisp = 236
 
 abbrev pub rows-emf : ℕ
-rows-emf = 226
+rows-emf = 237
+
+abbrev pub rows-eml : ℕ
+rows-eml = 238
 
 abbrev pub rows-eot : ℕ
-rows-eot = 227
+rows-eot = 239
 
 abbrev pub rows-eps : ℕ
-rows-eps = 228
+rows-eps = 240
 
 abbrev pub rows-eps-pdf-ps : ℕ
-rows-eps-pdf-ps = 229
+rows-eps-pdf-ps = 241
 
 abbrev pub rows-epub : ℕ
-rows-epub = 230
+rows-epub = 242
 
 abbrev pub rows-escript : ℕ
-rows-escript = 231
+rows-escript = 243
 
 abbrev pub rows-evtx : ℕ
-rows-evtx = 232
+rows-evtx = 244
 
 abbrev pub rows-exe : ℕ
-rows-exe = 233
+rows-exe = 245
+
+abbrev pub rows-exe-dll-efi-lx-ne-sys : ℕ
+rows-exe-dll-efi-lx-ne-sys = 246
 
 abbrev pub rows-exr : ℕ
-rows-exr = 234
+rows-exr = 247
 
 abbrev pub rows-exs : ℕ
-rows-exs = 235
+rows-exs = 248
 
 abbrev pub rows-ext2 : ℕ
-rows-ext2 = 236
+rows-ext2 = 249
 
 abbrev pub rows-f4a : ℕ
-rows-f4a = 237
+rows-f4a = 250
 
 abbrev pub rows-f4v : ℕ
-rows-f4v = 238
+rows-f4v = 251
 
 abbrev pub rows-fb2 : ℕ
-rows-fb2 = 239
+rows-fb2 = 252
 
 abbrev pub rows-fbx-fbxtext : ℕ
-rows-fbx-fbxtext = 240
+rows-fbx-fbxtext = 253
 
 abbrev pub rows-fbz : ℕ
-rows-fbz = 241
+rows-fbz = 254
 
 abbrev pub rows-fccache : ℕ
-rows-fccache = 242
+rows-fccache = 255
 
 abbrev pub rows-fcstd : ℕ
-rows-fcstd = 243
+rows-fcstd = 256
 
 abbrev pub rows-fdf : ℕ
-rows-fdf = 244
+rows-fdf = 257
 
 abbrev pub rows-fds : ℕ
-rows-fds = 245
+rows-fds = 258
 
 abbrev pub rows-ff : ℕ
-rows-ff = 246
+rows-ff = 259
 
 abbrev pub rows-fig : ℕ
-rows-fig = 247
+rows-fig = 260
 
 abbrev pub rows-fish : ℕ
-rows-fish = 248
+rows-fish = 261
 
 abbrev pub rows-fits : ℕ
-rows-fits = 249
+rows-fits = 262
 
 abbrev pub rows-fl : ℕ
-rows-fl = 250
+rows-fl = 263
 
 abbrev pub rows-flac : ℕ
-rows-flac = 251
+rows-flac = 264
 
 abbrev pub rows-flac-ogg-opus : ℕ
-rows-flac-ogg-opus = 252
+rows-flac-ogg-opus = 265
 
 abbrev pub rows-flatpak : ℕ
-rows-flatpak = 253
+rows-flatpak = 266
 
 abbrev pub rows-flatpakref : ℕ
-rows-flatpakref = 254
+rows-flatpakref = 267
 
 abbrev pub rows-flatpakrepo : ℕ
-rows-flatpakrepo = 255
+rows-flatpakrepo = 268
 
 abbrev pub rows-fli : ℕ
-rows-fli = 256
+rows-fli = 269
 
 abbrev pub rows-flif : ℕ
-rows-flif = 257
+rows-flif = 270
 
 abbrev pub rows-flv : ℕ
-rows-flv = 258
+rows-flv = 271
 
 abbrev pub rows-flw : ℕ
-rows-flw = 259
+rows-flw = 272
 
 abbrev pub rows-fm : ℕ
-rows-fm = 260
+rows-fm = 273
 
 abbrev pub rows-fodg : ℕ
-rows-fodg = 261
+rows-fodg = 274
 
 abbrev pub rows-fodp : ℕ
-rows-fodp = 262
+rows-fodp = 275
 
 abbrev pub rows-fods : ℕ
-rows-fods = 263
+rows-fods = 276
 
 abbrev pub rows-fodt : ℕ
-rows-fodt = 264
+rows-fodt = 277
 
 abbrev pub rows-fpx : ℕ
-rows-fpx = 265
+rows-fpx = 278
 
 abbrev pub rows-g64 : ℕ
-rows-g64 = 266
+rows-g64 = 279
 
 abbrev pub rows-gb-gbc : ℕ
-rows-gb-gbc = 267
+rows-gb-gbc = 280
 
 abbrev pub rows-gba : ℕ
-rows-gba = 268
+rows-gba = 281
 
 abbrev pub rows-gbr : ℕ
-rows-gbr = 269
+rows-gbr = 282
 
 abbrev pub rows-gbs : ℕ
-rows-gbs = 270
+rows-gbs = 283
 
 abbrev pub rows-gcda : ℕ
-rows-gcda = 271
+rows-gcda = 284
 
 abbrev pub rows-gcda-gcno : ℕ
-rows-gcda-gcno = 272
+rows-gcda-gcno = 285
 
 abbrev pub rows-gch : ℕ
-rows-gch = 273
+rows-gch = 286
 
 abbrev pub rows-gcm : ℕ
-rows-gcm = 274
+rows-gcm = 287
 
 abbrev pub rows-gconv : ℕ
-rows-gconv = 275
+rows-gconv = 288
 
 abbrev pub rows-gd2 : ℕ
-rows-gd2 = 276
+rows-gd2 = 289
 
 abbrev pub rows-gdbm : ℕ
-rows-gdbm = 277
+rows-gdbm = 290
 
 abbrev pub rows-gdf : ℕ
-rows-gdf = 278
+rows-gdf = 291
 
 abbrev pub rows-ged : ℕ
-rows-ged = 279
+rows-ged = 292
 
 abbrev pub rows-gem : ℕ
-rows-gem = 280
+rows-gem = 293
+
+abbrev pub rows-geojson : ℕ
+rows-geojson = 294
 
 abbrev pub rows-gff3 : ℕ
-rows-gff3 = 281
+rows-gff3 = 295
 
 abbrev pub rows-ggr : ℕ
-rows-ggr = 282
+rows-ggr = 296
 
 abbrev pub rows-gguf : ℕ
-rows-gguf = 283
+rows-gguf = 297
 
 abbrev pub rows-gif : ℕ
-rows-gif = 284
+rows-gif = 298
 
 abbrev pub rows-gitbundle : ℕ
-rows-gitbundle = 285
+rows-gitbundle = 299
 
 abbrev pub rows-gitidx : ℕ
-rows-gitidx = 286
+rows-gitidx = 300
 
 abbrev pub rows-gitindex : ℕ
-rows-gitindex = 287
+rows-gitindex = 301
 
 abbrev pub rows-gitpatch : ℕ
-rows-gitpatch = 288
+rows-gitpatch = 302
 
 abbrev pub rows-gjs-js : ℕ
-rows-gjs-js = 289
+rows-gjs-js = 303
 
 abbrev pub rows-glade : ℕ
-rows-glade = 290
+rows-glade = 304
 
 abbrev pub rows-glb : ℕ
-rows-glb = 291
+rows-glb = 305
+
+abbrev pub rows-gltf : ℕ
+rows-gltf = 306
 
 abbrev pub rows-gml : ℕ
-rows-gml = 292
+rows-gml = 307
 
 abbrev pub rows-gnd : ℕ
-rows-gnd = 293
+rows-gnd = 308
 
 abbrev pub rows-gnucash : ℕ
-rows-gnucash = 294
+rows-gnucash = 309
 
 abbrev pub rows-gnumeric : ℕ
-rows-gnumeric = 295
+rows-gnumeric = 310
 
 abbrev pub rows-gnuplot : ℕ
-rows-gnuplot = 296
+rows-gnuplot = 311
 
 abbrev pub rows-goobj : ℕ
-rows-goobj = 297
+rows-goobj = 312
 
 abbrev pub rows-gpg-gpgold : ℕ
-rows-gpg-gpgold = 298
+rows-gpg-gpgold = 313
+
+abbrev pub rows-gpgsec : ℕ
+rows-gpgsec = 314
 
 abbrev pub rows-gpkg : ℕ
-rows-gpkg = 299
+rows-gpkg = 315
 
 abbrev pub rows-gpl : ℕ
-rows-gpl = 300
+rows-gpl = 316
 
 abbrev pub rows-gpx : ℕ
-rows-gpx = 301
+rows-gpx = 317
 
 abbrev pub rows-grib : ℕ
-rows-grib = 302
+rows-grib = 318
 
 abbrev pub rows-grib-grib2 : ℕ
-rows-grib-grib2 = 303
+rows-grib-grib2 = 319
 
 abbrev pub rows-groovy : ℕ
-rows-groovy = 304
+rows-groovy = 320
 
 abbrev pub rows-grp : ℕ
-rows-grp = 305
+rows-grp = 321
 
 abbrev pub rows-grubkbd : ℕ
-rows-grubkbd = 306
+rows-grubkbd = 322
 
 abbrev pub rows-gschema : ℕ
-rows-gschema = 307
+rows-gschema = 323
 
 abbrev pub rows-gtkbuilder : ℕ
-rows-gtkbuilder = 308
+rows-gtkbuilder = 324
 
 abbrev pub rows-gtp : ℕ
-rows-gtp = 309
+rows-gtp = 325
+
+abbrev pub rows-gv : ℕ
+rows-gv = 326
 
 abbrev pub rows-gvdb : ℕ
-rows-gvdb = 310
+rows-gvdb = 327
 
 abbrev pub rows-gx : ℕ
-rows-gx = 311
+rows-gx = 328
 
 abbrev pub rows-gz : ℕ
-rows-gz = 312
+rows-gz = 329
 
 abbrev pub rows-gz-html-txt-xhtml-xml : ℕ
-rows-gz-html-txt-xhtml-xml = 313
+rows-gz-html-txt-xhtml-xml = 330
 
 abbrev pub rows-gz-kspcrypt-zip : ℕ
-rows-gz-kspcrypt-zip = 314
+rows-gz-kspcrypt-zip = 331
 
 abbrev pub rows-gz-kwdcrypt-zip : ℕ
-rows-gz-kwdcrypt-zip = 315
+rows-gz-kwdcrypt-zip = 332
 
 abbrev pub rows-gz-sqlite-xml : ℕ
-rows-gz-sqlite-xml = 316
+rows-gz-sqlite-xml = 333
 
 abbrev pub rows-gz-txt-xml : ℕ
-rows-gz-txt-xml = 317
+rows-gz-txt-xml = 334
 
 abbrev pub rows-gz-xml : ℕ
-rows-gz-xml = 318
+rows-gz-xml = 335
 
 abbrev pub rows-gz-zip : ℕ
-rows-gz-zip = 319
+rows-gz-zip = 336
 
 abbrev pub rows-gz-zst : ℕ
-rows-gz-zst = 320
+rows-gz-zst = 337
 
 abbrev pub rows-h264 : ℕ
-rows-h264 = 321
+rows-h264 = 338
 
 abbrev pub rows-h265 : ℕ
-rows-h265 = 322
+rows-h265 = 339
 
 abbrev pub rows-hdd : ℕ
-rows-hdd = 323
+rows-hdd = 340
 
 abbrev pub rows-hdf4 : ℕ
-rows-hdf4 = 324
+rows-hdf4 = 341
 
 abbrev pub rows-hdf5 : ℕ
-rows-hdf5 = 325
+rows-hdf5 = 342
 
 abbrev pub rows-hdr : ℕ
-rows-hdr = 326
+rows-hdr = 343
 
 abbrev pub rows-hdt : ℕ
-rows-hdt = 327
+rows-hdt = 344
 
 abbrev pub rows-heic : ℕ
-rows-heic = 328
+rows-heic = 345
 
 abbrev pub rows-heics : ℕ
-rows-heics = 329
+rows-heics = 346
 
 abbrev pub rows-heics-heif : ℕ
-rows-heics-heif = 330
+rows-heics-heif = 347
 
 abbrev pub rows-heif : ℕ
-rows-heif = 331
+rows-heif = 348
 
 abbrev pub rows-heifs : ℕ
-rows-heifs = 332
+rows-heifs = 349
 
 abbrev pub rows-hfe : ℕ
-rows-hfe = 333
+rows-hfe = 350
 
 abbrev pub rows-hgbundle : ℕ
-rows-hgbundle = 334
+rows-hgbundle = 351
 
 abbrev pub rows-hi : ℕ
-rows-hi = 335
+rows-hi = 352
 
 abbrev pub rows-hlp : ℕ
-rows-hlp = 336
+rows-hlp = 353
 
 abbrev pub rows-hprof : ℕ
-rows-hprof = 337
+rows-hprof = 354
 
 abbrev pub rows-hqx : ℕ
-rows-hqx = 338
+rows-hqx = 355
 
 abbrev pub rows-hs : ℕ
-rows-hs = 339
+rows-hs = 356
 
 abbrev pub rows-hsi : ℕ
-rows-hsi = 340
+rows-hsi = 357
 
 abbrev pub rows-html : ℕ
-rows-html = 341
+rows-html = 358
 
 abbrev pub rows-html-json-php-svg-txt-xhtml-xml : ℕ
-rows-html-json-php-svg-txt-xhtml-xml = 342
+rows-html-json-php-svg-txt-xhtml-xml = 359
 
 abbrev pub rows-html-rss-txt-xml : ℕ
-rows-html-rss-txt-xml = 343
+rows-html-rss-txt-xml = 360
 
 abbrev pub rows-html-sh-svg-txt-xhtml-xml : ℕ
-rows-html-sh-svg-txt-xhtml-xml = 344
+rows-html-sh-svg-txt-xhtml-xml = 361
 
 abbrev pub rows-html-txt : ℕ
-rows-html-txt = 345
+rows-html-txt = 362
 
 abbrev pub rows-html-txt-xhtml-xml : ℕ
-rows-html-txt-xhtml-xml = 346
+rows-html-txt-xhtml-xml = 363
 
 abbrev pub rows-html-txt-xml : ℕ
-rows-html-txt-xml = 347
+rows-html-txt-xml = 364
 
 abbrev pub rows-http : ℕ
-rows-http = 348
+rows-http = 365
 
 abbrev pub rows-hwp : ℕ
-rows-hwp = 349
+rows-hwp = 366
 
 abbrev pub rows-iaarc : ℕ
-rows-iaarc = 350
+rows-iaarc = 367
 
 abbrev pub rows-icc : ℕ
-rows-icc = 351
+rows-icc = 368
 
 abbrev pub rows-icns : ℕ
-rows-icns = 352
+rows-icns = 369
 
 abbrev pub rows-ico : ℕ
-rows-ico = 353
+rows-ico = 370
+
+abbrev pub rows-icontheme : ℕ
+rows-icontheme = 371
 
 abbrev pub rows-ics : ℕ
-rows-ics = 354
+rows-ics = 372
 
 abbrev pub rows-icures : ℕ
-rows-icures = 355
+rows-icures = 373
 
 abbrev pub rows-iff : ℕ
-rows-iff = 356
+rows-iff = 374
 
 abbrev pub rows-ifo : ℕ
-rows-ifo = 357
+rows-ifo = 375
 
 abbrev pub rows-igs : ℕ
-rows-igs = 358
+rows-igs = 376
+
+abbrev pub rows-iiq : ℕ
+rows-iiq = 377
 
 abbrev pub rows-ilbm : ℕ
-rows-ilbm = 359
+rows-ilbm = 378
 
 abbrev pub rows-imy : ℕ
-rows-imy = 360
+rows-imy = 379
 
 abbrev pub rows-indd : ℕ
-rows-indd = 361
+rows-indd = 380
+
+abbrev pub rows-inf : ℕ
+rows-inf = 381
 
 abbrev pub rows-info : ℕ
-rows-info = 362
+rows-info = 382
 
 abbrev pub rows-innolog : ℕ
-rows-innolog = 363
+rows-innolog = 383
 
 abbrev pub rows-ips : ℕ
-rows-ips = 364
+rows-ips = 384
+
+abbrev pub rows-ipynb : ℕ
+rows-ipynb = 385
 
 abbrev pub rows-ircam : ℕ
-rows-ircam = 365
+rows-ircam = 386
 
 abbrev pub rows-it : ℕ
-rows-it = 366
+rows-it = 387
 
 abbrev pub rows-it87 : ℕ
-rows-it87 = 367
+rows-it87 = 388
 
 abbrev pub rows-itc : ℕ
-rows-itc = 368
+rows-itc = 389
 
 abbrev pub rows-ivf : ℕ
-rows-ivf = 369
+rows-ivf = 390
 
 abbrev pub rows-j2c : ℕ
-rows-j2c = 370
+rows-j2c = 391
 
 abbrev pub rows-jad : ℕ
-rows-jad = 371
+rows-jad = 392
 
 abbrev pub rows-jar : ℕ
-rows-jar = 372
+rows-jar = 393
 
 abbrev pub rows-jar-zip : ℕ
-rows-jar-zip = 373
+rows-jar-zip = 394
 
 abbrev pub rows-jarmf : ℕ
-rows-jarmf = 374
+rows-jarmf = 395
 
 abbrev pub rows-jbig2 : ℕ
-rows-jbig2 = 375
+rows-jbig2 = 396
 
 abbrev pub rows-jceks : ℕ
-rows-jceks = 376
+rows-jceks = 397
 
 abbrev pub rows-jffs2 : ℕ
-rows-jffs2 = 377
+rows-jffs2 = 398
 
 abbrev pub rows-jfr : ℕ
-rows-jfr = 378
+rows-jfr = 399
 
 abbrev pub rows-jimage : ℕ
-rows-jimage = 379
+rows-jimage = 400
 
 abbrev pub rows-jks : ℕ
-rows-jks = 380
+rows-jks = 401
 
 abbrev pub rows-jl : ℕ
-rows-jl = 381
+rows-jl = 402
 
 abbrev pub rows-jls : ℕ
-rows-jls = 382
+rows-jls = 403
 
 abbrev pub rows-jmod : ℕ
-rows-jmod = 383
+rows-jmod = 404
 
 abbrev pub rows-jng : ℕ
-rows-jng = 384
+rows-jng = 405
 
 abbrev pub rows-jnlp : ℕ
-rows-jnlp = 385
+rows-jnlp = 406
 
 abbrev pub rows-journal : ℕ
-rows-journal = 386
+rows-journal = 407
 
 abbrev pub rows-jp2 : ℕ
-rows-jp2 = 387
+rows-jp2 = 408
 
 abbrev pub rows-jpg : ℕ
-rows-jpg = 388
+rows-jpg = 409
 
 abbrev pub rows-jph : ℕ
-rows-jph = 389
+rows-jph = 410
 
 abbrev pub rows-jph-jpm-jpx-mj2 : ℕ
-rows-jph-jpm-jpx-mj2 = 390
+rows-jph-jpm-jpx-mj2 = 411
 
 abbrev pub rows-jpm : ℕ
-rows-jpm = 391
+rows-jpm = 412
 
 abbrev pub rows-jpx : ℕ
-rows-jpx = 392
+rows-jpx = 413
 
 abbrev pub rows-json : ℕ
-rows-json = 393
+rows-json = 414
 
 abbrev pub rows-json-ndjson-txt : ℕ
-rows-json-ndjson-txt = 394
+rows-json-ndjson-txt = 415
 
 abbrev pub rows-json-plist-txt-xml : ℕ
-rows-json-plist-txt-xml = 395
+rows-json-plist-txt-xml = 416
 
 abbrev pub rows-json-sh-txt : ℕ
-rows-json-sh-txt = 396
+rows-json-sh-txt = 417
 
 abbrev pub rows-json-txt : ℕ
-rows-json-txt = 397
+rows-json-txt = 418
 
 abbrev pub rows-jsonlz4 : ℕ
-rows-jsonlz4 = 398
+rows-jsonlz4 = 419
 
 abbrev pub rows-jxl : ℕ
-rows-jxl = 399
+rows-jxl = 420
 
 abbrev pub rows-jxr : ℕ
-rows-jxr = 400
+rows-jxr = 421
 
 abbrev pub rows-karbon : ℕ
-rows-karbon = 401
+rows-karbon = 422
 
 abbrev pub rows-kate-oga-ogm-ogv-ogx-opus-spx-vorbis : ℕ
-rows-kate-oga-ogm-ogv-ogx-opus-spx-vorbis = 402
+rows-kate-oga-ogm-ogv-ogx-opus-spx-vorbis = 423
 
 abbrev pub rows-kbx : ℕ
-rows-kbx = 403
+rows-kbx = 424
 
 abbrev pub rows-kdb : ℕ
-rows-kdb = 404
+rows-kdb = 425
 
 abbrev pub rows-kdbx : ℕ
-rows-kdbx = 405
+rows-kdbx = 426
 
 abbrev pub rows-kdump : ℕ
-rows-kdump = 406
+rows-kdump = 427
 
 abbrev pub rows-kfo : ℕ
-rows-kfo = 407
+rows-kfo = 428
 
 abbrev pub rows-kil : ℕ
-rows-kil = 408
+rows-kil = 429
 
 abbrev pub rows-kml : ℕ
-rows-kml = 409
+rows-kml = 430
 
 abbrev pub rows-kmz : ℕ
-rows-kmz = 410
+rows-kmz = 431
 
 abbrev pub rows-kon : ℕ
-rows-kon = 411
+rows-kon = 432
 
 abbrev pub rows-kpr : ℕ
-rows-kpr = 412
+rows-kpr = 433
 
 abbrev pub rows-kra : ℕ
-rows-kra = 413
+rows-kra = 434
 
 abbrev pub rows-ksp : ℕ
-rows-ksp = 414
+rows-ksp = 435
 
 abbrev pub rows-ktx : ℕ
-rows-ktx = 415
+rows-ktx = 436
 
 abbrev pub rows-ktx2 : ℕ
-rows-ktx2 = 416
+rows-ktx2 = 437
 
 abbrev pub rows-kwaj : ℕ
-rows-kwaj = 417
+rows-kwaj = 438
 
 abbrev pub rows-kwd : ℕ
-rows-kwd = 418
+rows-kwd = 439
+
+abbrev pub rows-la : ℕ
+rows-la = 440
 
 abbrev pub rows-las : ℕ
-rows-las = 419
+rows-las = 441
 
 abbrev pub rows-laz : ℕ
-rows-laz = 420
+rows-laz = 442
 
 abbrev pub rows-ldcache : ℕ
-rows-ldcache = 421
+rows-ldcache = 443
+
+abbrev pub rows-ldif : ℕ
+rows-ldif = 444
 
 abbrev pub rows-ldml : ℕ
-rows-ldml = 422
+rows-ldml = 445
 
 abbrev pub rows-lfp : ℕ
-rows-lfp = 423
+rows-lfp = 446
 
 abbrev pub rows-lingts : ℕ
-rows-lingts = 424
+rows-lingts = 447
 
 abbrev pub rows-lisp : ℕ
-rows-lisp = 425
+rows-lisp = 448
 
 abbrev pub rows-lit : ℕ
-rows-lit = 426
+rows-lit = 449
 
 abbrev pub rows-ll : ℕ
-rows-ll = 427
+rows-ll = 450
 
 abbrev pub rows-lmdb : ℕ
-rows-lmdb = 428
+rows-lmdb = 451
 
 abbrev pub rows-lnk : ℕ
-rows-lnk = 429
+rows-lnk = 452
 
 abbrev pub rows-lnx : ℕ
-rows-lnx = 430
+rows-lnx = 453
 
 abbrev pub rows-locarch : ℕ
-rows-locarch = 431
+rows-locarch = 454
 
 abbrev pub rows-locate : ℕ
-rows-locate = 432
+rows-locate = 455
 
 abbrev pub rows-lrf : ℕ
-rows-lrf = 433
+rows-lrf = 456
 
 abbrev pub rows-lrz : ℕ
-rows-lrz = 434
+rows-lrz = 457
 
 abbrev pub rows-lss : ℕ
-rows-lss = 435
+rows-lss = 458
 
 abbrev pub rows-lua : ℕ
-rows-lua = 436
+rows-lua = 459
 
 abbrev pub rows-lua-sh-txt : ℕ
-rows-lua-sh-txt = 437
+rows-lua-sh-txt = 460
 
 abbrev pub rows-luac : ℕ
-rows-luac = 438
+rows-luac = 461
 
 abbrev pub rows-luks : ℕ
-rows-luks = 439
+rows-luks = 462
 
 abbrev pub rows-lwo : ℕ
-rows-lwo = 440
+rows-lwo = 463
 
 abbrev pub rows-lwp : ℕ
-rows-lwp = 441
+rows-lwp = 464
+
+abbrev pub rows-ly : ℕ
+rows-ly = 465
 
 abbrev pub rows-lyx : ℕ
-rows-lyx = 442
+rows-lyx = 466
 
 abbrev pub rows-lz : ℕ
-rows-lz = 443
+rows-lz = 467
 
 abbrev pub rows-lz4 : ℕ
-rows-lz4 = 444
+rows-lz4 = 468
 
 abbrev pub rows-lzfse : ℕ
-rows-lzfse = 445
+rows-lzfse = 469
 
 abbrev pub rows-lzh : ℕ
-rows-lzh = 446
+rows-lzh = 470
 
 abbrev pub rows-lzma : ℕ
-rows-lzma = 447
+rows-lzma = 471
 
 abbrev pub rows-lzo : ℕ
-rows-lzo = 448
+rows-lzo = 472
 
 abbrev pub rows-m : ℕ
-rows-m = 449
+rows-m = 473
 
 abbrev pub rows-m3u8 : ℕ
-rows-m3u8 = 450
+rows-m3u8 = 474
 
 abbrev pub rows-m4 : ℕ
-rows-m4 = 451
+rows-m4 = 475
 
 abbrev pub rows-m4a : ℕ
-rows-m4a = 452
+rows-m4a = 476
 
 abbrev pub rows-m4a-mp4 : ℕ
-rows-m4a-mp4 = 453
+rows-m4a-mp4 = 477
 
 abbrev pub rows-m4b : ℕ
-rows-m4b = 454
+rows-m4b = 478
 
 abbrev pub rows-m4b-m4v-mp4 : ℕ
-rows-m4b-m4v-mp4 = 455
+rows-m4b-m4v-mp4 = 479
 
 abbrev pub rows-m4u : ℕ
-rows-m4u = 456
+rows-m4u = 480
 
 abbrev pub rows-m4v : ℕ
-rows-m4v = 457
+rows-m4v = 481
 
 abbrev pub rows-macbin : ℕ
-rows-macbin = 458
+rows-macbin = 482
 
 abbrev pub rows-mach : ℕ
-rows-mach = 459
+rows-mach = 483
 
 abbrev pub rows-mat : ℕ
-rows-mat = 460
+rows-mat = 484
 
 abbrev pub rows-maud : ℕ
-rows-maud = 461
+rows-maud = 485
 
 abbrev pub rows-mbm : ℕ
-rows-mbm = 462
+rows-mbm = 486
+
+abbrev pub rows-mbox : ℕ
+rows-mbox = 487
 
 abbrev pub rows-mbtiles : ℕ
-rows-mbtiles = 463
+rows-mbtiles = 488
 
 abbrev pub rows-md : ℕ
-rows-md = 464
+rows-md = 489
 
 abbrev pub rows-mdb : ℕ
-rows-mdb = 465
+rows-mdb = 490
 
 abbrev pub rows-mdi : ℕ
-rows-mdi = 466
+rows-mdi = 491
 
 abbrev pub rows-mdl : ℕ
-rows-mdl = 467
+rows-mdl = 492
 
 abbrev pub rows-med : ℕ
-rows-med = 468
+rows-med = 493
 
 abbrev pub rows-memdmp : ℕ
-rows-memdmp = 469
+rows-memdmp = 494
 
 abbrev pub rows-meta4 : ℕ
-rows-meta4 = 470
+rows-meta4 = 495
 
 abbrev pub rows-metalink : ℕ
-rows-metalink = 471
+rows-metalink = 496
 
 abbrev pub rows-mf : ℕ
-rows-mf = 472
+rows-mf = 497
 
 abbrev pub rows-midi : ℕ
-rows-midi = 473
+rows-midi = 498
 
 abbrev pub rows-mids : ℕ
-rows-mids = 474
+rows-mids = 499
 
 abbrev pub rows-mif : ℕ
-rows-mif = 475
+rows-mif = 500
 
 abbrev pub rows-miff : ℕ
-rows-miff = 476
+rows-miff = 501
 
 abbrev pub rows-minisig : ℕ
-rows-minisig = 477
+rows-minisig = 502
 
 abbrev pub rows-mj2 : ℕ
-rows-mj2 = 478
+rows-mj2 = 503
 
 abbrev pub rows-mk : ℕ
-rows-mk = 479
+rows-mk = 504
 
 abbrev pub rows-mkv : ℕ
-rows-mkv = 480
+rows-mkv = 505
 
 abbrev pub rows-ml : ℕ
-rows-ml = 481
+rows-ml = 506
 
 abbrev pub rows-mlp : ℕ
-rows-mlp = 482
+rows-mlp = 507
 
 abbrev pub rows-mm : ℕ
-rows-mm = 483
+rows-mm = 508
 
 abbrev pub rows-mmf : ℕ
-rows-mmf = 484
+rows-mmf = 509
 
 abbrev pub rows-mml : ℕ
-rows-mml = 485
+rows-mml = 510
 
 abbrev pub rows-mmm : ℕ
-rows-mmm = 486
+rows-mmm = 511
 
 abbrev pub rows-mng : ℕ
-rows-mng = 487
+rows-mng = 512
 
 abbrev pub rows-mo : ℕ
-rows-mo = 488
+rows-mo = 513
 
 abbrev pub rows-mo3 : ℕ
-rows-mo3 = 489
+rows-mo3 = 514
 
 abbrev pub rows-mobi : ℕ
-rows-mobi = 490
+rows-mobi = 515
 
 abbrev pub rows-mod : ℕ
-rows-mod = 491
+rows-mod = 516
+
+abbrev pub rows-model-obj : ℕ
+rows-model-obj = 517
 
 abbrev pub rows-model-step : ℕ
-rows-model-step = 492
+rows-model-step = 518
 
 abbrev pub rows-mol2 : ℕ
-rows-mol2 = 493
+rows-mol2 = 519
 
 abbrev pub rows-mov : ℕ
-rows-mov = 494
+rows-mov = 520
 
 abbrev pub rows-movie : ℕ
-rows-movie = 495
+rows-movie = 521
 
 abbrev pub rows-mp3 : ℕ
-rows-mp3 = 496
+rows-mp3 = 522
 
 abbrev pub rows-mp3-mp3old : ℕ
-rows-mp3-mp3old = 497
+rows-mp3-mp3old = 523
 
 abbrev pub rows-mp4 : ℕ
-rows-mp4 = 498
+rows-mp4 = 524
 
 abbrev pub rows-mpc : ℕ
-rows-mpc = 499
+rows-mpc = 525
 
 abbrev pub rows-mpd : ℕ
-rows-mpd = 500
+rows-mpd = 526
 
 abbrev pub rows-mpg : ℕ
-rows-mpg = 501
+rows-mpg = 527
 
 abbrev pub rows-mpp : ℕ
-rows-mpp = 502
+rows-mpp = 528
 
 abbrev pub rows-mpq : ℕ
-rows-mpq = 503
+rows-mpq = 529
+
+abbrev pub rows-mpsub : ℕ
+rows-mpsub = 530
 
 abbrev pub rows-mqv : ℕ
-rows-mqv = 504
+rows-mqv = 531
 
 abbrev pub rows-mrc : ℕ
-rows-mrc = 505
+rows-mrc = 532
 
 abbrev pub rows-mrw : ℕ
-rows-mrw = 506
+rows-mrw = 533
 
 abbrev pub rows-ms3d : ℕ
-rows-ms3d = 507
+rows-ms3d = 534
 
 abbrev pub rows-msa : ℕ
-rows-msa = 508
+rows-msa = 535
 
 abbrev pub rows-msbuild : ℕ
-rows-msbuild = 509
+rows-msbuild = 536
 
 abbrev pub rows-mscx : ℕ
-rows-mscx = 510
+rows-mscx = 537
 
 abbrev pub rows-mscz : ℕ
-rows-mscz = 511
+rows-mscz = 538
 
 abbrev pub rows-msg : ℕ
-rows-msg = 512
+rows-msg = 539
+
+abbrev pub rows-mtl : ℕ
+rows-mtl = 540
 
 abbrev pub rows-mtm : ℕ
-rows-mtm = 513
+rows-mtm = 541
 
 abbrev pub rows-mtn : ℕ
-rows-mtn = 514
+rows-mtn = 542
 
 abbrev pub rows-mup : ℕ
-rows-mup = 515
+rows-mup = 543
 
 abbrev pub rows-musicxml : ℕ
-rows-musicxml = 516
+rows-musicxml = 544
 
 abbrev pub rows-mve : ℕ
-rows-mve = 517
+rows-mve = 545
 
 abbrev pub rows-mvg : ℕ
-rows-mvg = 518
+rows-mvg = 546
 
 abbrev pub rows-mxf : ℕ
-rows-mxf = 519
+rows-mxf = 547
 
 abbrev pub rows-myi : ℕ
-rows-myi = 520
+rows-myi = 548
 
 abbrev pub rows-n64 : ℕ
-rows-n64 = 521
+rows-n64 = 549
 
 abbrev pub rows-nbold : ℕ
-rows-nbold = 522
+rows-nbold = 550
 
 abbrev pub rows-nc : ℕ
-rows-nc = 523
+rows-nc = 551
 
 abbrev pub rows-ncch : ℕ
-rows-ncch = 524
+rows-ncch = 552
 
 abbrev pub rows-ncx : ℕ
-rows-ncx = 525
+rows-ncx = 553
 
 abbrev pub rows-ndjson : ℕ
-rows-ndjson = 526
+rows-ndjson = 554
 
 abbrev pub rows-nds : ℕ
-rows-nds = 527
+rows-nds = 555
 
 abbrev pub rows-neko : ℕ
-rows-neko = 528
+rows-neko = 556
 
 abbrev pub rows-nes : ℕ
-rows-nes = 529
+rows-nes = 557
 
 abbrev pub rows-netmon : ℕ
-rows-netmon = 530
+rows-netmon = 558
+
+abbrev pub rows-news : ℕ
+rows-news = 559
 
 abbrev pub rows-nex : ℕ
-rows-nex = 531
+rows-nex = 560
 
 abbrev pub rows-nft : ℕ
-rows-nft = 532
+rows-nft = 561
 
 abbrev pub rows-ngc : ℕ
-rows-ngc = 533
+rows-ngc = 562
 
 abbrev pub rows-ngp : ℕ
-rows-ngp = 534
+rows-ngp = 563
 
 abbrev pub rows-niff : ℕ
-rows-niff = 535
+rows-niff = 564
 
 abbrev pub rows-nii : ℕ
-rows-nii = 536
+rows-nii = 565
 
 abbrev pub rows-npy : ℕ
-rows-npy = 537
+rows-npy = 566
 
 abbrev pub rows-nsc : ℕ
-rows-nsc = 538
+rows-nsc = 567
 
 abbrev pub rows-nsf : ℕ
-rows-nsf = 539
+rows-nsf = 568
 
 abbrev pub rows-nso : ℕ
-rows-nso = 540
+rows-nso = 569
 
 abbrev pub rows-nsv : ℕ
-rows-nsv = 541
+rows-nsv = 570
 
 abbrev pub rows-nut : ℕ
-rows-nut = 542
+rows-nut = 571
 
 abbrev pub rows-nzb : ℕ
-rows-nzb = 543
+rows-nzb = 572
 
 abbrev pub rows-o : ℕ
-rows-o = 544
+rows-o = 573
 
 abbrev pub rows-obj : ℕ
-rows-obj = 545
+rows-obj = 574
 
 abbrev pub rows-odb : ℕ
-rows-odb = 546
+rows-odb = 575
 
 abbrev pub rows-odc : ℕ
-rows-odc = 547
+rows-odc = 576
 
 abbrev pub rows-odf : ℕ
-rows-odf = 548
+rows-odf = 577
 
 abbrev pub rows-odg : ℕ
-rows-odg = 549
+rows-odg = 578
 
 abbrev pub rows-odg-zip : ℕ
-rows-odg-zip = 550
+rows-odg-zip = 579
 
 abbrev pub rows-odi : ℕ
-rows-odi = 551
+rows-odi = 580
 
 abbrev pub rows-odm : ℕ
-rows-odm = 552
+rows-odm = 581
 
 abbrev pub rows-odm-ott : ℕ
-rows-odm-ott = 553
+rows-odm-ott = 582
 
 abbrev pub rows-odp : ℕ
-rows-odp = 554
+rows-odp = 583
 
 abbrev pub rows-odp-zip : ℕ
-rows-odp-zip = 555
+rows-odp-zip = 584
 
 abbrev pub rows-ods : ℕ
-rows-ods = 556
+rows-ods = 585
 
 abbrev pub rows-ods-zip : ℕ
-rows-ods-zip = 557
+rows-ods-zip = 586
 
 abbrev pub rows-odt : ℕ
-rows-odt = 558
+rows-odt = 587
 
 abbrev pub rows-odt-zip : ℕ
-rows-odt-zip = 559
+rows-odt-zip = 588
 
 abbrev pub rows-oga : ℕ
-rows-oga = 560
+rows-oga = 589
 
 abbrev pub rows-ogg : ℕ
-rows-ogg = 561
+rows-ogg = 590
 
 abbrev pub rows-ogg-ogv : ℕ
-rows-ogg-ogv = 562
+rows-ogg-ogv = 591
 
 abbrev pub rows-ogm : ℕ
-rows-ogm = 563
+rows-ogm = 592
 
 abbrev pub rows-ogv : ℕ
-rows-ogv = 564
+rows-ogv = 593
 
 abbrev pub rows-okt : ℕ
-rows-okt = 565
+rows-okt = 594
 
 abbrev pub rows-omni : ℕ
-rows-omni = 566
+rows-omni = 595
 
 abbrev pub rows-openssh : ℕ
-rows-openssh = 567
+rows-openssh = 596
 
 abbrev pub rows-openssl : ℕ
-rows-openssl = 568
+rows-openssl = 597
 
 abbrev pub rows-opf : ℕ
-rows-opf = 569
+rows-opf = 598
 
 abbrev pub rows-opml : ℕ
-rows-opml = 570
+rows-opml = 599
 
 abbrev pub rows-opus : ℕ
-rows-opus = 571
+rows-opus = 600
 
 abbrev pub rows-ora : ℕ
-rows-ora = 572
+rows-ora = 601
 
 abbrev pub rows-orc : ℕ
-rows-orc = 573
+rows-orc = 602
 
 abbrev pub rows-orf : ℕ
-rows-orf = 574
+rows-orf = 603
 
 abbrev pub rows-os2hlp : ℕ
-rows-os2hlp = 575
+rows-os2hlp = 604
 
 abbrev pub rows-os2inf : ℕ
-rows-os2inf = 576
+rows-os2inf = 605
 
 abbrev pub rows-os2msg : ℕ
-rows-os2msg = 577
+rows-os2msg = 606
 
 abbrev pub rows-osm : ℕ
-rows-osm = 578
+rows-osm = 607
 
 abbrev pub rows-otf : ℕ
-rows-otf = 579
+rows-otf = 608
 
 abbrev pub rows-otg : ℕ
-rows-otg = 580
+rows-otg = 609
 
 abbrev pub rows-otp : ℕ
-rows-otp = 581
+rows-otp = 610
 
 abbrev pub rows-ots : ℕ
-rows-ots = 582
+rows-ots = 611
 
 abbrev pub rows-ott : ℕ
-rows-ott = 583
+rows-ott = 612
 
 abbrev pub rows-owx : ℕ
-rows-owx = 584
+rows-owx = 613
 
 abbrev pub rows-p12 : ℕ
-rows-p12 = 585
+rows-p12 = 614
 
 abbrev pub rows-p7b-p7c : ℕ
-rows-p7b-p7c = 586
+rows-p7b-p7c = 615
 
 abbrev pub rows-p8 : ℕ
-rows-p8 = 587
+rows-p8 = 616
 
 abbrev pub rows-pack : ℕ
-rows-pack = 588
+rows-pack = 617
 
 abbrev pub rows-pack200 : ℕ
-rows-pack200 = 589
+rows-pack200 = 618
 
 abbrev pub rows-paf : ℕ
-rows-paf = 590
+rows-paf = 619
 
 abbrev pub rows-pak : ℕ
-rows-pak = 591
+rows-pak = 620
 
 abbrev pub rows-pam : ℕ
-rows-pam = 592
+rows-pam = 621
 
 abbrev pub rows-par : ℕ
-rows-par = 593
+rows-par = 622
 
 abbrev pub rows-par2 : ℕ
-rows-par2 = 594
+rows-par2 = 623
 
 abbrev pub rows-parquet : ℕ
-rows-parquet = 595
+rows-parquet = 624
 
 abbrev pub rows-pat : ℕ
-rows-pat = 596
+rows-pat = 625
+
+abbrev pub rows-pc : ℕ
+rows-pc = 626
 
 abbrev pub rows-pcap : ℕ
-rows-pcap = 597
+rows-pcap = 627
 
 abbrev pub rows-pcapng : ℕ
-rows-pcapng = 598
+rows-pcapng = 628
+
+abbrev pub rows-pcd : ℕ
+rows-pcd = 629
 
 abbrev pub rows-pcf : ℕ
-rows-pcf = 599
+rows-pcf = 630
 
 abbrev pub rows-pch : ℕ
-rows-pch = 600
+rows-pch = 631
 
 abbrev pub rows-pcl : ℕ
-rows-pcl = 601
+rows-pcl = 632
 
 abbrev pub rows-pcx : ℕ
-rows-pcx = 602
+rows-pcx = 633
 
 abbrev pub rows-pdb : ℕ
-rows-pdb = 603
+rows-pdb = 634
 
 abbrev pub rows-pdbmol : ℕ
-rows-pdbmol = 604
+rows-pdbmol = 635
 
 abbrev pub rows-pdf : ℕ
-rows-pdf = 605
+rows-pdf = 636
 
 abbrev pub rows-pdn : ℕ
-rows-pdn = 606
+rows-pdn = 637
 
 abbrev pub rows-pef : ℕ
-rows-pef = 607
+rows-pef = 638
 
 abbrev pub rows-pem : ℕ
-rows-pem = 608
+rows-pem = 639
 
 abbrev pub rows-pf2 : ℕ
-rows-pf2 = 609
+rows-pf2 = 640
 
 abbrev pub rows-pfa-pfb : ℕ
-rows-pfa-pfb = 610
+rows-pfa-pfb = 641
 
 abbrev pub rows-pfb : ℕ
-rows-pfb = 611
+rows-pfb = 642
 
 abbrev pub rows-pfmap : ℕ
-rows-pfmap = 612
+rows-pfmap = 643
 
 abbrev pub rows-pgdump : ℕ
-rows-pgdump = 613
+rows-pgdump = 644
 
 abbrev pub rows-pgf : ℕ
-rows-pgf = 614
+rows-pgf = 645
 
 abbrev pub rows-pgn : ℕ
-rows-pgn = 615
+rows-pgn = 646
 
 abbrev pub rows-pgp : ℕ
-rows-pgp = 616
+rows-pgp = 647
 
 abbrev pub rows-pgp-pgpmsg : ℕ
-rows-pgp-pgpmsg = 617
+rows-pgp-pgpmsg = 648
 
 abbrev pub rows-pgpsig-sig : ℕ
-rows-pgpsig-sig = 618
+rows-pgpsig-sig = 649
 
 abbrev pub rows-php : ℕ
-rows-php = 619
+rows-php = 650
 
 abbrev pub rows-php-svg-txt-xhtml-xml : ℕ
-rows-php-svg-txt-xhtml-xml = 620
+rows-php-svg-txt-xhtml-xml = 651
 
 abbrev pub rows-pic : ℕ
-rows-pic = 621
+rows-pic = 652
 
 abbrev pub rows-pict : ℕ
-rows-pict = 622
+rows-pict = 653
 
 abbrev pub rows-pjl : ℕ
-rows-pjl = 623
+rows-pjl = 654
 
 abbrev pub rows-pkgstream : ℕ
-rows-pkgstream = 624
+rows-pkgstream = 655
 
 abbrev pub rows-pkl : ℕ
-rows-pkl = 625
+rows-pkl = 656
 
 abbrev pub rows-pkpass : ℕ
-rows-pkpass = 626
+rows-pkpass = 657
 
 abbrev pub rows-pl : ℕ
-rows-pl = 627
+rows-pl = 658
 
 abbrev pub rows-pla : ℕ
-rows-pla = 628
+rows-pla = 659
 
 abbrev pub rows-plist : ℕ
-rows-plist = 629
+rows-plist = 660
 
 abbrev pub rows-plist-txt-xml : ℕ
-rows-plist-txt-xml = 630
+rows-plist-txt-xml = 661
 
 abbrev pub rows-pls : ℕ
-rows-pls = 631
+rows-pls = 662
 
 abbrev pub rows-ply : ℕ
-rows-ply = 632
+rows-ply = 663
 
 abbrev pub rows-png : ℕ
-rows-png = 633
+rows-png = 664
 
 abbrev pub rows-pnm : ℕ
-rows-pnm = 634
+rows-pnm = 665
+
+abbrev pub rows-po : ℕ
+rows-po = 666
 
 abbrev pub rows-pom : ℕ
-rows-pom = 635
+rows-pom = 667
 
 abbrev pub rows-por : ℕ
-rows-por = 636
+rows-por = 668
 
 abbrev pub rows-ppd : ℕ
-rows-ppd = 637
+rows-ppd = 669
 
 abbrev pub rows-ppf : ℕ
-rows-ppf = 638
+rows-ppf = 670
 
 abbrev pub rows-ppk : ℕ
-rows-ppk = 639
+rows-ppk = 671
 
 abbrev pub rows-ppt : ℕ
-rows-ppt = 640
+rows-ppt = 672
 
 abbrev pub rows-pptm : ℕ
-rows-pptm = 641
+rows-pptm = 673
 
 abbrev pub rows-pptx : ℕ
-rows-pptx = 642
+rows-pptx = 674
 
 abbrev pub rows-ppu : ℕ
-rows-ppu = 643
+rows-ppu = 675
 
 abbrev pub rows-profdata : ℕ
-rows-profdata = 644
+rows-profdata = 676
 
 abbrev pub rows-profraw : ℕ
-rows-profraw = 645
+rows-profraw = 677
 
 abbrev pub rows-ps : ℕ
-rows-ps = 646
+rows-ps = 678
 
 abbrev pub rows-ps-sh-txt : ℕ
-rows-ps-sh-txt = 647
+rows-ps-sh-txt = 679
 
 abbrev pub rows-ps-txt : ℕ
-rows-ps-txt = 648
+rows-ps-txt = 680
 
 abbrev pub rows-ps1 : ℕ
-rows-ps1 = 649
+rows-ps1 = 681
 
 abbrev pub rows-psd : ℕ
-rows-psd = 650
+rows-psd = 682
 
 abbrev pub rows-psf : ℕ
-rows-psf = 651
+rows-psf = 683
 
 abbrev pub rows-psf1-psf2 : ℕ
-rows-psf1-psf2 = 652
+rows-psf1-psf2 = 684
 
 abbrev pub rows-psp : ℕ
-rows-psp = 653
+rows-psp = 685
 
 abbrev pub rows-pst : ℕ
-rows-pst = 654
+rows-pst = 686
 
 abbrev pub rows-psw : ℕ
-rows-psw = 655
+rows-psw = 687
 
 abbrev pub rows-psx : ℕ
-rows-psx = 656
+rows-psx = 688
 
 abbrev pub rows-ptm : ℕ
-rows-ptm = 657
+rows-ptm = 689
 
 abbrev pub rows-pub : ℕ
-rows-pub = 658
+rows-pub = 690
 
 abbrev pub rows-puml : ℕ
-rows-puml = 659
+rows-puml = 691
 
 abbrev pub rows-pvf : ℕ
-rows-pvf = 660
+rows-pvf = 692
 
 abbrev pub rows-pvr : ℕ
-rows-pvr = 661
+rows-pvr = 693
 
 abbrev pub rows-pwg : ℕ
-rows-pwg = 662
+rows-pwg = 694
 
 abbrev pub rows-py : ℕ
-rows-py = 663
+rows-py = 695
 
 abbrev pub rows-py-sh-zip : ℕ
-rows-py-sh-zip = 664
+rows-py-sh-zip = 696
 
 abbrev pub rows-pyc : ℕ
-rows-pyc = 665
+rows-pyc = 697
 
 abbrev pub rows-pysu : ℕ
-rows-pysu = 666
+rows-pysu = 698
 
 abbrev pub rows-qcow2 : ℕ
-rows-qcow2 = 667
+rows-qcow2 = 699
 
 abbrev pub rows-qed : ℕ
-rows-qed = 668
+rows-qed = 700
 
 abbrev pub rows-qgz : ℕ
-rows-qgz = 669
+rows-qgz = 701
 
 abbrev pub rows-qml : ℕ
-rows-qml = 670
+rows-qml = 702
 
 abbrev pub rows-qoi : ℕ
-rows-qoi = 671
+rows-qoi = 703
 
 abbrev pub rows-qp : ℕ
-rows-qp = 672
+rows-qp = 704
 
 abbrev pub rows-qrc : ℕ
-rows-qrc = 673
+rows-qrc = 705
 
 abbrev pub rows-qti : ℕ
-rows-qti = 674
+rows-qti = 706
 
 abbrev pub rows-qtif : ℕ
-rows-qtif = 675
+rows-qtif = 707
 
 abbrev pub rows-qtl : ℕ
-rows-qtl = 676
+rows-qtl = 708
 
 abbrev pub rows-r : ℕ
-rows-r = 677
+rows-r = 709
 
 abbrev pub rows-r3d : ℕ
-rows-r3d = 678
+rows-r3d = 710
 
 abbrev pub rows-ra : ℕ
-rows-ra = 679
+rows-ra = 711
 
 abbrev pub rows-raf : ℕ
-rows-raf = 680
+rows-raf = 712
 
 abbrev pub rows-raku : ℕ
-rows-raku = 681
+rows-raku = 713
 
 abbrev pub rows-raml : ℕ
-rows-raml = 682
+rows-raml = 714
 
 abbrev pub rows-rar : ℕ
-rows-rar = 683
+rows-rar = 715
 
 abbrev pub rows-ras : ℕ
-rows-ras = 684
+rows-ras = 716
 
 abbrev pub rows-rb : ℕ
-rows-rb = 685
+rows-rb = 717
 
 abbrev pub rows-rdata : ℕ
-rows-rdata = 686
+rows-rdata = 718
 
 abbrev pub rows-rdb : ℕ
-rows-rdb = 687
+rows-rdb = 719
 
 abbrev pub rows-rdf : ℕ
-rows-rdf = 688
+rows-rdf = 720
 
 abbrev pub rows-reg : ℕ
-rows-reg = 689
+rows-reg = 721
 
 abbrev pub rows-regf : ℕ
-rows-regf = 690
+rows-regf = 722
 
 abbrev pub rows-res : ℕ
-rows-res = 691
+rows-res = 723
 
 abbrev pub rows-rf64 : ℕ
-rows-rf64 = 692
+rows-rf64 = 724
 
 abbrev pub rows-rifx-wav : ℕ
-rows-rifx-wav = 693
+rows-rifx-wav = 725
 
 abbrev pub rows-rkt : ℕ
-rows-rkt = 694
+rows-rkt = 726
 
 abbrev pub rows-rm : ℕ
-rows-rm = 695
+rows-rm = 727
 
 abbrev pub rows-rmeta : ℕ
-rows-rmeta = 696
+rows-rmeta = 728
 
 abbrev pub rows-rmi : ℕ
-rows-rmi = 697
+rows-rmi = 729
 
 abbrev pub rows-rng : ℕ
-rows-rng = 698
+rows-rng = 730
 
 abbrev pub rows-roff : ℕ
-rows-roff = 699
+rows-roff = 731
 
 abbrev pub rows-romfs : ℕ
-rows-romfs = 700
+rows-romfs = 732
 
 abbrev pub rows-root : ℕ
-rows-root = 701
+rows-root = 733
 
 abbrev pub rows-roq : ℕ
-rows-roq = 702
+rows-roq = 734
 
 abbrev pub rows-rpm : ℕ
-rows-rpm = 703
+rows-rpm = 735
 
 abbrev pub rows-rq : ℕ
-rows-rq = 704
+rows-rq = 736
 
 abbrev pub rows-rrd : ℕ
-rows-rrd = 705
+rows-rrd = 737
 
 abbrev pub rows-rss : ℕ
-rows-rss = 706
+rows-rss = 738
 
 abbrev pub rows-rtf : ℕ
-rows-rtf = 707
+rows-rtf = 739
 
 abbrev pub rows-rvz : ℕ
-rows-rvz = 708
+rows-rvz = 740
 
 abbrev pub rows-rw2 : ℕ
-rows-rw2 = 709
+rows-rw2 = 741
 
 abbrev pub rows-rz : ℕ
-rows-rz = 710
+rows-rz = 742
 
 abbrev pub rows-s3m : ℕ
-rows-s3m = 711
+rows-s3m = 743
 
 abbrev pub rows-safetensors : ℕ
-rows-safetensors = 712
+rows-safetensors = 744
 
 abbrev pub rows-sam : ℕ
-rows-sam = 713
+rows-sam = 745
 
 abbrev pub rows-sami : ℕ
-rows-sami = 714
+rows-sami = 746
 
 abbrev pub rows-sap : ℕ
-rows-sap = 715
+rows-sap = 747
 
 abbrev pub rows-sar : ℕ
-rows-sar = 716
+rows-sar = 748
 
 abbrev pub rows-sav : ℕ
-rows-sav = 717
+rows-sav = 749
 
 abbrev pub rows-sbml : ℕ
-rows-sbml = 718
+rows-sbml = 750
 
 abbrev pub rows-scala : ℕ
-rows-scala = 719
+rows-scala = 751
 
 abbrev pub rows-scc : ℕ
-rows-scc = 720
+rows-scc = 752
 
 abbrev pub rows-scf : ℕ
-rows-scf = 721
+rows-scf = 753
 
 abbrev pub rows-sch : ℕ
-rows-sch = 722
+rows-sch = 754
 
 abbrev pub rows-scm : ℕ
-rows-scm = 723
+rows-scm = 755
 
 abbrev pub rows-scsyn : ℕ
-rows-scsyn = 724
+rows-scsyn = 756
 
 abbrev pub rows-sdb : ℕ
-rows-sdb = 725
+rows-sdb = 757
 
 abbrev pub rows-sdi : ℕ
-rows-sdi = 726
+rows-sdi = 758
 
 abbrev pub rows-sdp : ℕ
-rows-sdp = 727
+rows-sdp = 759
 
 abbrev pub rows-sds : ℕ
-rows-sds = 728
+rows-sds = 760
 
 abbrev pub rows-sdw : ℕ
-rows-sdw = 729
+rows-sdw = 761
 
 abbrev pub rows-sed : ℕ
-rows-sed = 730
+rows-sed = 762
 
 abbrev pub rows-sereal : ℕ
-rows-sereal = 731
+rows-sereal = 763
 
 abbrev pub rows-sf2 : ℕ
-rows-sf2 = 732
+rows-sf2 = 764
 
 abbrev pub rows-sfd : ℕ
-rows-sfd = 733
+rows-sfd = 765
 
 abbrev pub rows-sgf : ℕ
-rows-sgf = 734
+rows-sgf = 766
 
 abbrev pub rows-sgi : ℕ
-rows-sgi = 735
+rows-sgi = 767
 
 abbrev pub rows-sh : ℕ
-rows-sh = 736
+rows-sh = 768
 
 abbrev pub rows-sh-txt : ℕ
-rows-sh-txt = 737
+rows-sh-txt = 769
 
 abbrev pub rows-shn : ℕ
-rows-shn = 738
+rows-shn = 770
 
 abbrev pub rows-shp : ℕ
-rows-shp = 739
+rows-shp = 771
 
 abbrev pub rows-shw : ℕ
-rows-shw = 740
+rows-shw = 772
 
 abbrev pub rows-shx : ℕ
-rows-shx = 741
+rows-shx = 773
 
 abbrev pub rows-sid : ℕ
-rows-sid = 742
+rows-sid = 774
 
 abbrev pub rows-sig : ℕ
-rows-sig = 743
+rows-sig = 775
 
 abbrev pub rows-simg : ℕ
-rows-simg = 744
+rows-simg = 776
 
 abbrev pub rows-sis : ℕ
-rows-sis = 745
+rows-sis = 777
 
 abbrev pub rows-sisx : ℕ
-rows-sisx = 746
+rows-sisx = 778
 
 abbrev pub rows-sit : ℕ
-rows-sit = 747
+rows-sit = 779
 
 abbrev pub rows-sk : ℕ
-rows-sk = 748
+rows-sk = 780
 
 abbrev pub rows-sla : ℕ
-rows-sla = 749
+rows-sla = 781
 
 abbrev pub rows-slk : ℕ
-rows-slk = 750
+rows-slk = 782
 
 abbrev pub rows-smil : ℕ
-rows-smil = 751
+rows-smil = 783
 
 abbrev pub rows-smk : ℕ
-rows-smk = 752
+rows-smk = 784
 
 abbrev pub rows-smp : ℕ
-rows-smp = 753
+rows-smp = 785
 
 abbrev pub rows-snoop : ℕ
-rows-snoop = 754
+rows-snoop = 786
 
 abbrev pub rows-so : ℕ
-rows-so = 755
+rows-so = 787
 
 abbrev pub rows-spc : ℕ
-rows-spc = 756
+rows-spc = 788
 
 abbrev pub rows-spd : ℕ
-rows-spd = 757
+rows-spd = 789
+
+abbrev pub rows-spec : ℕ
+rows-spec = 790
 
 abbrev pub rows-sph : ℕ
-rows-sph = 758
+rows-sph = 791
 
 abbrev pub rows-spv : ℕ
-rows-spv = 759
+rows-spv = 792
 
 abbrev pub rows-spx : ℕ
-rows-spx = 760
+rows-spx = 793
 
 abbrev pub rows-sqlite : ℕ
-rows-sqlite = 761
+rows-sqlite = 794
 
 abbrev pub rows-sqlite2 : ℕ
-rows-sqlite2 = 762
+rows-sqlite2 = 795
 
 abbrev pub rows-squashfs : ℕ
-rows-squashfs = 763
+rows-squashfs = 796
 
 abbrev pub rows-srpm : ℕ
-rows-srpm = 764
+rows-srpm = 797
 
 abbrev pub rows-srt : ℕ
-rows-srt = 765
+rows-srt = 798
 
 abbrev pub rows-srx : ℕ
-rows-srx = 766
+rows-srx = 799
 
 abbrev pub rows-ssa : ℕ
-rows-ssa = 767
+rows-ssa = 800
 
 abbrev pub rows-ssh1 : ℕ
-rows-ssh1 = 768
+rows-ssh1 = 801
 
 abbrev pub rows-ssh2pub-sshpub : ℕ
-rows-ssh2pub-sshpub = 769
+rows-ssh2pub-sshpub = 802
 
 abbrev pub rows-stex : ℕ
-rows-stex = 770
+rows-stex = 803
 
 abbrev pub rows-stl : ℕ
-rows-stl = 771
+rows-stl = 804
 
 abbrev pub rows-stm : ℕ
-rows-stm = 772
+rows-stm = 805
 
 abbrev pub rows-subviewer : ℕ
-rows-subviewer = 773
+rows-subviewer = 806
 
 abbrev pub rows-svg : ℕ
-rows-svg = 774
+rows-svg = 807
 
 abbrev pub rows-svm : ℕ
-rows-svm = 775
+rows-svm = 808
 
 abbrev pub rows-svndump : ℕ
-rows-svndump = 776
+rows-svndump = 809
 
 abbrev pub rows-swf : ℕ
-rows-swf = 777
+rows-swf = 810
 
 abbrev pub rows-swf-swfz : ℕ
-rows-swf-swfz = 778
+rows-swf-swfz = 811
 
 abbrev pub rows-sxc : ℕ
-rows-sxc = 779
+rows-sxc = 812
 
 abbrev pub rows-sxd : ℕ
-rows-sxd = 780
+rows-sxd = 813
 
 abbrev pub rows-sxi : ℕ
-rows-sxi = 781
+rows-sxi = 814
 
 abbrev pub rows-sxm : ℕ
-rows-sxm = 782
+rows-sxm = 815
 
 abbrev pub rows-sxw : ℕ
-rows-sxw = 783
+rows-sxw = 816
 
 abbrev pub rows-syzygy : ℕ
-rows-syzygy = 784
+rows-syzygy = 817
 
 abbrev pub rows-sz : ℕ
-rows-sz = 785
+rows-sz = 818
 
 abbrev pub rows-szdd : ℕ
-rows-szdd = 786
+rows-szdd = 819
 
 abbrev pub rows-szx : ℕ
-rows-szx = 787
+rows-szx = 820
 
 abbrev pub rows-t2t : ℕ
-rows-t2t = 788
+rows-t2t = 821
 
 abbrev pub rows-t602 : ℕ
-rows-t602 = 789
+rows-t602 = 822
 
 abbrev pub rows-tar : ℕ
-rows-tar = 790
+rows-tar = 823
 
 abbrev pub rows-tbi : ℕ
-rows-tbi = 791
+rows-tbi = 824
 
 abbrev pub rows-tcb : ℕ
-rows-tcb = 792
+rows-tcb = 825
 
 abbrev pub rows-tcf : ℕ
-rows-tcf = 793
+rows-tcf = 826
 
 abbrev pub rows-tch : ℕ
-rows-tch = 794
+rows-tch = 827
 
 abbrev pub rows-tcl : ℕ
-rows-tcl = 795
+rows-tcl = 828
 
 abbrev pub rows-tct : ℕ
-rows-tct = 796
+rows-tct = 829
 
 abbrev pub rows-tdb : ℕ
-rows-tdb = 797
+rows-tdb = 830
 
 abbrev pub rows-tei : ℕ
-rows-tei = 798
+rows-tei = 831
 
 abbrev pub rows-terminfo : ℕ
-rows-terminfo = 799
+rows-terminfo = 832
+
+abbrev pub rows-tex : ℕ
+rows-tex = 833
 
 abbrev pub rows-texi : ℕ
-rows-texi = 800
+rows-texi = 834
 
 abbrev pub rows-texlua : ℕ
-rows-texlua = 801
+rows-texlua = 835
 
 abbrev pub rows-tga : ℕ
-rows-tga = 802
+rows-tga = 836
 
 abbrev pub rows-tgif : ℕ
-rows-tgif = 803
+rows-tgif = 837
 
 abbrev pub rows-thomsap : ℕ
-rows-thomsap = 804
+rows-thomsap = 838
 
 abbrev pub rows-tib : ℕ
-rows-tib = 805
+rows-tib = 839
 
 abbrev pub rows-tif : ℕ
-rows-tif = 806
+rows-tif = 840
 
 abbrev pub rows-tnef : ℕ
-rows-tnef = 807
+rows-tnef = 841
+
+abbrev pub rows-toc : ℕ
+rows-toc = 842
 
 abbrev pub rows-torrent : ℕ
-rows-torrent = 808
+rows-torrent = 843
 
 abbrev pub rows-trd : ℕ
-rows-trd = 809
+rows-trd = 844
 
 abbrev pub rows-tres : ℕ
-rows-tres = 810
+rows-tres = 845
 
 abbrev pub rows-trustdb : ℕ
-rows-trustdb = 811
+rows-trustdb = 846
 
 abbrev pub rows-ts : ℕ
-rows-ts = 812
+rows-ts = 847
 
 abbrev pub rows-tscn : ℕ
-rows-tscn = 813
+rows-tscn = 848
 
 abbrev pub rows-tta : ℕ
-rows-tta = 814
+rows-tta = 849
 
 abbrev pub rows-ttc : ℕ
-rows-ttc = 815
+rows-ttc = 850
 
 abbrev pub rows-ttf : ℕ
-rows-ttf = 816
+rows-ttf = 851
+
+abbrev pub rows-ttl : ℕ
+rows-ttl = 852
 
 abbrev pub rows-ttml : ℕ
-rows-ttml = 817
+rows-ttml = 853
 
 abbrev pub rows-ttx : ℕ
-rows-ttx = 818
+rows-ttx = 854
 
 abbrev pub rows-txt : ℕ
-rows-txt = 819
+rows-txt = 855
 
 abbrev pub rows-txt-xml : ℕ
-rows-txt-xml = 820
+rows-txt-xml = 856
 
 abbrev pub rows-txt-yaml : ℕ
-rows-txt-yaml = 821
+rows-txt-yaml = 857
 
 abbrev pub rows-txw : ℕ
-rows-txw = 822
+rows-txw = 858
 
 abbrev pub rows-typelib : ℕ
-rows-typelib = 823
+rows-typelib = 859
 
 abbrev pub rows-tzif : ℕ
-rows-tzif = 824
+rows-tzif = 860
 
 abbrev pub rows-tzx : ℕ
-rows-tzx = 825
+rows-tzx = 861
 
 abbrev pub rows-ubi : ℕ
-rows-ubi = 826
+rows-ubi = 862
 
 abbrev pub rows-ubifs : ℕ
-rows-ubifs = 827
+rows-ubifs = 863
 
 abbrev pub rows-uf2 : ℕ
-rows-uf2 = 828
+rows-uf2 = 864
 
 abbrev pub rows-ui : ℕ
-rows-ui = 829
+rows-ui = 865
 
 abbrev pub rows-uimage : ℕ
-rows-uimage = 830
+rows-uimage = 866
 
 abbrev pub rows-ult : ℕ
-rows-ult = 831
+rows-ult = 867
 
 abbrev pub rows-ulx : ℕ
-rows-ulx = 832
+rows-ulx = 868
 
 abbrev pub rows-umx : ℕ
-rows-umx = 833
+rows-umx = 869
+
+abbrev pub rows-unit : ℕ
+rows-unit = 870
 
 abbrev pub rows-ups : ℕ
-rows-ups = 834
+rows-ups = 871
 
 abbrev pub rows-url : ℕ
-rows-url = 835
+rows-url = 872
 
 abbrev pub rows-usda : ℕ
-rows-usda = 836
+rows-usda = 873
 
 abbrev pub rows-usdc : ℕ
-rows-usdc = 837
+rows-usdc = 874
 
 abbrev pub rows-uu : ℕ
-rows-uu = 838
+rows-uu = 875
 
 abbrev pub rows-vcdiff : ℕ
-rows-vcdiff = 839
+rows-vcdiff = 876
 
 abbrev pub rows-vcf : ℕ
-rows-vcf = 840
+rows-vcf = 877
 
 abbrev pub rows-vcfg : ℕ
-rows-vcfg = 841
+rows-vcfg = 878
 
 abbrev pub rows-vdex : ℕ
-rows-vdex = 842
+rows-vdex = 879
 
 abbrev pub rows-vdi : ℕ
-rows-vdi = 843
+rows-vdi = 880
 
 abbrev pub rows-vdr : ℕ
-rows-vdr = 844
+rows-vdr = 881
 
 abbrev pub rows-vgm : ℕ
-rows-vgm = 845
+rows-vgm = 882
 
 abbrev pub rows-vhd : ℕ
-rows-vhd = 846
+rows-vhd = 883
 
 abbrev pub rows-vhdx : ℕ
-rows-vhdx = 847
+rows-vhdx = 884
 
 abbrev pub rows-vips : ℕ
-rows-vips = 848
+rows-vips = 885
 
 abbrev pub rows-vmdk-vmdkcow : ℕ
-rows-vmdk-vmdkcow = 849
+rows-vmdk-vmdkcow = 886
 
 abbrev pub rows-vnt : ℕ
-rows-vnt = 850
+rows-vnt = 887
 
 abbrev pub rows-voc : ℕ
-rows-voc = 851
+rows-voc = 888
 
 abbrev pub rows-vpk : ℕ
-rows-vpk = 852
+rows-vpk = 889
+
+abbrev pub rows-vpnpcf : ℕ
+rows-vpnpcf = 890
 
 abbrev pub rows-vsd : ℕ
-rows-vsd = 853
+rows-vsd = 891
 
 abbrev pub rows-vsdx : ℕ
-rows-vsdx = 854
+rows-vsdx = 892
 
 abbrev pub rows-vsdx-zip : ℕ
-rows-vsdx-zip = 855
+rows-vsdx-zip = 893
 
 abbrev pub rows-vtf : ℕ
-rows-vtf = 856
+rows-vtf = 894
 
 abbrev pub rows-vtt : ℕ
-rows-vtt = 857
+rows-vtt = 895
 
 abbrev pub rows-w64 : ℕ
-rows-w64 = 858
+rows-w64 = 896
 
 abbrev pub rows-wad : ℕ
-rows-wad = 859
+rows-wad = 897
 
 abbrev pub rows-warc : ℕ
-rows-warc = 860
+rows-warc = 898
 
 abbrev pub rows-wasm-wasmc : ℕ
-rows-wasm-wasmc = 861
+rows-wasm-wasmc = 899
 
 abbrev pub rows-wav : ℕ
-rows-wav = 862
+rows-wav = 900
 
 abbrev pub rows-wbfs : ℕ
-rows-wbfs = 863
+rows-wbfs = 901
 
 abbrev pub rows-webm : ℕ
-rows-webm = 864
+rows-webm = 902
 
 abbrev pub rows-webp : ℕ
-rows-webp = 865
+rows-webp = 903
 
 abbrev pub rows-wiiwad : ℕ
-rows-wiiwad = 866
+rows-wiiwad = 904
 
 abbrev pub rows-wim : ℕ
-rows-wim = 867
+rows-wim = 905
 
 abbrev pub rows-wk1 : ℕ
-rows-wk1 = 868
+rows-wk1 = 906
 
 abbrev pub rows-wmf : ℕ
-rows-wmf = 869
+rows-wmf = 907
 
 abbrev pub rows-wmv : ℕ
-rows-wmv = 870
+rows-wmv = 908
 
 abbrev pub rows-woff : ℕ
-rows-woff = 871
+rows-woff = 909
 
 abbrev pub rows-woff2 : ℕ
-rows-woff2 = 872
+rows-woff2 = 910
 
 abbrev pub rows-wpd : ℕ
-rows-wpd = 873
+rows-wpd = 911
 
 abbrev pub rows-wpg : ℕ
-rows-wpg = 874
+rows-wpg = 912
 
 abbrev pub rows-wpl : ℕ
-rows-wpl = 875
+rows-wpl = 913
 
 abbrev pub rows-wpm : ℕ
-rows-wpm = 876
+rows-wpm = 914
 
 abbrev pub rows-wps : ℕ
-rows-wps = 877
+rows-wps = 915
 
 abbrev pub rows-wreg : ℕ
-rows-wreg = 878
+rows-wreg = 916
 
 abbrev pub rows-wri : ℕ
-rows-wri = 879
+rows-wri = 917
 
 abbrev pub rows-wrl : ℕ
-rows-wrl = 880
+rows-wrl = 918
 
 abbrev pub rows-wsdl : ℕ
-rows-wsdl = 881
+rows-wsdl = 919
 
 abbrev pub rows-wtv : ℕ
-rows-wtv = 882
+rows-wtv = 920
 
 abbrev pub rows-wv : ℕ
-rows-wv = 883
+rows-wv = 921
 
 abbrev pub rows-wve : ℕ
-rows-wve = 884
+rows-wve = 922
 
 abbrev pub rows-x3d : ℕ
-rows-x3d = 885
+rows-x3d = 923
 
 abbrev pub rows-x3dv : ℕ
-rows-x3dv = 886
+rows-x3dv = 924
 
 abbrev pub rows-x3f : ℕ
-rows-x3f = 887
+rows-x3f = 925
 
 abbrev pub rows-xap : ℕ
-rows-xap = 888
+rows-xap = 926
 
 abbrev pub rows-xar : ℕ
-rows-xar = 889
+rows-xar = 927
 
 abbrev pub rows-xbe : ℕ
-rows-xbe = 890
+rows-xbe = 928
 
 abbrev pub rows-xbel : ℕ
-rows-xbel = 891
+rows-xbel = 929
+
+abbrev pub rows-xbm : ℕ
+rows-xbm = 930
 
 abbrev pub rows-xbt : ℕ
-rows-xbt = 892
+rows-xbt = 931
 
 abbrev pub rows-xcf : ℕ
-rows-xcf = 893
+rows-xcf = 932
 
 abbrev pub rows-xex : ℕ
-rows-xex = 894
+rows-xex = 933
 
 abbrev pub rows-xhtml : ℕ
-rows-xhtml = 895
+rows-xhtml = 934
 
 abbrev pub rows-xi : ℕ
-rows-xi = 896
+rows-xi = 935
 
 abbrev pub rows-xib : ℕ
-rows-xib = 897
+rows-xib = 936
 
 abbrev pub rows-xisf : ℕ
-rows-xisf = 898
+rows-xisf = 937
 
 abbrev pub rows-xliff : ℕ
-rows-xliff = 899
+rows-xliff = 938
 
 abbrev pub rows-xls : ℕ
-rows-xls = 900
+rows-xls = 939
 
 abbrev pub rows-xlsb : ℕ
-rows-xlsb = 901
+rows-xlsb = 940
 
 abbrev pub rows-xlsm : ℕ
-rows-xlsm = 902
+rows-xlsm = 941
 
 abbrev pub rows-xlsx : ℕ
-rows-xlsx = 903
+rows-xlsx = 942
 
 abbrev pub rows-xm : ℕ
-rows-xm = 904
+rows-xm = 943
 
 abbrev pub rows-xmcd : ℕ
-rows-xmcd = 905
+rows-xmcd = 944
 
 abbrev pub rows-xmf : ℕ
-rows-xmf = 906
+rows-xmf = 945
 
 abbrev pub rows-xmi : ℕ
-rows-xmi = 907
+rows-xmi = 946
 
 abbrev pub rows-xml : ℕ
-rows-xml = 908
+rows-xml = 947
 
 abbrev pub rows-xmp : ℕ
-rows-xmp = 909
+rows-xmp = 948
 
 abbrev pub rows-xpm : ℕ
-rows-xpm = 910
+rows-xpm = 949
 
 abbrev pub rows-xpm-xpm2 : ℕ
-rows-xpm-xpm2 = 911
+rows-xpm-xpm2 = 950
 
 abbrev pub rows-xsd : ℕ
-rows-xsd = 912
+rows-xsd = 951
 
 abbrev pub rows-xslt : ℕ
-rows-xslt = 913
+rows-xslt = 952
 
 abbrev pub rows-xspf : ℕ
-rows-xspf = 914
+rows-xspf = 953
 
 abbrev pub rows-xwd : ℕ
-rows-xwd = 915
+rows-xwd = 954
 
 abbrev pub rows-xz : ℕ
-rows-xz = 916
+rows-xz = 955
 
 abbrev pub rows-y4m : ℕ
-rows-y4m = 917
+rows-y4m = 956
 
 abbrev pub rows-yaml : ℕ
-rows-yaml = 918
+rows-yaml = 957
 
 abbrev pub rows-zck : ℕ
-rows-zck = 919
+rows-zck = 958
 
 abbrev pub rows-zim : ℕ
-rows-zim = 920
+rows-zim = 959
 
 abbrev pub rows-zimage : ℕ
-rows-zimage = 921
+rows-zimage = 960
 
 abbrev pub rows-zip : ℕ
-rows-zip = 922
+rows-zip = 961
 
 abbrev pub rows-zoo : ℕ
-rows-zoo = 923
+rows-zoo = 962
 
 abbrev pub rows-zpaq : ℕ
-rows-zpaq = 924
+rows-zpaq = 963
 
 abbrev pub rows-zst : ℕ
-rows-zst = 925
+rows-zst = 964
 
 abbrev pub rows-zst-zstold : ℕ
-rows-zst-zstold = 926
+rows-zst-zstold = 965
 
 unfoldable pub lead_lists : List (List (List ℕ))
 lead_lists =
@@ -2874,6 +2991,7 @@ sets_0 =
     ∷ (codes "ag" ∷ [])
     ∷ (codes "age" ∷ [])
     ∷ (codes "age" ∷ codes "asc" ∷ codes "cms" ∷ codes "crl" ∷ codes "application/x-pem-key" ∷ codes "csr" ∷ codes "openssh" ∷ codes "p7c" ∷ codes "param" ∷ codes "pgp" ∷ codes "pubkey" ∷ codes "sig" ∷ codes "sshsig" ∷ [])
+    ∷ (codes "agekey" ∷ [])
     ∷ (codes "aifc" ∷ [])
     ∷ (codes "aiff" ∷ [])
     ∷ (codes "alz" ∷ [])
@@ -2940,6 +3058,7 @@ sets_0 =
     ∷ (codes "beam" ∷ [])
     ∷ (codes "bfstm" ∷ [])
     ∷ (codes "bgzf" ∷ codes "karbon" ∷ codes "kil" ∷ codes "kpr" ∷ codes "ksp" ∷ codes "kwd" ∷ [])
+    ∷ (codes "bib" ∷ [])
     ∷ (codes "biff" ∷ codes "xls" ∷ [])
     ∷ (codes "bik" ∷ [])
     ∷ (codes "blb" ∷ [])
@@ -2967,13 +3086,14 @@ sets_0 =
     ∷ (codes "cbor" ∷ [])
     ∷ (codes "cci" ∷ [])
     ∷ (codes "ccmx" ∷ [])
-    ∷ (codes "cdf" ∷ [])
-    ∷ (codes "cdr" ∷ [])
     ∷ []
 
 unfoldable pub sets_1 : List (List (List ℕ))
 sets_1 =
-    (codes "cdxa" ∷ [])
+    (codes "cdf" ∷ [])
+    ∷ (codes "cdr" ∷ [])
+    ∷ (codes "cdx" ∷ [])
+    ∷ (codes "cdxa" ∷ [])
     ∷ (codes "cer" ∷ [])
     ∷ (codes "cer" ∷ codes "crl" ∷ [])
     ∷ (codes "cer" ∷ codes "p10" ∷ codes "p8" ∷ codes "pkipath" ∷ [])
@@ -3010,6 +3130,7 @@ sets_1 =
     ∷ (codes "cso" ∷ [])
     ∷ (codes "csr" ∷ codes "p10" ∷ [])
     ∷ (codes "cubin" ∷ [])
+    ∷ (codes "cue" ∷ [])
     ∷ (codes "cupsraster" ∷ [])
     ∷ (codes "cur" ∷ [])
     ∷ (codes "cwk" ∷ [])
@@ -3021,6 +3142,7 @@ sets_1 =
     ∷ (codes "dbk" ∷ [])
     ∷ (codes "dbm" ∷ [])
     ∷ (codes "dbpf" ∷ [])
+    ∷ (codes "dbusservice" ∷ [])
     ∷ (codes "dc" ∷ codes "gcm" ∷ codes "saturn" ∷ codes "segacd" ∷ [])
     ∷ (codes "dcm" ∷ [])
     ∷ (codes "dcr" ∷ [])
@@ -3033,6 +3155,7 @@ sets_1 =
     ∷ (codes "der" ∷ codes "p7b" ∷ codes "pem" ∷ [])
     ∷ (codes "der" ∷ codes "pem" ∷ [])
     ∷ (codes "der" ∷ codes "pem" ∷ codes "txt" ∷ [])
+    ∷ (codes "desktop" ∷ [])
     ∷ (codes "dex" ∷ [])
     ∷ (codes "dey" ∷ [])
     ∷ (codes "dff" ∷ [])
@@ -3041,11 +3164,13 @@ sets_1 =
     ∷ (codes "dia" ∷ [])
     ∷ (codes "diashape" ∷ [])
     ∷ (codes "dif" ∷ [])
+    ∷ (codes "diff" ∷ [])
     ∷ (codes "djvm" ∷ [])
     ∷ (codes "djvu" ∷ [])
     ∷ (codes "dmp" ∷ [])
     ∷ (codes "dng" ∷ [])
     ∷ (codes "doc" ∷ codes "doc2" ∷ [])
+    ∷ (codes "docker" ∷ [])
     ∷ (codes "docm" ∷ [])
     ∷ (codes "docm" ∷ codes "docx" ∷ codes "application/x-ole-storage" ∷ codes "zip" ∷ [])
     ∷ (codes "docx" ∷ [])
@@ -3053,6 +3178,7 @@ sets_1 =
     ∷ (codes "dpx" ∷ [])
     ∷ (codes "drc" ∷ [])
     ∷ (codes "drdoscpi" ∷ [])
+    ∷ (codes "dsc" ∷ [])
     ∷ (codes "dsf" ∷ [])
     ∷ (codes "dss" ∷ [])
     ∷ (codes "dtb" ∷ [])
@@ -3062,6 +3188,7 @@ sets_1 =
     ∷ (codes "dvb" ∷ [])
     ∷ (codes "dvi" ∷ [])
     ∷ (codes "dwg" ∷ [])
+    ∷ (codes "dxf" ∷ [])
     ∷ (codes "e57" ∷ [])
     ∷ (codes "eac3" ∷ [])
     ∷ (codes "edf" ∷ [])
@@ -3071,7 +3198,9 @@ sets_1 =
     ∷ (codes "elc" ∷ [])
     ∷ (codes "elf" ∷ [])
     ∷ (codes "elf" ∷ codes "so" ∷ [])
+    ∷ (codes "elisp" ∷ [])
     ∷ (codes "emf" ∷ [])
+    ∷ (codes "eml" ∷ [])
     ∷ (codes "eot" ∷ [])
     ∷ (codes "eps" ∷ [])
     ∷ (codes "eps" ∷ codes "pdf" ∷ codes "ps" ∷ [])
@@ -3079,6 +3208,7 @@ sets_1 =
     ∷ (codes "escript" ∷ [])
     ∷ (codes "evtx" ∷ [])
     ∷ (codes "exe" ∷ [])
+    ∷ (codes "exe" ∷ codes "dll" ∷ codes "efi" ∷ codes "lx" ∷ codes "ne" ∷ codes "sys" ∷ [])
     ∷ (codes "exr" ∷ [])
     ∷ (codes "exs" ∷ [])
     ∷ (codes "ext2" ∷ [])
@@ -3088,7 +3218,11 @@ sets_1 =
     ∷ (codes "fbx" ∷ codes "fbxtext" ∷ [])
     ∷ (codes "fbz" ∷ [])
     ∷ (codes "fccache" ∷ [])
-    ∷ (codes "fcstd" ∷ [])
+    ∷ []
+
+unfoldable pub sets_2 : List (List (List ℕ))
+sets_2 =
+    (codes "fcstd" ∷ [])
     ∷ (codes "fdf" ∷ [])
     ∷ (codes "fds" ∷ [])
     ∷ (codes "ff" ∷ [])
@@ -3101,11 +3235,7 @@ sets_1 =
     ∷ (codes "flatpak" ∷ [])
     ∷ (codes "flatpakref" ∷ [])
     ∷ (codes "flatpakrepo" ∷ [])
-    ∷ []
-
-unfoldable pub sets_2 : List (List (List ℕ))
-sets_2 =
-    (codes "fli" ∷ [])
+    ∷ (codes "fli" ∷ [])
     ∷ (codes "flif" ∷ [])
     ∷ (codes "flv" ∷ [])
     ∷ (codes "flw" ∷ [])
@@ -3130,6 +3260,7 @@ sets_2 =
     ∷ (codes "gdf" ∷ [])
     ∷ (codes "ged" ∷ [])
     ∷ (codes "gem" ∷ [])
+    ∷ (codes "geojson" ∷ [])
     ∷ (codes "gff3" ∷ [])
     ∷ (codes "ggr" ∷ [])
     ∷ (codes "gguf" ∷ [])
@@ -3141,6 +3272,7 @@ sets_2 =
     ∷ (codes "gjs" ∷ codes "js" ∷ [])
     ∷ (codes "glade" ∷ [])
     ∷ (codes "glb" ∷ [])
+    ∷ (codes "gltf" ∷ [])
     ∷ (codes "gml" ∷ [])
     ∷ (codes "gnd" ∷ [])
     ∷ (codes "gnucash" ∷ [])
@@ -3148,6 +3280,7 @@ sets_2 =
     ∷ (codes "gnuplot" ∷ [])
     ∷ (codes "goobj" ∷ [])
     ∷ (codes "gpg" ∷ codes "gpgold" ∷ [])
+    ∷ (codes "gpgsec" ∷ [])
     ∷ (codes "gpkg" ∷ [])
     ∷ (codes "gpl" ∷ [])
     ∷ (codes "gpx" ∷ [])
@@ -3159,6 +3292,7 @@ sets_2 =
     ∷ (codes "gschema" ∷ [])
     ∷ (codes "gtkbuilder" ∷ [])
     ∷ (codes "gtp" ∷ [])
+    ∷ (codes "gv" ∷ [])
     ∷ (codes "gvdb" ∷ [])
     ∷ (codes "gx" ∷ [])
     ∷ (codes "gz" ∷ [])
@@ -3203,17 +3337,25 @@ sets_2 =
     ∷ (codes "icc" ∷ [])
     ∷ (codes "icns" ∷ [])
     ∷ (codes "ico" ∷ [])
+    ∷ (codes "icontheme" ∷ [])
     ∷ (codes "ics" ∷ [])
     ∷ (codes "icures" ∷ [])
     ∷ (codes "iff" ∷ [])
     ∷ (codes "ifo" ∷ [])
     ∷ (codes "igs" ∷ [])
+    ∷ (codes "iiq" ∷ [])
     ∷ (codes "ilbm" ∷ [])
     ∷ (codes "imy" ∷ [])
     ∷ (codes "indd" ∷ [])
+    ∷ (codes "inf" ∷ [])
     ∷ (codes "info" ∷ [])
     ∷ (codes "innolog" ∷ [])
-    ∷ (codes "ips" ∷ [])
+    ∷ []
+
+unfoldable pub sets_3 : List (List (List ℕ))
+sets_3 =
+    (codes "ips" ∷ [])
+    ∷ (codes "ipynb" ∷ [])
     ∷ (codes "ircam" ∷ [])
     ∷ (codes "it" ∷ [])
     ∷ (codes "it87" ∷ [])
@@ -3233,11 +3375,7 @@ sets_2 =
     ∷ (codes "jl" ∷ [])
     ∷ (codes "jls" ∷ [])
     ∷ (codes "jmod" ∷ [])
-    ∷ []
-
-unfoldable pub sets_3 : List (List (List ℕ))
-sets_3 =
-    (codes "jng" ∷ [])
+    ∷ (codes "jng" ∷ [])
     ∷ (codes "jnlp" ∷ [])
     ∷ (codes "journal" ∷ [])
     ∷ (codes "jp2" ∷ [])
@@ -3272,9 +3410,11 @@ sets_3 =
     ∷ (codes "ktx2" ∷ [])
     ∷ (codes "kwaj" ∷ [])
     ∷ (codes "kwd" ∷ [])
+    ∷ (codes "la" ∷ [])
     ∷ (codes "las" ∷ [])
     ∷ (codes "laz" ∷ [])
     ∷ (codes "ldcache" ∷ [])
+    ∷ (codes "ldif" ∷ [])
     ∷ (codes "ldml" ∷ [])
     ∷ (codes "lfp" ∷ [])
     ∷ (codes "lingts" ∷ [])
@@ -3295,6 +3435,7 @@ sets_3 =
     ∷ (codes "luks" ∷ [])
     ∷ (codes "lwo" ∷ [])
     ∷ (codes "lwp" ∷ [])
+    ∷ (codes "ly" ∷ [])
     ∷ (codes "lyx" ∷ [])
     ∷ (codes "lz" ∷ [])
     ∷ (codes "lz4" ∷ [])
@@ -3316,6 +3457,7 @@ sets_3 =
     ∷ (codes "mat" ∷ [])
     ∷ (codes "maud" ∷ [])
     ∷ (codes "mbm" ∷ [])
+    ∷ (codes "mbox" ∷ [])
     ∷ (codes "mbtiles" ∷ [])
     ∷ (codes "md" ∷ [])
     ∷ (codes "mdb" ∷ [])
@@ -3340,11 +3482,16 @@ sets_3 =
     ∷ (codes "mmf" ∷ [])
     ∷ (codes "mml" ∷ [])
     ∷ (codes "mmm" ∷ [])
-    ∷ (codes "mng" ∷ [])
+    ∷ []
+
+unfoldable pub sets_4 : List (List (List ℕ))
+sets_4 =
+    (codes "mng" ∷ [])
     ∷ (codes "mo" ∷ [])
     ∷ (codes "mo3" ∷ [])
     ∷ (codes "mobi" ∷ [])
     ∷ (codes "mod" ∷ [])
+    ∷ (codes "model/obj" ∷ [])
     ∷ (codes "model/step" ∷ [])
     ∷ (codes "mol2" ∷ [])
     ∷ (codes "mov" ∷ [])
@@ -3357,6 +3504,7 @@ sets_3 =
     ∷ (codes "mpg" ∷ [])
     ∷ (codes "mpp" ∷ [])
     ∷ (codes "mpq" ∷ [])
+    ∷ (codes "mpsub" ∷ [])
     ∷ (codes "mqv" ∷ [])
     ∷ (codes "mrc" ∷ [])
     ∷ (codes "mrw" ∷ [])
@@ -3365,11 +3513,8 @@ sets_3 =
     ∷ (codes "msbuild" ∷ [])
     ∷ (codes "mscx" ∷ [])
     ∷ (codes "mscz" ∷ [])
-    ∷ []
-
-unfoldable pub sets_4 : List (List (List ℕ))
-sets_4 =
-    (codes "msg" ∷ [])
+    ∷ (codes "msg" ∷ [])
+    ∷ (codes "mtl" ∷ [])
     ∷ (codes "mtm" ∷ [])
     ∷ (codes "mtn" ∷ [])
     ∷ (codes "mup" ∷ [])
@@ -3388,6 +3533,7 @@ sets_4 =
     ∷ (codes "neko" ∷ [])
     ∷ (codes "nes" ∷ [])
     ∷ (codes "netmon" ∷ [])
+    ∷ (codes "news" ∷ [])
     ∷ (codes "nex" ∷ [])
     ∷ (codes "nft" ∷ [])
     ∷ (codes "ngc" ∷ [])
@@ -3454,8 +3600,10 @@ sets_4 =
     ∷ (codes "par2" ∷ [])
     ∷ (codes "parquet" ∷ [])
     ∷ (codes "pat" ∷ [])
+    ∷ (codes "pc" ∷ [])
     ∷ (codes "pcap" ∷ [])
     ∷ (codes "pcapng" ∷ [])
+    ∷ (codes "pcd" ∷ [])
     ∷ (codes "pcf" ∷ [])
     ∷ (codes "pch" ∷ [])
     ∷ (codes "pcl" ∷ [])
@@ -3466,7 +3614,11 @@ sets_4 =
     ∷ (codes "pdn" ∷ [])
     ∷ (codes "pef" ∷ [])
     ∷ (codes "pem" ∷ [])
-    ∷ (codes "pf2" ∷ [])
+    ∷ []
+
+unfoldable pub sets_5 : List (List (List ℕ))
+sets_5 =
+    (codes "pf2" ∷ [])
     ∷ (codes "pfa" ∷ codes "pfb" ∷ [])
     ∷ (codes "pfb" ∷ [])
     ∷ (codes "pfmap" ∷ [])
@@ -3492,16 +3644,13 @@ sets_4 =
     ∷ (codes "ply" ∷ [])
     ∷ (codes "png" ∷ [])
     ∷ (codes "pnm" ∷ [])
+    ∷ (codes "po" ∷ [])
     ∷ (codes "pom" ∷ [])
     ∷ (codes "por" ∷ [])
     ∷ (codes "ppd" ∷ [])
     ∷ (codes "ppf" ∷ [])
     ∷ (codes "ppk" ∷ [])
-    ∷ []
-
-unfoldable pub sets_5 : List (List (List ℕ))
-sets_5 =
-    (codes "ppt" ∷ [])
+    ∷ (codes "ppt" ∷ [])
     ∷ (codes "pptm" ∷ [])
     ∷ (codes "pptx" ∷ [])
     ∷ (codes "ppu" ∷ [])
@@ -3597,7 +3746,11 @@ sets_5 =
     ∷ (codes "sfd" ∷ [])
     ∷ (codes "sgf" ∷ [])
     ∷ (codes "sgi" ∷ [])
-    ∷ (codes "sh" ∷ [])
+    ∷ []
+
+unfoldable pub sets_6 : List (List (List ℕ))
+sets_6 =
+    (codes "sh" ∷ [])
     ∷ (codes "sh" ∷ codes "txt" ∷ [])
     ∷ (codes "shn" ∷ [])
     ∷ (codes "shp" ∷ [])
@@ -3619,6 +3772,7 @@ sets_5 =
     ∷ (codes "so" ∷ [])
     ∷ (codes "spc" ∷ [])
     ∷ (codes "spd" ∷ [])
+    ∷ (codes "spec" ∷ [])
     ∷ (codes "sph" ∷ [])
     ∷ (codes "spv" ∷ [])
     ∷ (codes "spx" ∷ [])
@@ -3629,11 +3783,7 @@ sets_5 =
     ∷ (codes "srt" ∷ [])
     ∷ (codes "srx" ∷ [])
     ∷ (codes "ssa" ∷ [])
-    ∷ []
-
-unfoldable pub sets_6 : List (List (List ℕ))
-sets_6 =
-    (codes "ssh1" ∷ [])
+    ∷ (codes "ssh1" ∷ [])
     ∷ (codes "ssh2pub" ∷ codes "sshpub" ∷ [])
     ∷ (codes "stex" ∷ [])
     ∷ (codes "stl" ∷ [])
@@ -3665,6 +3815,7 @@ sets_6 =
     ∷ (codes "tdb" ∷ [])
     ∷ (codes "tei" ∷ [])
     ∷ (codes "terminfo" ∷ [])
+    ∷ (codes "tex" ∷ [])
     ∷ (codes "texi" ∷ [])
     ∷ (codes "texlua" ∷ [])
     ∷ (codes "tga" ∷ [])
@@ -3673,6 +3824,7 @@ sets_6 =
     ∷ (codes "tib" ∷ [])
     ∷ (codes "tif" ∷ [])
     ∷ (codes "tnef" ∷ [])
+    ∷ (codes "toc" ∷ [])
     ∷ (codes "torrent" ∷ [])
     ∷ (codes "trd" ∷ [])
     ∷ (codes "tres" ∷ [])
@@ -3682,6 +3834,7 @@ sets_6 =
     ∷ (codes "tta" ∷ [])
     ∷ (codes "ttc" ∷ [])
     ∷ (codes "ttf" ∷ [])
+    ∷ (codes "ttl" ∷ [])
     ∷ (codes "ttml" ∷ [])
     ∷ (codes "ttx" ∷ [])
     ∷ (codes "txt" ∷ [])
@@ -3699,6 +3852,7 @@ sets_6 =
     ∷ (codes "ult" ∷ [])
     ∷ (codes "ulx" ∷ [])
     ∷ (codes "umx" ∷ [])
+    ∷ (codes "unit" ∷ [])
     ∷ (codes "ups" ∷ [])
     ∷ (codes "url" ∷ [])
     ∷ (codes "usda" ∷ [])
@@ -3718,12 +3872,17 @@ sets_6 =
     ∷ (codes "vnt" ∷ [])
     ∷ (codes "voc" ∷ [])
     ∷ (codes "vpk" ∷ [])
+    ∷ (codes "vpnpcf" ∷ [])
     ∷ (codes "vsd" ∷ [])
     ∷ (codes "vsdx" ∷ [])
     ∷ (codes "vsdx" ∷ codes "zip" ∷ [])
     ∷ (codes "vtf" ∷ [])
     ∷ (codes "vtt" ∷ [])
-    ∷ (codes "w64" ∷ [])
+    ∷ []
+
+unfoldable pub sets_7 : List (List (List ℕ))
+sets_7 =
+    (codes "w64" ∷ [])
     ∷ (codes "wad" ∷ [])
     ∷ (codes "warc" ∷ [])
     ∷ (codes "wasm" ∷ codes "wasmc" ∷ [])
@@ -3757,15 +3916,12 @@ sets_6 =
     ∷ (codes "xar" ∷ [])
     ∷ (codes "xbe" ∷ [])
     ∷ (codes "xbel" ∷ [])
+    ∷ (codes "xbm" ∷ [])
     ∷ (codes "xbt" ∷ [])
     ∷ (codes "xcf" ∷ [])
     ∷ (codes "xex" ∷ [])
     ∷ (codes "xhtml" ∷ [])
-    ∷ []
-
-unfoldable pub sets_7 : List (List (List ℕ))
-sets_7 =
-    (codes "xi" ∷ [])
+    ∷ (codes "xi" ∷ [])
     ∷ (codes "xib" ∷ [])
     ∷ (codes "xisf" ∷ [])
     ∷ (codes "xliff" ∷ [])

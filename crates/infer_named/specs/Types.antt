@@ -347,3851 +347,3884 @@ is-application-vnd-cups-ppd = 113
 abbrev pub is-application-vnd-cups-raster : ℕ
 is-application-vnd-cups-raster = 114
 
+abbrev pub is-application-vnd-cyclonedx-json : ℕ
+is-application-vnd-cyclonedx-json = 115
+
 abbrev pub is-application-vnd-dbf : ℕ
-is-application-vnd-dbf = 115
+is-application-vnd-dbf = 116
 
 abbrev pub is-application-vnd-debian-binary-package : ℕ
-is-application-vnd-debian-binary-package = 116
+is-application-vnd-debian-binary-package = 117
 
 abbrev pub is-application-vnd-etsi-asic-e-zip : ℕ
-is-application-vnd-etsi-asic-e-zip = 117
+is-application-vnd-etsi-asic-e-zip = 118
 
 abbrev pub is-application-vnd-fdf : ℕ
-is-application-vnd-fdf = 118
+is-application-vnd-fdf = 119
 
 abbrev pub is-application-vnd-flatpak : ℕ
-is-application-vnd-flatpak = 119
+is-application-vnd-flatpak = 120
 
 abbrev pub is-application-vnd-flatpak-ref : ℕ
-is-application-vnd-flatpak-ref = 120
+is-application-vnd-flatpak-ref = 121
 
 abbrev pub is-application-vnd-flatpak-repo : ℕ
-is-application-vnd-flatpak-repo = 121
+is-application-vnd-flatpak-repo = 122
 
 abbrev pub is-application-vnd-font-fontforge-sfd : ℕ
-is-application-vnd-font-fontforge-sfd = 122
+is-application-vnd-font-fontforge-sfd = 123
 
 abbrev pub is-application-vnd-framemaker : ℕ
-is-application-vnd-framemaker = 123
+is-application-vnd-framemaker = 124
 
 abbrev pub is-application-vnd-garmin-tcx-xml : ℕ
-is-application-vnd-garmin-tcx-xml = 124
+is-application-vnd-garmin-tcx-xml = 125
 
 abbrev pub is-application-vnd-geogebra-file : ℕ
-is-application-vnd-geogebra-file = 125
+is-application-vnd-geogebra-file = 126
 
 abbrev pub is-application-vnd-google-earth-kml-xml : ℕ
-is-application-vnd-google-earth-kml-xml = 126
+is-application-vnd-google-earth-kml-xml = 127
 
 abbrev pub is-application-vnd-google-earth-kmz : ℕ
-is-application-vnd-google-earth-kmz = 127
+is-application-vnd-google-earth-kmz = 128
 
 abbrev pub is-application-vnd-hdt : ℕ
-is-application-vnd-hdt = 128
+is-application-vnd-hdt = 129
 
 abbrev pub is-application-vnd-hp-pcl : ℕ
-is-application-vnd-hp-pcl = 129
+is-application-vnd-hp-pcl = 130
 
 abbrev pub is-application-vnd-hp-pjl : ℕ
-is-application-vnd-hp-pjl = 130
+is-application-vnd-hp-pjl = 131
 
 abbrev pub is-application-vnd-iccprofile : ℕ
-is-application-vnd-iccprofile = 131
+is-application-vnd-iccprofile = 132
 
 abbrev pub is-application-vnd-las : ℕ
-is-application-vnd-las = 132
+is-application-vnd-las = 133
 
 abbrev pub is-application-vnd-laszip : ℕ
-is-application-vnd-laszip = 133
+is-application-vnd-laszip = 134
 
 abbrev pub is-application-vnd-lotus-1-2-3-as-known : ℕ
-is-application-vnd-lotus-1-2-3-as-known = 134
+is-application-vnd-lotus-1-2-3-as-known = 135
 
 abbrev pub is-application-vnd-lotus-1-2-3-as-row-wk1 : ℕ
-is-application-vnd-lotus-1-2-3-as-row-wk1 = 135
+is-application-vnd-lotus-1-2-3-as-row-wk1 = 136
 
 abbrev pub is-application-vnd-lotus-wordpro : ℕ
-is-application-vnd-lotus-wordpro = 136
+is-application-vnd-lotus-wordpro = 137
 
 abbrev pub is-application-vnd-mbtiles : ℕ
-is-application-vnd-mbtiles = 137
+is-application-vnd-mbtiles = 138
 
 abbrev pub is-application-vnd-microsoft-portable-executable : ℕ
-is-application-vnd-microsoft-portable-executable = 138
+is-application-vnd-microsoft-portable-executable = 139
 
 abbrev pub is-application-vnd-mif : ℕ
-is-application-vnd-mif = 139
+is-application-vnd-mif = 140
 
 abbrev pub is-application-vnd-mozilla-webapp-json : ℕ
-is-application-vnd-mozilla-webapp-json = 140
+is-application-vnd-mozilla-webapp-json = 141
 
 abbrev pub is-application-vnd-mozilla-xul-xml : ℕ
-is-application-vnd-mozilla-xul-xml = 141
+is-application-vnd-mozilla-xul-xml = 142
 
 abbrev pub is-application-vnd-ms-asf : ℕ
-is-application-vnd-ms-asf = 142
+is-application-vnd-ms-asf = 143
 
 abbrev pub is-application-vnd-ms-cab-compressed : ℕ
-is-application-vnd-ms-cab-compressed = 143
+is-application-vnd-ms-cab-compressed = 144
 
 abbrev pub is-application-vnd-ms-excel : ℕ
-is-application-vnd-ms-excel = 144
+is-application-vnd-ms-excel = 145
 
 abbrev pub is-application-vnd-ms-excel-addin-macroenabled-12 : ℕ
-is-application-vnd-ms-excel-addin-macroenabled-12 = 145
+is-application-vnd-ms-excel-addin-macroenabled-12 = 146
 
 abbrev pub is-application-vnd-ms-excel-sheet-binary-macroenabled-12 : ℕ
-is-application-vnd-ms-excel-sheet-binary-macroenabled-12 = 146
+is-application-vnd-ms-excel-sheet-binary-macroenabled-12 = 147
 
 abbrev pub is-application-vnd-ms-excel-sheet-macroenabled-12 : ℕ
-is-application-vnd-ms-excel-sheet-macroenabled-12 = 147
+is-application-vnd-ms-excel-sheet-macroenabled-12 = 148
 
 abbrev pub is-application-vnd-ms-excel-template-macroenabled-12 : ℕ
-is-application-vnd-ms-excel-template-macroenabled-12 = 148
+is-application-vnd-ms-excel-template-macroenabled-12 = 149
 
 abbrev pub is-application-vnd-ms-htmlhelp : ℕ
-is-application-vnd-ms-htmlhelp = 149
+is-application-vnd-ms-htmlhelp = 150
 
 abbrev pub is-application-vnd-ms-outlook : ℕ
-is-application-vnd-ms-outlook = 150
+is-application-vnd-ms-outlook = 151
 
 abbrev pub is-application-vnd-ms-outlook-pst : ℕ
-is-application-vnd-ms-outlook-pst = 151
+is-application-vnd-ms-outlook-pst = 152
 
 abbrev pub is-application-vnd-ms-package-3dmanufacturing-3dmodel-xml : ℕ
-is-application-vnd-ms-package-3dmanufacturing-3dmodel-xml = 152
+is-application-vnd-ms-package-3dmanufacturing-3dmodel-xml = 153
 
 abbrev pub is-application-vnd-ms-powerpoint : ℕ
-is-application-vnd-ms-powerpoint = 153
+is-application-vnd-ms-powerpoint = 154
 
 abbrev pub is-application-vnd-ms-powerpoint-presentation-macroenabled-12 : ℕ
-is-application-vnd-ms-powerpoint-presentation-macroenabled-12 = 154
+is-application-vnd-ms-powerpoint-presentation-macroenabled-12 = 155
 
 abbrev pub is-application-vnd-ms-powerpoint-slideshow-macroenabled-12 : ℕ
-is-application-vnd-ms-powerpoint-slideshow-macroenabled-12 = 155
+is-application-vnd-ms-powerpoint-slideshow-macroenabled-12 = 156
 
 abbrev pub is-application-vnd-ms-powerpoint-template-macroenabled-12 : ℕ
-is-application-vnd-ms-powerpoint-template-macroenabled-12 = 156
+is-application-vnd-ms-powerpoint-template-macroenabled-12 = 157
 
 abbrev pub is-application-vnd-ms-project : ℕ
-is-application-vnd-ms-project = 157
+is-application-vnd-ms-project = 158
 
 abbrev pub is-application-vnd-ms-publisher : ℕ
-is-application-vnd-ms-publisher = 158
+is-application-vnd-ms-publisher = 159
 
 abbrev pub is-application-vnd-ms-tnef : ℕ
-is-application-vnd-ms-tnef = 159
+is-application-vnd-ms-tnef = 160
 
 abbrev pub is-application-vnd-ms-visio-drawing-macroenabled-main-xml : ℕ
-is-application-vnd-ms-visio-drawing-macroenabled-main-xml = 160
+is-application-vnd-ms-visio-drawing-macroenabled-main-xml = 161
 
 abbrev pub is-application-vnd-ms-visio-drawing-main-xml : ℕ
-is-application-vnd-ms-visio-drawing-main-xml = 161
+is-application-vnd-ms-visio-drawing-main-xml = 162
 
 abbrev pub is-application-vnd-ms-visio-stencil-main-xml : ℕ
-is-application-vnd-ms-visio-stencil-main-xml = 162
+is-application-vnd-ms-visio-stencil-main-xml = 163
 
 abbrev pub is-application-vnd-ms-visio-template-main-xml : ℕ
-is-application-vnd-ms-visio-template-main-xml = 163
+is-application-vnd-ms-visio-template-main-xml = 164
 
 abbrev pub is-application-vnd-ms-word-document-macroenabled-12 : ℕ
-is-application-vnd-ms-word-document-macroenabled-12 = 164
+is-application-vnd-ms-word-document-macroenabled-12 = 165
 
 abbrev pub is-application-vnd-ms-word-template-macroenabled-12 : ℕ
-is-application-vnd-ms-word-template-macroenabled-12 = 165
+is-application-vnd-ms-word-template-macroenabled-12 = 166
 
 abbrev pub is-application-vnd-ms-works : ℕ
-is-application-vnd-ms-works = 166
+is-application-vnd-ms-works = 167
 
 abbrev pub is-application-vnd-ms-wpl : ℕ
-is-application-vnd-ms-wpl = 167
+is-application-vnd-ms-wpl = 168
 
 abbrev pub is-application-vnd-ms-xpsdocument : ℕ
-is-application-vnd-ms-xpsdocument = 168
+is-application-vnd-ms-xpsdocument = 169
 
 abbrev pub is-application-vnd-nintendo-snes-rom : ℕ
-is-application-vnd-nintendo-snes-rom = 169
+is-application-vnd-nintendo-snes-rom = 170
 
 abbrev pub is-application-vnd-oasis-opendocument-base : ℕ
-is-application-vnd-oasis-opendocument-base = 170
+is-application-vnd-oasis-opendocument-base = 171
 
 abbrev pub is-application-vnd-oasis-opendocument-chart : ℕ
-is-application-vnd-oasis-opendocument-chart = 171
+is-application-vnd-oasis-opendocument-chart = 172
 
 abbrev pub is-application-vnd-oasis-opendocument-formula : ℕ
-is-application-vnd-oasis-opendocument-formula = 172
+is-application-vnd-oasis-opendocument-formula = 173
 
 abbrev pub is-application-vnd-oasis-opendocument-graphics : ℕ
-is-application-vnd-oasis-opendocument-graphics = 173
+is-application-vnd-oasis-opendocument-graphics = 174
 
 abbrev pub is-application-vnd-oasis-opendocument-graphics-flat-xml : ℕ
-is-application-vnd-oasis-opendocument-graphics-flat-xml = 174
+is-application-vnd-oasis-opendocument-graphics-flat-xml = 175
 
 abbrev pub is-application-vnd-oasis-opendocument-graphics-template : ℕ
-is-application-vnd-oasis-opendocument-graphics-template = 175
+is-application-vnd-oasis-opendocument-graphics-template = 176
 
 abbrev pub is-application-vnd-oasis-opendocument-image : ℕ
-is-application-vnd-oasis-opendocument-image = 176
+is-application-vnd-oasis-opendocument-image = 177
 
 abbrev pub is-application-vnd-oasis-opendocument-presentation : ℕ
-is-application-vnd-oasis-opendocument-presentation = 177
+is-application-vnd-oasis-opendocument-presentation = 178
 
 abbrev pub is-application-vnd-oasis-opendocument-presentation-flat-xml : ℕ
-is-application-vnd-oasis-opendocument-presentation-flat-xml = 178
+is-application-vnd-oasis-opendocument-presentation-flat-xml = 179
 
 abbrev pub is-application-vnd-oasis-opendocument-presentation-template : ℕ
-is-application-vnd-oasis-opendocument-presentation-template = 179
+is-application-vnd-oasis-opendocument-presentation-template = 180
 
 abbrev pub is-application-vnd-oasis-opendocument-spreadsheet : ℕ
-is-application-vnd-oasis-opendocument-spreadsheet = 180
+is-application-vnd-oasis-opendocument-spreadsheet = 181
 
 abbrev pub is-application-vnd-oasis-opendocument-spreadsheet-flat-xml : ℕ
-is-application-vnd-oasis-opendocument-spreadsheet-flat-xml = 181
+is-application-vnd-oasis-opendocument-spreadsheet-flat-xml = 182
 
 abbrev pub is-application-vnd-oasis-opendocument-spreadsheet-template : ℕ
-is-application-vnd-oasis-opendocument-spreadsheet-template = 182
+is-application-vnd-oasis-opendocument-spreadsheet-template = 183
 
 abbrev pub is-application-vnd-oasis-opendocument-text : ℕ
-is-application-vnd-oasis-opendocument-text = 183
+is-application-vnd-oasis-opendocument-text = 184
 
 abbrev pub is-application-vnd-oasis-opendocument-text-flat-xml : ℕ
-is-application-vnd-oasis-opendocument-text-flat-xml = 184
+is-application-vnd-oasis-opendocument-text-flat-xml = 185
 
 abbrev pub is-application-vnd-oasis-opendocument-text-master : ℕ
-is-application-vnd-oasis-opendocument-text-master = 185
+is-application-vnd-oasis-opendocument-text-master = 186
 
 abbrev pub is-application-vnd-oasis-opendocument-text-template : ℕ
-is-application-vnd-oasis-opendocument-text-template = 186
+is-application-vnd-oasis-opendocument-text-template = 187
 
 abbrev pub is-application-vnd-oasis-opendocument-text-web : ℕ
-is-application-vnd-oasis-opendocument-text-web = 187
+is-application-vnd-oasis-opendocument-text-web = 188
 
 abbrev pub is-application-vnd-openstreetmap-data-xml : ℕ
-is-application-vnd-openstreetmap-data-xml = 188
+is-application-vnd-openstreetmap-data-xml = 189
 
 abbrev pub is-application-vnd-openxmlformats-officedocument-presentationml-presentation : ℕ
-is-application-vnd-openxmlformats-officedocument-presentationml-presentation = 189
+is-application-vnd-openxmlformats-officedocument-presentationml-presentation = 190
 
 abbrev pub is-application-vnd-openxmlformats-officedocument-presentationml-slideshow : ℕ
-is-application-vnd-openxmlformats-officedocument-presentationml-slideshow = 190
+is-application-vnd-openxmlformats-officedocument-presentationml-slideshow = 191
 
 abbrev pub is-application-vnd-openxmlformats-officedocument-presentationml-template : ℕ
-is-application-vnd-openxmlformats-officedocument-presentationml-template = 191
+is-application-vnd-openxmlformats-officedocument-presentationml-template = 192
 
 abbrev pub is-application-vnd-openxmlformats-officedocument-spreadsheetml-sheet : ℕ
-is-application-vnd-openxmlformats-officedocument-spreadsheetml-sheet = 192
+is-application-vnd-openxmlformats-officedocument-spreadsheetml-sheet = 193
 
 abbrev pub is-application-vnd-openxmlformats-officedocument-spreadsheetml-template : ℕ
-is-application-vnd-openxmlformats-officedocument-spreadsheetml-template = 193
+is-application-vnd-openxmlformats-officedocument-spreadsheetml-template = 194
 
 abbrev pub is-application-vnd-openxmlformats-officedocument-wordprocessingml-document : ℕ
-is-application-vnd-openxmlformats-officedocument-wordprocessingml-document = 194
+is-application-vnd-openxmlformats-officedocument-wordprocessingml-document = 195
 
 abbrev pub is-application-vnd-openxmlformats-officedocument-wordprocessingml-template : ℕ
-is-application-vnd-openxmlformats-officedocument-wordprocessingml-template = 195
+is-application-vnd-openxmlformats-officedocument-wordprocessingml-template = 196
 
 abbrev pub is-application-vnd-rar : ℕ
-is-application-vnd-rar = 196
+is-application-vnd-rar = 197
 
 abbrev pub is-application-vnd-recordare-musicxml : ℕ
-is-application-vnd-recordare-musicxml = 197
+is-application-vnd-recordare-musicxml = 198
 
 abbrev pub is-application-vnd-recordare-musicxml-xml : ℕ
-is-application-vnd-recordare-musicxml-xml = 198
+is-application-vnd-recordare-musicxml-xml = 199
 
 abbrev pub is-application-vnd-rn-realmedia : ℕ
-is-application-vnd-rn-realmedia = 199
+is-application-vnd-rn-realmedia = 200
 
 abbrev pub is-application-vnd-sar : ℕ
-is-application-vnd-sar = 200
+is-application-vnd-sar = 201
 
 abbrev pub is-application-vnd-scribus : ℕ
-is-application-vnd-scribus = 201
+is-application-vnd-scribus = 202
 
 abbrev pub is-application-vnd-shp : ℕ
-is-application-vnd-shp = 202
+is-application-vnd-shp = 203
 
 abbrev pub is-application-vnd-shx : ℕ
-is-application-vnd-shx = 203
+is-application-vnd-shx = 204
 
 abbrev pub is-application-vnd-smaf : ℕ
-is-application-vnd-smaf = 204
+is-application-vnd-smaf = 205
 
 abbrev pub is-application-vnd-snap : ℕ
-is-application-vnd-snap = 205
+is-application-vnd-snap = 206
 
 abbrev pub is-application-vnd-sqlite3 : ℕ
-is-application-vnd-sqlite3 = 206
+is-application-vnd-sqlite3 = 207
 
 abbrev pub is-application-vnd-squashfs : ℕ
-is-application-vnd-squashfs = 207
+is-application-vnd-squashfs = 208
 
 abbrev pub is-application-vnd-stardivision-writer : ℕ
-is-application-vnd-stardivision-writer = 208
+is-application-vnd-stardivision-writer = 209
 
 abbrev pub is-application-vnd-sun-xml-calc : ℕ
-is-application-vnd-sun-xml-calc = 209
+is-application-vnd-sun-xml-calc = 210
 
 abbrev pub is-application-vnd-sun-xml-draw : ℕ
-is-application-vnd-sun-xml-draw = 210
+is-application-vnd-sun-xml-draw = 211
 
 abbrev pub is-application-vnd-sun-xml-impress : ℕ
-is-application-vnd-sun-xml-impress = 211
+is-application-vnd-sun-xml-impress = 212
 
 abbrev pub is-application-vnd-sun-xml-math : ℕ
-is-application-vnd-sun-xml-math = 212
+is-application-vnd-sun-xml-math = 213
 
 abbrev pub is-application-vnd-sun-xml-writer : ℕ
-is-application-vnd-sun-xml-writer = 213
+is-application-vnd-sun-xml-writer = 214
 
 abbrev pub is-application-vnd-symbian-install : ℕ
-is-application-vnd-symbian-install = 214
+is-application-vnd-symbian-install = 215
 
 abbrev pub is-application-vnd-tcpdump-pcap : ℕ
-is-application-vnd-tcpdump-pcap = 215
+is-application-vnd-tcpdump-pcap = 216
 
 abbrev pub is-application-vnd-visio : ℕ
-is-application-vnd-visio = 216
+is-application-vnd-visio = 217
 
 abbrev pub is-application-vnd-wolfram-mathematica : ℕ
-is-application-vnd-wolfram-mathematica = 217
+is-application-vnd-wolfram-mathematica = 218
 
 abbrev pub is-application-vnd-wordperfect : ℕ
-is-application-vnd-wordperfect = 218
+is-application-vnd-wordperfect = 219
 
 abbrev pub is-application-voicexml-xml : ℕ
-is-application-voicexml-xml = 219
+is-application-voicexml-xml = 220
 
 abbrev pub is-application-vsix : ℕ
-is-application-vsix = 220
+is-application-vsix = 221
 
 abbrev pub is-application-warc : ℕ
-is-application-warc = 221
+is-application-warc = 222
 
 abbrev pub is-application-wasm : ℕ
-is-application-wasm = 222
+is-application-wasm = 223
 
 abbrev pub is-application-winhlp : ℕ
-is-application-winhlp = 223
+is-application-winhlp = 224
 
 abbrev pub is-application-wsdl-xml : ℕ
-is-application-wsdl-xml = 224
+is-application-wsdl-xml = 225
 
 abbrev pub is-application-x-7z-compressed : ℕ
-is-application-x-7z-compressed = 225
+is-application-x-7z-compressed = 226
 
 abbrev pub is-application-x-abiword : ℕ
-is-application-x-abiword = 226
+is-application-x-abiword = 227
 
 abbrev pub is-application-x-ableton-live-set : ℕ
-is-application-x-ableton-live-set = 227
+is-application-x-ableton-live-set = 228
 
 abbrev pub is-application-x-ace-compressed : ℕ
-is-application-x-ace-compressed = 228
+is-application-x-ace-compressed = 229
 
 abbrev pub is-application-x-acronis-tib : ℕ
-is-application-x-acronis-tib = 229
+is-application-x-acronis-tib = 230
 
 abbrev pub is-application-x-admx : ℕ
-is-application-x-admx = 230
+is-application-x-admx = 231
 
 abbrev pub is-application-x-aes-encrypted : ℕ
-is-application-x-aes-encrypted = 231
+is-application-x-aes-encrypted = 232
 
 abbrev pub is-application-x-age-encryption : ℕ
-is-application-x-age-encryption = 232
+is-application-x-age-encryption = 233
+
+abbrev pub is-application-x-age-key : ℕ
+is-application-x-age-key = 234
 
 abbrev pub is-application-x-alz : ℕ
-is-application-x-alz = 233
+is-application-x-alz = 235
 
 abbrev pub is-application-x-amf : ℕ
-is-application-x-amf = 234
+is-application-x-amf = 236
 
 abbrev pub is-application-x-amiga-disk-format : ℕ
-is-application-x-amiga-disk-format = 235
+is-application-x-amiga-disk-format = 237
 
 abbrev pub is-application-x-android-archive : ℕ
-is-application-x-android-archive = 236
+is-application-x-android-archive = 238
 
 abbrev pub is-application-x-android-binary-xml : ℕ
-is-application-x-android-binary-xml = 237
+is-application-x-android-binary-xml = 239
 
 abbrev pub is-application-x-android-boot-image : ℕ
-is-application-x-android-boot-image = 238
+is-application-x-android-boot-image = 240
 
 abbrev pub is-application-x-android-resources : ℕ
-is-application-x-android-resources = 239
+is-application-x-android-resources = 241
 
 abbrev pub is-application-x-android-sparse-image : ℕ
-is-application-x-android-sparse-image = 240
+is-application-x-android-sparse-image = 242
 
 abbrev pub is-application-x-android-vdex : ℕ
-is-application-x-android-vdex = 241
+is-application-x-android-vdex = 243
 
 abbrev pub is-application-x-ant-xml : ℕ
-is-application-x-ant-xml = 242
+is-application-x-ant-xml = 244
 
 abbrev pub is-application-x-apkm : ℕ
-is-application-x-apkm = 243
+is-application-x-apkm = 245
 
 abbrev pub is-application-x-aportisdoc : ℕ
-is-application-x-aportisdoc = 244
+is-application-x-aportisdoc = 246
 
 abbrev pub is-application-x-appdata-xml : ℕ
-is-application-x-appdata-xml = 245
+is-application-x-appdata-xml = 247
 
 abbrev pub is-application-x-apple-diskimage : ℕ
-is-application-x-apple-diskimage = 246
+is-application-x-apple-diskimage = 248
 
 abbrev pub is-application-x-apple-xib : ℕ
-is-application-x-apple-xib = 247
+is-application-x-apple-xib = 249
 
 abbrev pub is-application-x-appleworks : ℕ
-is-application-x-appleworks = 248
+is-application-x-appleworks = 250
 
 abbrev pub is-application-x-applix-spreadsheet : ℕ
-is-application-x-applix-spreadsheet = 249
+is-application-x-applix-spreadsheet = 251
 
 abbrev pub is-application-x-applix-word : ℕ
-is-application-x-applix-word = 250
+is-application-x-applix-word = 252
 
 abbrev pub is-application-x-apt-cache : ℕ
-is-application-x-apt-cache = 251
+is-application-x-apt-cache = 253
 
 abbrev pub is-application-x-arb-json : ℕ
-is-application-x-arb-json = 252
+is-application-x-arb-json = 254
 
 abbrev pub is-application-x-arc : ℕ
-is-application-x-arc = 253
+is-application-x-arc = 255
 
 abbrev pub is-application-x-arj : ℕ
-is-application-x-arj = 254
+is-application-x-arj = 256
 
 abbrev pub is-application-x-asar : ℕ
-is-application-x-asar = 255
+is-application-x-asar = 257
 
 abbrev pub is-application-x-asp : ℕ
-is-application-x-asp = 256
+is-application-x-asp = 258
 
 abbrev pub is-application-x-aspx : ℕ
-is-application-x-aspx = 257
+is-application-x-aspx = 259
 
 abbrev pub is-application-x-atari-7800-rom : ℕ
-is-application-x-atari-7800-rom = 258
+is-application-x-atari-7800-rom = 260
 
 abbrev pub is-application-x-atari-lynx-rom : ℕ
-is-application-x-atari-lynx-rom = 259
+is-application-x-atari-lynx-rom = 261
 
 abbrev pub is-application-x-atari-msa : ℕ
-is-application-x-atari-msa = 260
+is-application-x-atari-msa = 262
 
 abbrev pub is-application-x-audacity-project : ℕ
-is-application-x-audacity-project = 261
+is-application-x-audacity-project = 263
 
 abbrev pub is-application-x-audacity-project-sqlite3 : ℕ
-is-application-x-audacity-project-sqlite3 = 262
+is-application-x-audacity-project-sqlite3 = 264
 
 abbrev pub is-application-x-autodesk-max : ℕ
-is-application-x-autodesk-max = 263
+is-application-x-autodesk-max = 265
 
 abbrev pub is-application-x-avro : ℕ
-is-application-x-avro = 264
+is-application-x-avro = 266
 
 abbrev pub is-application-x-avro-schema-json : ℕ
-is-application-x-avro-schema-json = 265
+is-application-x-avro-schema-json = 267
 
 abbrev pub is-application-x-bai : ℕ
-is-application-x-bai = 266
+is-application-x-bai = 268
 
 abbrev pub is-application-x-bam : ℕ
-is-application-x-bam = 267
+is-application-x-bam = 269
 
 abbrev pub is-application-x-bash : ℕ
-is-application-x-bash = 268
+is-application-x-bash = 270
 
 abbrev pub is-application-x-bdf : ℕ
-is-application-x-bdf = 269
+is-application-x-bdf = 271
 
 abbrev pub is-application-x-bentley-dgn : ℕ
-is-application-x-bentley-dgn = 270
+is-application-x-bentley-dgn = 272
 
 abbrev pub is-application-x-bittorrent : ℕ
-is-application-x-bittorrent = 271
+is-application-x-bittorrent = 273
 
 abbrev pub is-application-x-blender : ℕ
-is-application-x-blender = 272
+is-application-x-blender = 274
 
 abbrev pub is-application-x-blorb : ℕ
-is-application-x-blorb = 273
+is-application-x-blorb = 275
 
 abbrev pub is-application-x-bplist : ℕ
-is-application-x-bplist = 274
+is-application-x-bplist = 276
 
 abbrev pub is-application-x-bps-patch : ℕ
-is-application-x-bps-patch = 275
+is-application-x-bps-patch = 277
 
 abbrev pub is-application-x-bsdiff : ℕ
-is-application-x-bsdiff = 276
+is-application-x-bsdiff = 278
 
 abbrev pub is-application-x-bufr : ℕ
-is-application-x-bufr = 277
+is-application-x-bufr = 279
 
 abbrev pub is-application-x-build-grp : ℕ
-is-application-x-build-grp = 278
+is-application-x-build-grp = 280
 
 abbrev pub is-application-x-bzip-compressed-tar : ℕ
-is-application-x-bzip-compressed-tar = 279
+is-application-x-bzip-compressed-tar = 281
 
 abbrev pub is-application-x-bzip2 : ℕ
-is-application-x-bzip2 = 280
+is-application-x-bzip2 = 282
 
 abbrev pub is-application-x-cb7 : ℕ
-is-application-x-cb7 = 281
+is-application-x-cb7 = 283
 
 abbrev pub is-application-x-cbt : ℕ
-is-application-x-cbt = 282
+is-application-x-cbt = 284
 
 abbrev pub is-application-x-ccmx : ℕ
-is-application-x-ccmx = 283
+is-application-x-ccmx = 285
 
 abbrev pub is-application-x-cd-image : ℕ
-is-application-x-cd-image = 284
+is-application-x-cd-image = 286
 
 abbrev pub is-application-x-cdf : ℕ
-is-application-x-cdf = 285
+is-application-x-cdf = 287
+
+abbrev pub is-application-x-cdrdao-toc : ℕ
+is-application-x-cdrdao-toc = 288
 
 abbrev pub is-application-x-cern-root : ℕ
-is-application-x-cern-root = 286
+is-application-x-cern-root = 289
+
+abbrev pub is-application-x-cisco-vpn-settings : ℕ
+is-application-x-cisco-vpn-settings = 290
 
 abbrev pub is-application-x-clang-pch : ℕ
-is-application-x-clang-pch = 287
+is-application-x-clang-pch = 291
 
 abbrev pub is-application-x-cmi : ℕ
-is-application-x-cmi = 288
+is-application-x-cmi = 292
 
 abbrev pub is-application-x-com-executable : ℕ
-is-application-x-com-executable = 289
+is-application-x-com-executable = 293
 
 abbrev pub is-application-x-compress : ℕ
-is-application-x-compress = 290
+is-application-x-compress = 294
 
 abbrev pub is-application-x-compressed-iso : ℕ
-is-application-x-compressed-iso = 291
+is-application-x-compressed-iso = 295
 
 abbrev pub is-application-x-compressed-tar : ℕ
-is-application-x-compressed-tar = 292
+is-application-x-compressed-tar = 296
 
 abbrev pub is-application-x-core : ℕ
-is-application-x-core = 293
+is-application-x-core = 297
 
 abbrev pub is-application-x-corelpresentations : ℕ
-is-application-x-corelpresentations = 294
+is-application-x-corelpresentations = 298
 
 abbrev pub is-application-x-cpio : ℕ
-is-application-x-cpio = 295
+is-application-x-cpio = 299
 
 abbrev pub is-application-x-cram : ℕ
-is-application-x-cram = 296
+is-application-x-cram = 300
 
 abbrev pub is-application-x-cramfs : ℕ
-is-application-x-cramfs = 297
+is-application-x-cramfs = 301
 
 abbrev pub is-application-x-csh : ℕ
-is-application-x-csh = 298
+is-application-x-csh = 302
 
 abbrev pub is-application-x-csi : ℕ
-is-application-x-csi = 299
+is-application-x-csi = 303
 
 abbrev pub is-application-x-cubin : ℕ
-is-application-x-cubin = 300
+is-application-x-cubin = 304
 
 abbrev pub is-application-x-cue : ℕ
-is-application-x-cue = 301
+is-application-x-cue = 305
 
 abbrev pub is-application-x-dar : ℕ
-is-application-x-dar = 302
+is-application-x-dar = 306
 
 abbrev pub is-application-x-dbm : ℕ
-is-application-x-dbm = 303
+is-application-x-dbm = 307
 
 abbrev pub is-application-x-designer : ℕ
-is-application-x-designer = 304
+is-application-x-designer = 308
 
 abbrev pub is-application-x-desktop : ℕ
-is-application-x-desktop = 305
+is-application-x-desktop = 309
 
 abbrev pub is-application-x-devhelp-xml : ℕ
-is-application-x-devhelp-xml = 306
+is-application-x-devhelp-xml = 310
 
 abbrev pub is-application-x-device-tree-blob : ℕ
-is-application-x-device-tree-blob = 307
+is-application-x-device-tree-blob = 311
 
 abbrev pub is-application-x-dfont : ℕ
-is-application-x-dfont = 308
+is-application-x-dfont = 312
 
 abbrev pub is-application-x-dia-diagram : ℕ
-is-application-x-dia-diagram = 309
+is-application-x-dia-diagram = 313
 
 abbrev pub is-application-x-dia-shape : ℕ
-is-application-x-dia-shape = 310
+is-application-x-dia-shape = 314
 
 abbrev pub is-application-x-dictzip : ℕ
-is-application-x-dictzip = 311
+is-application-x-dictzip = 315
 
 abbrev pub is-application-x-dif : ℕ
-is-application-x-dif = 312
+is-application-x-dif = 316
 
 abbrev pub is-application-x-director : ℕ
-is-application-x-director = 313
+is-application-x-director = 317
 
 abbrev pub is-application-x-dmp : ℕ
-is-application-x-dmp = 314
+is-application-x-dmp = 318
 
 abbrev pub is-application-x-docbook-xml : ℕ
-is-application-x-docbook-xml = 315
+is-application-x-docbook-xml = 319
 
 abbrev pub is-application-x-doom-wad : ℕ
-is-application-x-doom-wad = 316
+is-application-x-doom-wad = 320
 
 abbrev pub is-application-x-drawio-xml : ℕ
-is-application-x-drawio-xml = 317
+is-application-x-drawio-xml = 321
 
 abbrev pub is-application-x-dtb : ℕ
-is-application-x-dtb = 318
+is-application-x-dtb = 322
 
 abbrev pub is-application-x-dtbncx-xml : ℕ
-is-application-x-dtbncx-xml = 319
+is-application-x-dtbncx-xml = 323
 
 abbrev pub is-application-x-dvi : ℕ
-is-application-x-dvi = 320
+is-application-x-dvi = 324
 
 abbrev pub is-application-x-eclipse-xml : ℕ
-is-application-x-eclipse-xml = 321
+is-application-x-eclipse-xml = 325
 
 abbrev pub is-application-x-edf : ℕ
-is-application-x-edf = 322
+is-application-x-edf = 326
 
 abbrev pub is-application-x-edid-dump : ℕ
-is-application-x-edid-dump = 323
+is-application-x-edid-dump = 327
 
 abbrev pub is-application-x-eet : ℕ
-is-application-x-eet = 324
+is-application-x-eet = 328
 
 abbrev pub is-application-x-egg : ℕ
-is-application-x-egg = 325
+is-application-x-egg = 329
 
 abbrev pub is-application-x-elc : ℕ
-is-application-x-elc = 326
+is-application-x-elc = 330
 
 abbrev pub is-application-x-emz : ℕ
-is-application-x-emz = 327
+is-application-x-emz = 331
 
 abbrev pub is-application-x-entitlements : ℕ
-is-application-x-entitlements = 328
+is-application-x-entitlements = 332
 
 abbrev pub is-application-x-erb : ℕ
-is-application-x-erb = 329
+is-application-x-erb = 333
 
 abbrev pub is-application-x-erlang-beam : ℕ
-is-application-x-erlang-beam = 330
+is-application-x-erlang-beam = 334
 
 abbrev pub is-application-x-executable-as-row-elf : ℕ
-is-application-x-executable-as-row-elf = 331
+is-application-x-executable-as-row-elf = 335
 
 abbrev pub is-application-x-executable-as-row-obj : ℕ
-is-application-x-executable-as-row-obj = 332
+is-application-x-executable-as-row-obj = 336
 
 abbrev pub is-application-x-ext-filesystem : ℕ
-is-application-x-ext-filesystem = 333
+is-application-x-ext-filesystem = 337
 
 abbrev pub is-application-x-fbx : ℕ
-is-application-x-fbx = 334
+is-application-x-fbx = 338
 
 abbrev pub is-application-x-fds-disk : ℕ
-is-application-x-fds-disk = 335
+is-application-x-fds-disk = 339
 
 abbrev pub is-application-x-fictionbook-xml : ℕ
-is-application-x-fictionbook-xml = 336
+is-application-x-fictionbook-xml = 340
 
 abbrev pub is-application-x-fishscript : ℕ
-is-application-x-fishscript = 337
+is-application-x-fishscript = 341
 
 abbrev pub is-application-x-flash-authoring : ℕ
-is-application-x-flash-authoring = 338
+is-application-x-flash-authoring = 342
 
 abbrev pub is-application-x-fluid : ℕ
-is-application-x-fluid = 339
+is-application-x-fluid = 343
 
 abbrev pub is-application-x-font-afm : ℕ
-is-application-x-font-afm = 340
+is-application-x-font-afm = 344
 
 abbrev pub is-application-x-font-bdf : ℕ
-is-application-x-font-bdf = 341
+is-application-x-font-bdf = 345
 
 abbrev pub is-application-x-font-linux-psf : ℕ
-is-application-x-font-linux-psf = 342
+is-application-x-font-linux-psf = 346
 
 abbrev pub is-application-x-font-pcf : ℕ
-is-application-x-font-pcf = 343
+is-application-x-font-pcf = 347
 
 abbrev pub is-application-x-font-pf2 : ℕ
-is-application-x-font-pf2 = 344
+is-application-x-font-pf2 = 348
 
 abbrev pub is-application-x-font-speedo : ℕ
-is-application-x-font-speedo = 345
+is-application-x-font-speedo = 349
 
 abbrev pub is-application-x-font-ttx : ℕ
-is-application-x-font-ttx = 346
+is-application-x-font-ttx = 350
 
 abbrev pub is-application-x-font-type1 : ℕ
-is-application-x-font-type1 = 347
+is-application-x-font-type1 = 351
 
 abbrev pub is-application-x-fontconfig-cache : ℕ
-is-application-x-fontconfig-cache = 348
+is-application-x-fontconfig-cache = 352
 
 abbrev pub is-application-x-freecad : ℕ
-is-application-x-freecad = 349
+is-application-x-freecad = 353
 
 abbrev pub is-application-x-freemind : ℕ
-is-application-x-freemind = 350
+is-application-x-freemind = 354
 
 abbrev pub is-application-x-g64-disk : ℕ
-is-application-x-g64-disk = 351
+is-application-x-g64-disk = 355
 
 abbrev pub is-application-x-gameboy-color-rom : ℕ
-is-application-x-gameboy-color-rom = 352
+is-application-x-gameboy-color-rom = 356
 
 abbrev pub is-application-x-gameboy-rom : ℕ
-is-application-x-gameboy-rom = 353
+is-application-x-gameboy-rom = 357
 
 abbrev pub is-application-x-gamecube-rom : ℕ
-is-application-x-gamecube-rom = 354
+is-application-x-gamecube-rom = 358
 
 abbrev pub is-application-x-gba-rom-as-known : ℕ
-is-application-x-gba-rom-as-known = 355
+is-application-x-gba-rom-as-known = 359
 
 abbrev pub is-application-x-gba-rom-as-row-gba : ℕ
-is-application-x-gba-rom-as-row-gba = 356
+is-application-x-gba-rom-as-row-gba = 360
 
 abbrev pub is-application-x-gcc-pch : ℕ
-is-application-x-gcc-pch = 357
+is-application-x-gcc-pch = 361
 
 abbrev pub is-application-x-gconv-cache : ℕ
-is-application-x-gconv-cache = 358
+is-application-x-gconv-cache = 362
 
 abbrev pub is-application-x-gcov-data : ℕ
-is-application-x-gcov-data = 359
+is-application-x-gcov-data = 363
 
 abbrev pub is-application-x-gcov-notes : ℕ
-is-application-x-gcov-notes = 360
+is-application-x-gcov-notes = 364
 
 abbrev pub is-application-x-gdbm : ℕ
-is-application-x-gdbm = 361
+is-application-x-gdbm = 365
 
 abbrev pub is-application-x-gdf : ℕ
-is-application-x-gdf = 362
+is-application-x-gdf = 366
 
 abbrev pub is-application-x-gds : ℕ
-is-application-x-gds = 363
+is-application-x-gds = 367
 
 abbrev pub is-application-x-gdscript : ℕ
-is-application-x-gdscript = 364
+is-application-x-gdscript = 368
 
 abbrev pub is-application-x-genesis-32x-rom : ℕ
-is-application-x-genesis-32x-rom = 365
+is-application-x-genesis-32x-rom = 369
 
 abbrev pub is-application-x-genesis-rom-as-known : ℕ
-is-application-x-genesis-rom-as-known = 366
+is-application-x-genesis-rom-as-known = 370
 
 abbrev pub is-application-x-genesis-rom-as-row-md : ℕ
-is-application-x-genesis-rom-as-row-md = 367
+is-application-x-genesis-rom-as-row-md = 371
 
 abbrev pub is-application-x-gettext-translation : ℕ
-is-application-x-gettext-translation = 368
+is-application-x-gettext-translation = 372
 
 abbrev pub is-application-x-gguf : ℕ
-is-application-x-gguf = 369
+is-application-x-gguf = 373
 
 abbrev pub is-application-x-ghc-interface : ℕ
-is-application-x-ghc-interface = 370
+is-application-x-ghc-interface = 374
 
 abbrev pub is-application-x-gir-xml : ℕ
-is-application-x-gir-xml = 371
+is-application-x-gir-xml = 375
 
 abbrev pub is-application-x-gir-typelib : ℕ
-is-application-x-gir-typelib = 372
+is-application-x-gir-typelib = 376
 
 abbrev pub is-application-x-git : ℕ
-is-application-x-git = 373
+is-application-x-git = 377
 
 abbrev pub is-application-x-git-bundle : ℕ
-is-application-x-git-bundle = 374
+is-application-x-git-bundle = 378
 
 abbrev pub is-application-x-git-index : ℕ
-is-application-x-git-index = 375
+is-application-x-git-index = 379
 
 abbrev pub is-application-x-git-pack-index : ℕ
-is-application-x-git-pack-index = 376
+is-application-x-git-pack-index = 380
 
 abbrev pub is-application-x-glade : ℕ
-is-application-x-glade = 377
+is-application-x-glade = 381
 
 abbrev pub is-application-x-glibc-locale-archive : ℕ
-is-application-x-glibc-locale-archive = 378
+is-application-x-glibc-locale-archive = 382
 
 abbrev pub is-application-x-glulx : ℕ
-is-application-x-glulx = 379
+is-application-x-glulx = 383
 
 abbrev pub is-application-x-gnucash : ℕ
-is-application-x-gnucash = 380
+is-application-x-gnucash = 384
 
 abbrev pub is-application-x-gnumeric : ℕ
-is-application-x-gnumeric = 381
+is-application-x-gnumeric = 385
 
 abbrev pub is-application-x-gnupg-keybox : ℕ
-is-application-x-gnupg-keybox = 382
+is-application-x-gnupg-keybox = 386
+
+abbrev pub is-application-x-gnupg-private-key : ℕ
+is-application-x-gnupg-private-key = 387
 
 abbrev pub is-application-x-gnupg-trustdb : ℕ
-is-application-x-gnupg-trustdb = 383
+is-application-x-gnupg-trustdb = 388
 
 abbrev pub is-application-x-gnuplot : ℕ
-is-application-x-gnuplot = 384
+is-application-x-gnuplot = 389
 
 abbrev pub is-application-x-go-object : ℕ
-is-application-x-go-object = 385
+is-application-x-go-object = 390
 
 abbrev pub is-application-x-go-sgf : ℕ
-is-application-x-go-sgf = 386
+is-application-x-go-sgf = 391
 
 abbrev pub is-application-x-godot-package : ℕ
-is-application-x-godot-package = 387
+is-application-x-godot-package = 392
 
 abbrev pub is-application-x-godot-resource : ℕ
-is-application-x-godot-resource = 388
+is-application-x-godot-resource = 393
 
 abbrev pub is-application-x-godot-scene : ℕ
-is-application-x-godot-scene = 389
+is-application-x-godot-scene = 394
 
 abbrev pub is-application-x-google-chrome-extension : ℕ
-is-application-x-google-chrome-extension = 390
+is-application-x-google-chrome-extension = 395
 
 abbrev pub is-application-x-grib : ℕ
-is-application-x-grib = 391
+is-application-x-grib = 396
 
 abbrev pub is-application-x-grib2 : ℕ
-is-application-x-grib2 = 392
+is-application-x-grib2 = 397
 
 abbrev pub is-application-x-grub-keyboard : ℕ
-is-application-x-grub-keyboard = 393
+is-application-x-grub-keyboard = 398
 
 abbrev pub is-application-x-gschema-xml : ℕ
-is-application-x-gschema-xml = 394
+is-application-x-gschema-xml = 399
 
 abbrev pub is-application-x-gschema-compiled : ℕ
-is-application-x-gschema-compiled = 395
+is-application-x-gschema-compiled = 400
 
 abbrev pub is-application-x-gtk-builder : ℕ
-is-application-x-gtk-builder = 396
+is-application-x-gtk-builder = 401
 
 abbrev pub is-application-x-guitar-pro : ℕ
-is-application-x-guitar-pro = 397
+is-application-x-guitar-pro = 402
 
 abbrev pub is-application-x-gvdb : ℕ
-is-application-x-gvdb = 398
+is-application-x-gvdb = 403
 
 abbrev pub is-application-x-har-json : ℕ
-is-application-x-har-json = 399
+is-application-x-har-json = 404
 
 abbrev pub is-application-x-haskell-interface : ℕ
-is-application-x-haskell-interface = 400
+is-application-x-haskell-interface = 405
 
 abbrev pub is-application-x-hdf : ℕ
-is-application-x-hdf = 401
+is-application-x-hdf = 406
 
 abbrev pub is-application-x-hdf5 : ℕ
-is-application-x-hdf5 = 402
+is-application-x-hdf5 = 407
 
 abbrev pub is-application-x-hfe-floppy-image : ℕ
-is-application-x-hfe-floppy-image = 403
+is-application-x-hfe-floppy-image = 408
 
 abbrev pub is-application-x-hg-bundle : ℕ
-is-application-x-hg-bundle = 404
+is-application-x-hg-bundle = 409
 
 abbrev pub is-application-x-hwp : ℕ
-is-application-x-hwp = 405
+is-application-x-hwp = 410
 
 abbrev pub is-application-x-hwpx : ℕ
-is-application-x-hwpx = 406
+is-application-x-hwpx = 411
 
 abbrev pub is-application-x-hxml : ℕ
-is-application-x-hxml = 407
+is-application-x-hxml = 412
 
 abbrev pub is-application-x-ia-arc : ℕ
-is-application-x-ia-arc = 408
+is-application-x-ia-arc = 413
 
 abbrev pub is-application-x-icu-data : ℕ
-is-application-x-icu-data = 409
+is-application-x-icu-data = 414
 
 abbrev pub is-application-x-iff : ℕ
-is-application-x-iff = 410
+is-application-x-iff = 415
 
 abbrev pub is-application-x-indesign : ℕ
-is-application-x-indesign = 411
+is-application-x-indesign = 416
 
 abbrev pub is-application-x-innodb : ℕ
-is-application-x-innodb = 412
+is-application-x-innodb = 417
 
 abbrev pub is-application-x-innosetup : ℕ
-is-application-x-innosetup = 413
+is-application-x-innosetup = 418
 
 abbrev pub is-application-x-intel-aml : ℕ
-is-application-x-intel-aml = 414
+is-application-x-intel-aml = 419
 
 abbrev pub is-application-x-intellij-xml : ℕ
-is-application-x-intellij-xml = 415
+is-application-x-intellij-xml = 420
 
 abbrev pub is-application-x-ios-app : ℕ
-is-application-x-ios-app = 416
+is-application-x-ios-app = 421
 
 abbrev pub is-application-x-ips-patch : ℕ
-is-application-x-ips-patch = 417
+is-application-x-ips-patch = 422
 
 abbrev pub is-application-x-ipynb-json : ℕ
-is-application-x-ipynb-json = 418
+is-application-x-ipynb-json = 423
 
 abbrev pub is-application-x-it87 : ℕ
-is-application-x-it87 = 419
+is-application-x-it87 = 424
 
 abbrev pub is-application-x-jasper-xml : ℕ
-is-application-x-jasper-xml = 420
+is-application-x-jasper-xml = 425
 
 abbrev pub is-application-x-java-enterprise-archive : ℕ
-is-application-x-java-enterprise-archive = 421
+is-application-x-java-enterprise-archive = 426
 
 abbrev pub is-application-x-java-flight-recording : ℕ
-is-application-x-java-flight-recording = 422
+is-application-x-java-flight-recording = 427
 
 abbrev pub is-application-x-java-hprof : ℕ
-is-application-x-java-hprof = 423
+is-application-x-java-hprof = 428
 
 abbrev pub is-application-x-java-image : ℕ
-is-application-x-java-image = 424
+is-application-x-java-image = 429
 
 abbrev pub is-application-x-java-jce-keystore : ℕ
-is-application-x-java-jce-keystore = 425
+is-application-x-java-jce-keystore = 430
 
 abbrev pub is-application-x-java-jmod : ℕ
-is-application-x-java-jmod = 426
+is-application-x-java-jmod = 431
 
 abbrev pub is-application-x-java-jnlp-file : ℕ
-is-application-x-java-jnlp-file = 427
+is-application-x-java-jnlp-file = 432
 
 abbrev pub is-application-x-java-keystore : ℕ
-is-application-x-java-keystore = 428
+is-application-x-java-keystore = 433
 
 abbrev pub is-application-x-java-pack200 : ℕ
-is-application-x-java-pack200 = 429
+is-application-x-java-pack200 = 434
 
 abbrev pub is-application-x-java-serialized-object : ℕ
-is-application-x-java-serialized-object = 430
+is-application-x-java-serialized-object = 435
 
 abbrev pub is-application-x-java-web-archive : ℕ
-is-application-x-java-web-archive = 431
+is-application-x-java-web-archive = 436
 
 abbrev pub is-application-x-jffs2 : ℕ
-is-application-x-jffs2 = 432
+is-application-x-jffs2 = 437
 
 abbrev pub is-application-x-jmeter-xml : ℕ
-is-application-x-jmeter-xml = 433
+is-application-x-jmeter-xml = 438
 
 abbrev pub is-application-x-jsa : ℕ
-is-application-x-jsa = 434
+is-application-x-jsa = 439
 
 abbrev pub is-application-x-jsonc : ℕ
-is-application-x-jsonc = 435
+is-application-x-jsonc = 440
 
 abbrev pub is-application-x-jsp : ℕ
-is-application-x-jsp = 436
+is-application-x-jsp = 441
 
 abbrev pub is-application-x-karbon : ℕ
-is-application-x-karbon = 437
+is-application-x-karbon = 442
 
 abbrev pub is-application-x-kchart : ℕ
-is-application-x-kchart = 438
+is-application-x-kchart = 443
 
 abbrev pub is-application-x-kdenlive : ℕ
-is-application-x-kdenlive = 439
+is-application-x-kdenlive = 444
 
 abbrev pub is-application-x-kdump : ℕ
-is-application-x-kdump = 440
+is-application-x-kdump = 445
 
 abbrev pub is-application-x-keepass : ℕ
-is-application-x-keepass = 441
+is-application-x-keepass = 446
 
 abbrev pub is-application-x-keepass2 : ℕ
-is-application-x-keepass2 = 442
+is-application-x-keepass2 = 447
 
 abbrev pub is-application-x-kerberos-keytab : ℕ
-is-application-x-kerberos-keytab = 443
+is-application-x-kerberos-keytab = 448
 
 abbrev pub is-application-x-kformula : ℕ
-is-application-x-kformula = 444
+is-application-x-kformula = 449
 
 abbrev pub is-application-x-killustrator : ℕ
-is-application-x-killustrator = 445
+is-application-x-killustrator = 450
 
 abbrev pub is-application-x-kivio : ℕ
-is-application-x-kivio = 446
+is-application-x-kivio = 451
 
 abbrev pub is-application-x-kontour : ℕ
-is-application-x-kontour = 447
+is-application-x-kontour = 452
 
 abbrev pub is-application-x-kpresenter : ℕ
-is-application-x-kpresenter = 448
+is-application-x-kpresenter = 453
 
 abbrev pub is-application-x-krita : ℕ
-is-application-x-krita = 449
+is-application-x-krita = 454
 
 abbrev pub is-application-x-ksh : ℕ
-is-application-x-ksh = 450
+is-application-x-ksh = 455
 
 abbrev pub is-application-x-kspread : ℕ
-is-application-x-kspread = 451
+is-application-x-kspread = 456
 
 abbrev pub is-application-x-kword : ℕ
-is-application-x-kword = 452
+is-application-x-kword = 457
 
 abbrev pub is-application-x-ld-so-cache : ℕ
-is-application-x-ld-so-cache = 453
+is-application-x-ld-so-cache = 458
 
 abbrev pub is-application-x-ldml-xml : ℕ
-is-application-x-ldml-xml = 454
+is-application-x-ldml-xml = 459
 
 abbrev pub is-application-x-leveldb-table : ℕ
-is-application-x-leveldb-table = 455
+is-application-x-leveldb-table = 460
 
 abbrev pub is-application-x-linux-kernel-as-row-bzimage : ℕ
-is-application-x-linux-kernel-as-row-bzimage = 456
+is-application-x-linux-kernel-as-row-bzimage = 461
 
 abbrev pub is-application-x-linux-kernel-as-row-zimage : ℕ
-is-application-x-linux-kernel-as-row-zimage = 457
+is-application-x-linux-kernel-as-row-zimage = 462
 
 abbrev pub is-application-x-llvm : ℕ
-is-application-x-llvm = 458
+is-application-x-llvm = 463
 
 abbrev pub is-application-x-llvm-profdata : ℕ
-is-application-x-llvm-profdata = 459
+is-application-x-llvm-profdata = 464
 
 abbrev pub is-application-x-llvm-profraw : ℕ
-is-application-x-llvm-profraw = 460
+is-application-x-llvm-profraw = 465
 
 abbrev pub is-application-x-lmdb : ℕ
-is-application-x-lmdb = 461
+is-application-x-lmdb = 466
 
 abbrev pub is-application-x-locale-archive : ℕ
-is-application-x-locale-archive = 462
+is-application-x-locale-archive = 467
 
 abbrev pub is-application-x-locate-database : ℕ
-is-application-x-locate-database = 463
+is-application-x-locate-database = 468
 
 abbrev pub is-application-x-lottie-json : ℕ
-is-application-x-lottie-json = 464
+is-application-x-lottie-json = 469
 
 abbrev pub is-application-x-lrzip : ℕ
-is-application-x-lrzip = 465
+is-application-x-lrzip = 470
 
 abbrev pub is-application-x-lua-bytecode : ℕ
-is-application-x-lua-bytecode = 466
+is-application-x-lua-bytecode = 471
 
 abbrev pub is-application-x-luks : ℕ
-is-application-x-luks = 467
+is-application-x-luks = 472
 
 abbrev pub is-application-x-lyx : ℕ
-is-application-x-lyx = 468
+is-application-x-lyx = 473
 
 abbrev pub is-application-x-lz4 : ℕ
-is-application-x-lz4 = 469
+is-application-x-lz4 = 474
 
 abbrev pub is-application-x-lz4-json : ℕ
-is-application-x-lz4-json = 470
+is-application-x-lz4-json = 475
 
 abbrev pub is-application-x-lz4-compressed-tar : ℕ
-is-application-x-lz4-compressed-tar = 471
+is-application-x-lz4-compressed-tar = 476
 
 abbrev pub is-application-x-lzfse : ℕ
-is-application-x-lzfse = 472
+is-application-x-lzfse = 477
 
 abbrev pub is-application-x-lzh-compressed : ℕ
-is-application-x-lzh-compressed = 473
+is-application-x-lzh-compressed = 478
 
 abbrev pub is-application-x-lzip : ℕ
-is-application-x-lzip = 474
+is-application-x-lzip = 479
 
 abbrev pub is-application-x-lzip-compressed-tar : ℕ
-is-application-x-lzip-compressed-tar = 475
+is-application-x-lzip-compressed-tar = 480
 
 abbrev pub is-application-x-lzma : ℕ
-is-application-x-lzma = 476
+is-application-x-lzma = 481
 
 abbrev pub is-application-x-lzma-compressed-tar : ℕ
-is-application-x-lzma-compressed-tar = 477
+is-application-x-lzma-compressed-tar = 482
 
 abbrev pub is-application-x-lzop : ℕ
-is-application-x-lzop = 478
+is-application-x-lzop = 483
 
 abbrev pub is-application-x-m4 : ℕ
-is-application-x-m4 = 479
+is-application-x-m4 = 484
 
 abbrev pub is-application-x-macbinary : ℕ
-is-application-x-macbinary = 480
+is-application-x-macbinary = 485
 
 abbrev pub is-application-x-mach-binary : ℕ
-is-application-x-mach-binary = 481
+is-application-x-mach-binary = 486
 
 abbrev pub is-application-x-magic-database : ℕ
-is-application-x-magic-database = 482
+is-application-x-magic-database = 487
 
 abbrev pub is-application-x-mame-chd : ℕ
-is-application-x-mame-chd = 483
+is-application-x-mame-chd = 488
 
 abbrev pub is-application-x-matlab-data : ℕ
-is-application-x-matlab-data = 484
+is-application-x-matlab-data = 489
 
 abbrev pub is-application-x-maxis-dbpf : ℕ
-is-application-x-maxis-dbpf = 485
+is-application-x-maxis-dbpf = 490
 
 abbrev pub is-application-x-maya-binary : ℕ
-is-application-x-maya-binary = 486
+is-application-x-maya-binary = 491
 
 abbrev pub is-application-x-mimecache : ℕ
-is-application-x-mimecache = 487
+is-application-x-mimecache = 492
 
 abbrev pub is-application-x-minecraft-world : ℕ
-is-application-x-minecraft-world = 488
+is-application-x-minecraft-world = 493
 
 abbrev pub is-application-x-minisign : ℕ
-is-application-x-minisign = 489
+is-application-x-minisign = 494
 
 abbrev pub is-application-x-mobipocket-ebook : ℕ
-is-application-x-mobipocket-ebook = 490
+is-application-x-mobipocket-ebook = 495
 
 abbrev pub is-application-x-monotone-database : ℕ
-is-application-x-monotone-database = 491
+is-application-x-monotone-database = 496
 
 abbrev pub is-application-x-mpq : ℕ
-is-application-x-mpq = 492
+is-application-x-mpq = 497
 
 abbrev pub is-application-x-ms-compress-kwaj : ℕ
-is-application-x-ms-compress-kwaj = 493
+is-application-x-ms-compress-kwaj = 498
 
 abbrev pub is-application-x-ms-compress-szdd : ℕ
-is-application-x-ms-compress-szdd = 494
+is-application-x-ms-compress-szdd = 499
 
 abbrev pub is-application-x-ms-crash-dump : ℕ
-is-application-x-ms-crash-dump = 495
+is-application-x-ms-crash-dump = 500
 
 abbrev pub is-application-x-ms-evtx : ℕ
-is-application-x-ms-evtx = 496
+is-application-x-ms-evtx = 501
 
 abbrev pub is-application-x-ms-pdb : ℕ
-is-application-x-ms-pdb = 497
+is-application-x-ms-pdb = 502
 
 abbrev pub is-application-x-ms-reader : ℕ
-is-application-x-ms-reader = 498
+is-application-x-ms-reader = 503
 
 abbrev pub is-application-x-ms-registry : ℕ
-is-application-x-ms-registry = 499
+is-application-x-ms-registry = 504
 
 abbrev pub is-application-x-ms-registry-hive : ℕ
-is-application-x-ms-registry-hive = 500
+is-application-x-ms-registry-hive = 505
 
 abbrev pub is-application-x-ms-resource : ℕ
-is-application-x-ms-resource = 501
+is-application-x-ms-resource = 506
 
 abbrev pub is-application-x-ms-sdb : ℕ
-is-application-x-ms-sdb = 502
+is-application-x-ms-sdb = 507
 
 abbrev pub is-application-x-ms-sdi : ℕ
-is-application-x-ms-sdi = 503
+is-application-x-ms-sdi = 508
 
 abbrev pub is-application-x-ms-shortcut : ℕ
-is-application-x-ms-shortcut = 504
+is-application-x-ms-shortcut = 509
 
 abbrev pub is-application-x-ms-wim : ℕ
-is-application-x-ms-wim = 505
+is-application-x-ms-wim = 510
 
 abbrev pub is-application-x-msaccess-as-row-accdb : ℕ
-is-application-x-msaccess-as-row-accdb = 506
+is-application-x-msaccess-as-row-accdb = 511
 
 abbrev pub is-application-x-msaccess-as-row-mdb : ℕ
-is-application-x-msaccess-as-row-mdb = 507
+is-application-x-msaccess-as-row-mdb = 512
 
 abbrev pub is-application-x-msbuild-xml : ℕ
-is-application-x-msbuild-xml = 508
+is-application-x-msbuild-xml = 513
 
 abbrev pub is-application-x-msi : ℕ
-is-application-x-msi = 509
+is-application-x-msi = 514
 
 abbrev pub is-application-x-mswinurl : ℕ
-is-application-x-mswinurl = 510
+is-application-x-mswinurl = 515
 
 abbrev pub is-application-x-mswrite : ℕ
-is-application-x-mswrite = 511
+is-application-x-mswrite = 516
 
 abbrev pub is-application-x-musescore : ℕ
-is-application-x-musescore = 512
+is-application-x-musescore = 517
 
 abbrev pub is-application-x-musescore-xml : ℕ
-is-application-x-musescore-xml = 513
+is-application-x-musescore-xml = 518
 
 abbrev pub is-application-x-mxml : ℕ
-is-application-x-mxml = 514
+is-application-x-mxml = 519
 
 abbrev pub is-application-x-mysql-myisam : ℕ
-is-application-x-mysql-myisam = 515
+is-application-x-mysql-myisam = 520
 
 abbrev pub is-application-x-n64-rom : ℕ
-is-application-x-n64-rom = 516
+is-application-x-n64-rom = 521
 
 abbrev pub is-application-x-natvis-xml : ℕ
-is-application-x-natvis-xml = 517
+is-application-x-natvis-xml = 522
 
 abbrev pub is-application-x-navi-animation : ℕ
-is-application-x-navi-animation = 518
+is-application-x-navi-animation = 523
 
 abbrev pub is-application-x-ndjson : ℕ
-is-application-x-ndjson = 519
+is-application-x-ndjson = 524
 
 abbrev pub is-application-x-nekovm-bytecode : ℕ
-is-application-x-nekovm-bytecode = 520
+is-application-x-nekovm-bytecode = 525
 
 abbrev pub is-application-x-neo-geo-pocket-color-rom : ℕ
-is-application-x-neo-geo-pocket-color-rom = 521
+is-application-x-neo-geo-pocket-color-rom = 526
 
 abbrev pub is-application-x-neo-geo-pocket-rom : ℕ
-is-application-x-neo-geo-pocket-rom = 522
+is-application-x-neo-geo-pocket-rom = 527
 
 abbrev pub is-application-x-netcdf : ℕ
-is-application-x-netcdf = 523
+is-application-x-netcdf = 528
 
 abbrev pub is-application-x-netmon : ℕ
-is-application-x-netmon = 524
+is-application-x-netmon = 529
 
 abbrev pub is-application-x-netshow-channel : ℕ
-is-application-x-netshow-channel = 525
+is-application-x-netshow-channel = 530
 
 abbrev pub is-application-x-nintendo-3ds-executable : ℕ
-is-application-x-nintendo-3ds-executable = 526
+is-application-x-nintendo-3ds-executable = 531
 
 abbrev pub is-application-x-nintendo-3ds-rom : ℕ
-is-application-x-nintendo-3ds-rom = 527
+is-application-x-nintendo-3ds-rom = 532
 
 abbrev pub is-application-x-nintendo-ds-rom : ℕ
-is-application-x-nintendo-ds-rom = 528
+is-application-x-nintendo-ds-rom = 533
 
 abbrev pub is-application-x-nintendo-ncch : ℕ
-is-application-x-nintendo-ncch = 529
+is-application-x-nintendo-ncch = 534
 
 abbrev pub is-application-x-nintendo-nes-rom : ℕ
-is-application-x-nintendo-nes-rom = 530
+is-application-x-nintendo-nes-rom = 535
 
 abbrev pub is-application-x-nintendo-nso : ℕ
-is-application-x-nintendo-nso = 531
+is-application-x-nintendo-nso = 536
 
 abbrev pub is-application-x-npy : ℕ
-is-application-x-npy = 532
+is-application-x-npy = 537
 
 abbrev pub is-application-x-npz : ℕ
-is-application-x-npz = 533
+is-application-x-npz = 538
 
 abbrev pub is-application-x-nuget-package : ℕ
-is-application-x-nuget-package = 534
+is-application-x-nuget-package = 539
 
 abbrev pub is-application-x-nuspec-xml : ℕ
-is-application-x-nuspec-xml = 535
+is-application-x-nuspec-xml = 540
 
 abbrev pub is-application-x-nzb : ℕ
-is-application-x-nzb = 536
+is-application-x-nzb = 541
 
 abbrev pub is-application-x-object : ℕ
-is-application-x-object = 537
+is-application-x-object = 542
 
 abbrev pub is-application-x-ocaml-cma : ℕ
-is-application-x-ocaml-cma = 538
+is-application-x-ocaml-cma = 543
 
 abbrev pub is-application-x-ocaml-cmi : ℕ
-is-application-x-ocaml-cmi = 539
+is-application-x-ocaml-cmi = 544
 
 abbrev pub is-application-x-ocaml-cmo : ℕ
-is-application-x-ocaml-cmo = 540
+is-application-x-ocaml-cmo = 545
 
 abbrev pub is-application-x-ocaml-cmt : ℕ
-is-application-x-ocaml-cmt = 541
+is-application-x-ocaml-cmt = 546
 
 abbrev pub is-application-x-ocaml-cmx : ℕ
-is-application-x-ocaml-cmx = 542
+is-application-x-ocaml-cmx = 547
 
 abbrev pub is-application-x-ocaml-cmxa : ℕ
-is-application-x-ocaml-cmxa = 543
+is-application-x-ocaml-cmxa = 548
 
 abbrev pub is-application-x-openssh-private-key : ℕ
-is-application-x-openssh-private-key = 544
+is-application-x-openssh-private-key = 549
 
 abbrev pub is-application-x-openssl-encrypted : ℕ
-is-application-x-openssl-encrypted = 545
+is-application-x-openssl-encrypted = 550
 
 abbrev pub is-application-x-openzim : ℕ
-is-application-x-openzim = 546
+is-application-x-openzim = 551
 
 abbrev pub is-application-x-orc : ℕ
-is-application-x-orc = 547
+is-application-x-orc = 552
 
 abbrev pub is-application-x-os2-hlp : ℕ
-is-application-x-os2-hlp = 548
+is-application-x-os2-hlp = 553
 
 abbrev pub is-application-x-os2-inf : ℕ
-is-application-x-os2-inf = 549
+is-application-x-os2-inf = 554
 
 abbrev pub is-application-x-os2-msg : ℕ
-is-application-x-os2-msg = 550
+is-application-x-os2-msg = 555
 
 abbrev pub is-application-x-osm-pbf : ℕ
-is-application-x-osm-pbf = 551
+is-application-x-osm-pbf = 556
 
 abbrev pub is-application-x-ova : ℕ
-is-application-x-ova = 552
+is-application-x-ova = 557
 
 abbrev pub is-application-x-pak : ℕ
-is-application-x-pak = 553
+is-application-x-pak = 558
 
 abbrev pub is-application-x-par : ℕ
-is-application-x-par = 554
+is-application-x-par = 559
 
 abbrev pub is-application-x-par2 : ℕ
-is-application-x-par2 = 555
+is-application-x-par2 = 560
 
 abbrev pub is-application-x-parallels-disk : ℕ
-is-application-x-parallels-disk = 556
+is-application-x-parallels-disk = 561
 
 abbrev pub is-application-x-pascal-resource-strings-json : ℕ
-is-application-x-pascal-resource-strings-json = 557
+is-application-x-pascal-resource-strings-json = 562
 
 abbrev pub is-application-x-pascal-unit : ℕ
-is-application-x-pascal-unit = 558
+is-application-x-pascal-unit = 563
 
 abbrev pub is-application-x-pcapng : ℕ
-is-application-x-pcapng = 559
+is-application-x-pcapng = 564
 
 abbrev pub is-application-x-pef-executable : ℕ
-is-application-x-pef-executable = 560
+is-application-x-pef-executable = 565
 
 abbrev pub is-application-x-pem-key : ℕ
-is-application-x-pem-key = 561
+is-application-x-pem-key = 566
 
 abbrev pub is-application-x-perf-data : ℕ
-is-application-x-perf-data = 562
+is-application-x-perf-data = 567
 
 abbrev pub is-application-x-phylip : ℕ
-is-application-x-phylip = 563
+is-application-x-phylip = 568
 
 abbrev pub is-application-x-plist : ℕ
-is-application-x-plist = 564
+is-application-x-plist = 569
 
 abbrev pub is-application-x-ply : ℕ
-is-application-x-ply = 565
+is-application-x-ply = 570
 
 abbrev pub is-application-x-pocket-word : ℕ
-is-application-x-pocket-word = 566
+is-application-x-pocket-word = 571
 
 abbrev pub is-application-x-postgresql-dump : ℕ
-is-application-x-postgresql-dump = 567
+is-application-x-postgresql-dump = 572
 
 abbrev pub is-application-x-pov : ℕ
-is-application-x-pov = 568
+is-application-x-pov = 573
 
 abbrev pub is-application-x-powershell : ℕ
-is-application-x-powershell = 569
+is-application-x-powershell = 574
 
 abbrev pub is-application-x-ppf-patch : ℕ
-is-application-x-ppf-patch = 570
+is-application-x-ppf-patch = 575
 
 abbrev pub is-application-x-ps1xml : ℕ
-is-application-x-ps1xml = 571
+is-application-x-ps1xml = 576
 
 abbrev pub is-application-x-psx-executable : ℕ
-is-application-x-psx-executable = 572
+is-application-x-psx-executable = 577
 
 abbrev pub is-application-x-putty-private-key : ℕ
-is-application-x-putty-private-key = 573
+is-application-x-putty-private-key = 578
 
 abbrev pub is-application-x-pyspread-spreadsheet : ℕ
-is-application-x-pyspread-spreadsheet = 574
+is-application-x-pyspread-spreadsheet = 579
 
 abbrev pub is-application-x-python-bytecode : ℕ
-is-application-x-python-bytecode = 575
+is-application-x-python-bytecode = 580
 
 abbrev pub is-application-x-python-pickle : ℕ
-is-application-x-python-pickle = 576
+is-application-x-python-pickle = 581
 
 abbrev pub is-application-x-python-zipapp : ℕ
-is-application-x-python-zipapp = 577
+is-application-x-python-zipapp = 582
 
 abbrev pub is-application-x-pytorch : ℕ
-is-application-x-pytorch = 578
+is-application-x-pytorch = 583
 
 abbrev pub is-application-x-qed-disk : ℕ
-is-application-x-qed-disk = 579
+is-application-x-qed-disk = 584
 
 abbrev pub is-application-x-qemu-disk : ℕ
-is-application-x-qemu-disk = 580
+is-application-x-qemu-disk = 585
 
 abbrev pub is-application-x-qgis-project-as-own : ℕ
-is-application-x-qgis-project-as-own = 581
+is-application-x-qgis-project-as-own = 586
 
 abbrev pub is-application-x-qgis-project-as-row-qgz : ℕ
-is-application-x-qgis-project-as-row-qgz = 582
+is-application-x-qgis-project-as-row-qgz = 587
 
 abbrev pub is-application-x-qpress : ℕ
-is-application-x-qpress = 583
+is-application-x-qpress = 588
 
 abbrev pub is-application-x-qt-resource : ℕ
-is-application-x-qt-resource = 584
+is-application-x-qt-resource = 589
 
 abbrev pub is-application-x-qtiplot : ℕ
-is-application-x-qtiplot = 585
+is-application-x-qtiplot = 590
 
 abbrev pub is-application-x-quake-bsp : ℕ
-is-application-x-quake-bsp = 586
+is-application-x-quake-bsp = 591
 
 abbrev pub is-application-x-quake-model : ℕ
-is-application-x-quake-model = 587
+is-application-x-quake-model = 592
 
 abbrev pub is-application-x-quattropro : ℕ
-is-application-x-quattropro = 588
+is-application-x-quattropro = 593
 
 abbrev pub is-application-x-quicktime-media-link : ℕ
-is-application-x-quicktime-media-link = 589
+is-application-x-quicktime-media-link = 594
 
 abbrev pub is-application-x-r-data : ℕ
-is-application-x-r-data = 590
+is-application-x-r-data = 595
 
 abbrev pub is-application-x-raw-disk-image : ℕ
-is-application-x-raw-disk-image = 591
+is-application-x-raw-disk-image = 596
 
 abbrev pub is-application-x-redis-dump : ℕ
-is-application-x-redis-dump = 592
+is-application-x-redis-dump = 597
 
 abbrev pub is-application-x-resx-xml : ℕ
-is-application-x-resx-xml = 593
+is-application-x-resx-xml = 598
 
 abbrev pub is-application-x-rhino : ℕ
-is-application-x-rhino = 594
+is-application-x-rhino = 599
 
 abbrev pub is-application-x-romfs : ℕ
-is-application-x-romfs = 595
+is-application-x-romfs = 600
 
 abbrev pub is-application-x-rpm : ℕ
-is-application-x-rpm = 596
+is-application-x-rpm = 601
 
 abbrev pub is-application-x-rrd : ℕ
-is-application-x-rrd = 597
+is-application-x-rrd = 602
 
 abbrev pub is-application-x-ruby-gem : ℕ
-is-application-x-ruby-gem = 598
+is-application-x-ruby-gem = 603
 
 abbrev pub is-application-x-rust-metadata : ℕ
-is-application-x-rust-metadata = 599
+is-application-x-rust-metadata = 604
 
 abbrev pub is-application-x-rust-rlib : ℕ
-is-application-x-rust-rlib = 600
+is-application-x-rust-rlib = 605
 
 abbrev pub is-application-x-rzip : ℕ
-is-application-x-rzip = 601
+is-application-x-rzip = 606
 
 abbrev pub is-application-x-safetensors : ℕ
-is-application-x-safetensors = 602
+is-application-x-safetensors = 607
 
 abbrev pub is-application-x-sami : ℕ
-is-application-x-sami = 603
+is-application-x-sami = 608
 
 abbrev pub is-application-x-sas-data : ℕ
-is-application-x-sas-data = 604
+is-application-x-sas-data = 609
 
 abbrev pub is-application-x-scf : ℕ
-is-application-x-scf = 605
+is-application-x-scf = 610
 
 abbrev pub is-application-x-schematron-xml : ℕ
-is-application-x-schematron-xml = 606
+is-application-x-schematron-xml = 611
 
 abbrev pub is-application-x-scxml-xml : ℕ
-is-application-x-scxml-xml = 607
+is-application-x-scxml-xml = 612
 
 abbrev pub is-application-x-setupscript : ℕ
-is-application-x-setupscript = 608
+is-application-x-setupscript = 613
 
 abbrev pub is-application-x-shapefile-index : ℕ
-is-application-x-shapefile-index = 609
+is-application-x-shapefile-index = 614
 
 abbrev pub is-application-x-shared-library-la : ℕ
-is-application-x-shared-library-la = 610
+is-application-x-shared-library-la = 615
 
 abbrev pub is-application-x-sharedlib : ℕ
-is-application-x-sharedlib = 611
+is-application-x-sharedlib = 616
 
 abbrev pub is-application-x-shockwave-flash : ℕ
-is-application-x-shockwave-flash = 612
+is-application-x-shockwave-flash = 617
 
 abbrev pub is-application-x-shorten : ℕ
-is-application-x-shorten = 613
+is-application-x-shorten = 618
 
 abbrev pub is-application-x-silverlight-app : ℕ
-is-application-x-silverlight-app = 614
+is-application-x-silverlight-app = 619
 
 abbrev pub is-application-x-sketch : ℕ
-is-application-x-sketch = 615
+is-application-x-sketch = 620
 
 abbrev pub is-application-x-sketchup : ℕ
-is-application-x-sketchup = 616
+is-application-x-sketchup = 621
 
 abbrev pub is-application-x-snappy-framed : ℕ
-is-application-x-snappy-framed = 617
+is-application-x-snappy-framed = 622
 
 abbrev pub is-application-x-snoop : ℕ
-is-application-x-snoop = 618
+is-application-x-snoop = 623
 
 abbrev pub is-application-x-sony-bbeb : ℕ
-is-application-x-sony-bbeb = 619
+is-application-x-sony-bbeb = 624
 
 abbrev pub is-application-x-source-rpm : ℕ
-is-application-x-source-rpm = 620
+is-application-x-source-rpm = 625
 
 abbrev pub is-application-x-spectrum-szx : ℕ
-is-application-x-spectrum-szx = 621
+is-application-x-spectrum-szx = 626
 
 abbrev pub is-application-x-spectrum-tzx : ℕ
-is-application-x-spectrum-tzx = 622
+is-application-x-spectrum-tzx = 627
 
 abbrev pub is-application-x-spirv : ℕ
-is-application-x-spirv = 623
+is-application-x-spirv = 628
 
 abbrev pub is-application-x-spss-por : ℕ
-is-application-x-spss-por = 624
+is-application-x-spss-por = 629
 
 abbrev pub is-application-x-spss-sav : ℕ
-is-application-x-spss-sav = 625
+is-application-x-spss-sav = 630
 
 abbrev pub is-application-x-sqlite2 : ℕ
-is-application-x-sqlite2 = 626
+is-application-x-sqlite2 = 631
 
 abbrev pub is-application-x-ssh-public-key : ℕ
-is-application-x-ssh-public-key = 627
+is-application-x-ssh-public-key = 632
 
 abbrev pub is-application-x-ssh1-private-key : ℕ
-is-application-x-ssh1-private-key = 628
+is-application-x-ssh1-private-key = 633
 
 abbrev pub is-application-x-stata-dta : ℕ
-is-application-x-stata-dta = 629
+is-application-x-stata-dta = 634
 
 abbrev pub is-application-x-storyboard-xml : ℕ
-is-application-x-storyboard-xml = 630
+is-application-x-storyboard-xml = 635
 
 abbrev pub is-application-x-stuffit : ℕ
-is-application-x-stuffit = 631
+is-application-x-stuffit = 636
 
 abbrev pub is-application-x-sublime-syntax : ℕ
-is-application-x-sublime-syntax = 632
+is-application-x-sublime-syntax = 637
 
 abbrev pub is-application-x-subrip : ℕ
-is-application-x-subrip = 633
+is-application-x-subrip = 638
 
 abbrev pub is-application-x-supercollider-synthdef : ℕ
-is-application-x-supercollider-synthdef = 634
+is-application-x-supercollider-synthdef = 639
 
 abbrev pub is-application-x-svn-dump : ℕ
-is-application-x-svn-dump = 635
+is-application-x-svn-dump = 640
 
 abbrev pub is-application-x-svr4-package : ℕ
-is-application-x-svr4-package = 636
+is-application-x-svr4-package = 641
 
 abbrev pub is-application-x-swiftmodule : ℕ
-is-application-x-swiftmodule = 637
+is-application-x-swiftmodule = 642
 
 abbrev pub is-application-x-systemd-journal : ℕ
-is-application-x-systemd-journal = 638
+is-application-x-systemd-journal = 643
 
 abbrev pub is-application-x-t602 : ℕ
-is-application-x-t602 = 639
+is-application-x-t602 = 644
 
 abbrev pub is-application-x-tabix : ℕ
-is-application-x-tabix = 640
+is-application-x-tabix = 645
 
 abbrev pub is-application-x-tar : ℕ
-is-application-x-tar = 641
+is-application-x-tar = 646
 
 abbrev pub is-application-x-tarz : ℕ
-is-application-x-tarz = 642
+is-application-x-tarz = 647
 
 abbrev pub is-application-x-tdb : ℕ
-is-application-x-tdb = 643
+is-application-x-tdb = 648
 
 abbrev pub is-application-x-terminfo : ℕ
-is-application-x-terminfo = 644
+is-application-x-terminfo = 649
 
 abbrev pub is-application-x-terraform-state-json : ℕ
-is-application-x-terraform-state-json = 645
+is-application-x-terraform-state-json = 650
 
 abbrev pub is-application-x-tex-pk : ℕ
-is-application-x-tex-pk = 646
+is-application-x-tex-pk = 651
 
 abbrev pub is-application-x-tex-tfm : ℕ
-is-application-x-tex-tfm = 647
+is-application-x-tex-tfm = 652
 
 abbrev pub is-application-x-tflite : ℕ
-is-application-x-tflite = 648
+is-application-x-tflite = 653
 
 abbrev pub is-application-x-tgif : ℕ
-is-application-x-tgif = 649
+is-application-x-tgif = 654
 
 abbrev pub is-application-x-theme : ℕ
-is-application-x-theme = 650
+is-application-x-theme = 655
 
 abbrev pub is-application-x-theme-xml : ℕ
-is-application-x-theme-xml = 651
+is-application-x-theme-xml = 656
 
 abbrev pub is-application-x-thomson-sap-image : ℕ
-is-application-x-thomson-sap-image = 652
+is-application-x-thomson-sap-image = 657
 
 abbrev pub is-application-x-thumbs-db : ℕ
-is-application-x-thumbs-db = 653
+is-application-x-thumbs-db = 658
 
 abbrev pub is-application-x-tmx-xml : ℕ
-is-application-x-tmx-xml = 654
+is-application-x-tmx-xml = 659
 
 abbrev pub is-application-x-tokyocabinet-btree : ℕ
-is-application-x-tokyocabinet-btree = 655
+is-application-x-tokyocabinet-btree = 660
 
 abbrev pub is-application-x-tokyocabinet-fixed : ℕ
-is-application-x-tokyocabinet-fixed = 656
+is-application-x-tokyocabinet-fixed = 661
 
 abbrev pub is-application-x-tokyocabinet-hash : ℕ
-is-application-x-tokyocabinet-hash = 657
+is-application-x-tokyocabinet-hash = 662
 
 abbrev pub is-application-x-tokyocabinet-table : ℕ
-is-application-x-tokyocabinet-table = 658
+is-application-x-tokyocabinet-table = 663
 
 abbrev pub is-application-x-trid-trd : ℕ
-is-application-x-trid-trd = 659
+is-application-x-trid-trd = 664
 
 abbrev pub is-application-x-ubi : ℕ
-is-application-x-ubi = 660
+is-application-x-ubi = 665
 
 abbrev pub is-application-x-ubifs : ℕ
-is-application-x-ubifs = 661
+is-application-x-ubifs = 666
 
 abbrev pub is-application-x-uf2 : ℕ
-is-application-x-uf2 = 662
+is-application-x-uf2 = 667
 
 abbrev pub is-application-x-uimage : ℕ
-is-application-x-uimage = 663
+is-application-x-uimage = 668
 
 abbrev pub is-application-x-unity-asmdef-json : ℕ
-is-application-x-unity-asmdef-json = 664
+is-application-x-unity-asmdef-json = 669
 
 abbrev pub is-application-x-unity-asset : ℕ
-is-application-x-unity-asset = 665
+is-application-x-unity-asset = 670
 
 abbrev pub is-application-x-unix-archive : ℕ
-is-application-x-unix-archive = 666
+is-application-x-unix-archive = 671
 
 abbrev pub is-application-x-unreal-package : ℕ
-is-application-x-unreal-package = 667
+is-application-x-unreal-package = 672
 
 abbrev pub is-application-x-uproject-json : ℕ
-is-application-x-uproject-json = 668
+is-application-x-uproject-json = 673
 
 abbrev pub is-application-x-ups-patch : ℕ
-is-application-x-ups-patch = 669
+is-application-x-ups-patch = 674
 
 abbrev pub is-application-x-urdf-xml : ℕ
-is-application-x-urdf-xml = 670
+is-application-x-urdf-xml = 675
 
 abbrev pub is-application-x-usdc : ℕ
-is-application-x-usdc = 671
+is-application-x-usdc = 676
 
 abbrev pub is-application-x-usdz : ℕ
-is-application-x-usdz = 672
+is-application-x-usdz = 677
 
 abbrev pub is-application-x-valve-pak : ℕ
-is-application-x-valve-pak = 673
+is-application-x-valve-pak = 678
 
 abbrev pub is-application-x-vcdiff : ℕ
-is-application-x-vcdiff = 674
+is-application-x-vcdiff = 679
 
 abbrev pub is-application-x-vdi-disk : ℕ
-is-application-x-vdi-disk = 675
+is-application-x-vdi-disk = 680
 
 abbrev pub is-application-x-vhd-disk : ℕ
-is-application-x-vhd-disk = 676
+is-application-x-vhd-disk = 681
 
 abbrev pub is-application-x-vhdx-disk : ℕ
-is-application-x-vhdx-disk = 677
+is-application-x-vhdx-disk = 682
 
 abbrev pub is-application-x-vim-spell : ℕ
-is-application-x-vim-spell = 678
+is-application-x-vim-spell = 683
 
 abbrev pub is-application-x-vim-swap : ℕ
-is-application-x-vim-swap = 679
+is-application-x-vim-swap = 684
 
 abbrev pub is-application-x-virtualbox-saved-state : ℕ
-is-application-x-virtualbox-saved-state = 680
+is-application-x-virtualbox-saved-state = 685
 
 abbrev pub is-application-x-vmdk-disk : ℕ
-is-application-x-vmdk-disk = 681
+is-application-x-vmdk-disk = 686
 
 abbrev pub is-application-x-wheel-zip : ℕ
-is-application-x-wheel-zip = 682
+is-application-x-wheel-zip = 687
 
 abbrev pub is-application-x-wii-rom-as-row-rvz : ℕ
-is-application-x-wii-rom-as-row-rvz = 683
+is-application-x-wii-rom-as-row-rvz = 688
 
 abbrev pub is-application-x-wii-rom-as-row-wbfs : ℕ
-is-application-x-wii-rom-as-row-wbfs = 684
+is-application-x-wii-rom-as-row-wbfs = 689
 
 abbrev pub is-application-x-wii-wad : ℕ
-is-application-x-wii-wad = 685
+is-application-x-wii-wad = 690
 
 abbrev pub is-application-x-windows-dump : ℕ
-is-application-x-windows-dump = 686
+is-application-x-windows-dump = 691
 
 abbrev pub is-application-x-wix-xml : ℕ
-is-application-x-wix-xml = 687
+is-application-x-wix-xml = 692
 
 abbrev pub is-application-x-wmz : ℕ
-is-application-x-wmz = 688
+is-application-x-wmz = 693
 
 abbrev pub is-application-x-wordperfect-wpm : ℕ
-is-application-x-wordperfect-wpm = 689
+is-application-x-wordperfect-wpm = 694
 
 abbrev pub is-application-x-x509-ca-cert-as-known : ℕ
-is-application-x-x509-ca-cert-as-known = 690
+is-application-x-x509-ca-cert-as-known = 695
 
 abbrev pub is-application-x-x509-ca-cert-as-row-der : ℕ
-is-application-x-x509-ca-cert-as-row-der = 691
+is-application-x-x509-ca-cert-as-row-der = 696
 
 abbrev pub is-application-x-x509-ca-cert-as-row-pem : ℕ
-is-application-x-x509-ca-cert-as-row-pem = 692
+is-application-x-x509-ca-cert-as-row-pem = 697
 
 abbrev pub is-application-x-xar : ℕ
-is-application-x-xar = 693
+is-application-x-xar = 698
 
 abbrev pub is-application-x-xbel : ℕ
-is-application-x-xbel = 694
+is-application-x-xbel = 699
 
 abbrev pub is-application-x-xbmc-xbt : ℕ
-is-application-x-xbmc-xbt = 695
+is-application-x-xbmc-xbt = 700
 
 abbrev pub is-application-x-xmp-xml : ℕ
-is-application-x-xmp-xml = 696
+is-application-x-xmp-xml = 701
 
 abbrev pub is-application-x-xpinstall : ℕ
-is-application-x-xpinstall = 697
+is-application-x-xpinstall = 702
 
 abbrev pub is-application-x-xz : ℕ
-is-application-x-xz = 698
+is-application-x-xz = 703
 
 abbrev pub is-application-x-xz-compressed-tar : ℕ
-is-application-x-xz-compressed-tar = 699
+is-application-x-xz-compressed-tar = 704
 
 abbrev pub is-application-x-zchunk : ℕ
-is-application-x-zchunk = 700
+is-application-x-zchunk = 705
 
 abbrev pub is-application-x-zcml : ℕ
-is-application-x-zcml = 701
+is-application-x-zcml = 706
 
 abbrev pub is-application-x-zip : ℕ
-is-application-x-zip = 702
+is-application-x-zip = 707
 
 abbrev pub is-application-x-zip-compressed-fb2 : ℕ
-is-application-x-zip-compressed-fb2 = 703
+is-application-x-zip-compressed-fb2 = 708
 
 abbrev pub is-application-x-zoo : ℕ
-is-application-x-zoo = 704
+is-application-x-zoo = 709
 
 abbrev pub is-application-x-zpaq : ℕ
-is-application-x-zpaq = 705
+is-application-x-zpaq = 710
 
 abbrev pub is-application-x-zsh : ℕ
-is-application-x-zsh = 706
+is-application-x-zsh = 711
 
 abbrev pub is-application-x-zstd-compressed-tar : ℕ
-is-application-x-zstd-compressed-tar = 707
+is-application-x-zstd-compressed-tar = 712
 
 abbrev pub is-application-xaml-xml : ℕ
-is-application-xaml-xml = 708
+is-application-xaml-xml = 713
 
 abbrev pub is-application-xhtml-xml : ℕ
-is-application-xhtml-xml = 709
+is-application-xhtml-xml = 714
 
 abbrev pub is-application-xliff-xml : ℕ
-is-application-xliff-xml = 710
+is-application-xliff-xml = 715
 
 abbrev pub is-application-xml : ℕ
-is-application-xml = 711
+is-application-xml = 716
 
 abbrev pub is-application-xml-dtd : ℕ
-is-application-xml-dtd = 712
+is-application-xml-dtd = 717
 
 abbrev pub is-application-xml-external-parsed-entity : ℕ
-is-application-xml-external-parsed-entity = 713
+is-application-xml-external-parsed-entity = 718
 
 abbrev pub is-application-xproc-xml : ℕ
-is-application-xproc-xml = 714
+is-application-xproc-xml = 719
 
 abbrev pub is-application-xquery : ℕ
-is-application-xquery = 715
+is-application-xquery = 720
 
 abbrev pub is-application-xslt-xml : ℕ
-is-application-xslt-xml = 716
+is-application-xslt-xml = 721
 
 abbrev pub is-application-xspf-xml : ℕ
-is-application-xspf-xml = 717
+is-application-xspf-xml = 722
 
 abbrev pub is-application-yaml : ℕ
-is-application-yaml = 718
+is-application-yaml = 723
 
 abbrev pub is-application-zip : ℕ
-is-application-zip = 719
+is-application-zip = 724
 
 abbrev pub is-application-zstd : ℕ
-is-application-zstd = 720
+is-application-zstd = 725
 
 abbrev pub is-audio-aac : ℕ
-is-audio-aac = 721
+is-audio-aac = 726
 
 abbrev pub is-audio-ac3 : ℕ
-is-audio-ac3 = 722
+is-audio-ac3 = 727
 
 abbrev pub is-audio-amr : ℕ
-is-audio-amr = 723
+is-audio-amr = 728
 
 abbrev pub is-audio-basic : ℕ
-is-audio-basic = 724
+is-audio-basic = 729
 
 abbrev pub is-audio-eac3 : ℕ
-is-audio-eac3 = 725
+is-audio-eac3 = 730
 
 abbrev pub is-audio-m4a : ℕ
-is-audio-m4a = 726
+is-audio-m4a = 731
 
 abbrev pub is-audio-mid : ℕ
-is-audio-mid = 727
+is-audio-mid = 732
 
 abbrev pub is-audio-midi : ℕ
-is-audio-midi = 728
+is-audio-midi = 733
 
 abbrev pub is-audio-mobile-xmf : ℕ
-is-audio-mobile-xmf = 729
+is-audio-mobile-xmf = 734
 
 abbrev pub is-audio-mp4 : ℕ
-is-audio-mp4 = 730
+is-audio-mp4 = 735
 
 abbrev pub is-audio-mpeg : ℕ
-is-audio-mpeg = 731
+is-audio-mpeg = 736
 
 abbrev pub is-audio-ogg-as-row-oga : ℕ
-is-audio-ogg-as-row-oga = 732
+is-audio-ogg-as-row-oga = 737
 
 abbrev pub is-audio-ogg-as-row-ogg : ℕ
-is-audio-ogg-as-row-ogg = 733
+is-audio-ogg-as-row-ogg = 738
 
 abbrev pub is-audio-opus : ℕ
-is-audio-opus = 734
+is-audio-opus = 739
 
 abbrev pub is-audio-prs-sid : ℕ
-is-audio-prs-sid = 735
+is-audio-prs-sid = 740
 
 abbrev pub is-audio-sf2 : ℕ
-is-audio-sf2 = 736
+is-audio-sf2 = 741
 
 abbrev pub is-audio-vnd-audible : ℕ
-is-audio-vnd-audible = 737
+is-audio-vnd-audible = 742
 
 abbrev pub is-audio-vnd-audible-aax : ℕ
-is-audio-vnd-audible-aax = 738
+is-audio-vnd-audible-aax = 743
 
 abbrev pub is-audio-vnd-dolby-mlp : ℕ
-is-audio-vnd-dolby-mlp = 739
+is-audio-vnd-dolby-mlp = 744
 
 abbrev pub is-audio-vnd-dts : ℕ
-is-audio-vnd-dts = 740
+is-audio-vnd-dts = 745
 
 abbrev pub is-audio-vnd-rn-realaudio : ℕ
-is-audio-vnd-rn-realaudio = 741
+is-audio-vnd-rn-realaudio = 746
 
 abbrev pub is-audio-webm : ℕ
-is-audio-webm = 742
+is-audio-webm = 747
 
 abbrev pub is-audio-x-8svx : ℕ
-is-audio-x-8svx = 743
+is-audio-x-8svx = 748
 
 abbrev pub is-audio-x-aifc : ℕ
-is-audio-x-aifc = 744
+is-audio-x-aifc = 749
 
 abbrev pub is-audio-x-aiff : ℕ
-is-audio-x-aiff = 745
+is-audio-x-aiff = 750
 
 abbrev pub is-audio-x-ape : ℕ
-is-audio-x-ape = 746
+is-audio-x-ape = 751
 
 abbrev pub is-audio-x-avr : ℕ
-is-audio-x-avr = 747
+is-audio-x-avr = 752
 
 abbrev pub is-audio-x-ay : ℕ
-is-audio-x-ay = 748
+is-audio-x-ay = 753
 
 abbrev pub is-audio-x-bcstm : ℕ
-is-audio-x-bcstm = 749
+is-audio-x-bcstm = 754
 
 abbrev pub is-audio-x-bcwav : ℕ
-is-audio-x-bcwav = 750
+is-audio-x-bcwav = 755
 
 abbrev pub is-audio-x-bfstm : ℕ
-is-audio-x-bfstm = 751
+is-audio-x-bfstm = 756
 
 abbrev pub is-audio-x-brstm : ℕ
-is-audio-x-brstm = 752
+is-audio-x-brstm = 757
 
 abbrev pub is-audio-x-caf : ℕ
-is-audio-x-caf = 753
+is-audio-x-caf = 758
 
 abbrev pub is-audio-x-dbm : ℕ
-is-audio-x-dbm = 754
+is-audio-x-dbm = 759
 
 abbrev pub is-audio-x-dff : ℕ
-is-audio-x-dff = 755
+is-audio-x-dff = 760
 
 abbrev pub is-audio-x-dsf : ℕ
-is-audio-x-dsf = 756
+is-audio-x-dsf = 761
 
 abbrev pub is-audio-x-dss : ℕ
-is-audio-x-dss = 757
+is-audio-x-dss = 762
 
 abbrev pub is-audio-x-flac : ℕ
-is-audio-x-flac = 758
+is-audio-x-flac = 763
 
 abbrev pub is-audio-x-gbs : ℕ
-is-audio-x-gbs = 759
+is-audio-x-gbs = 764
 
 abbrev pub is-audio-x-gsm : ℕ
-is-audio-x-gsm = 760
+is-audio-x-gsm = 765
 
 abbrev pub is-audio-x-ircam : ℕ
-is-audio-x-ircam = 761
+is-audio-x-ircam = 766
 
 abbrev pub is-audio-x-iriver-pla : ℕ
-is-audio-x-iriver-pla = 762
+is-audio-x-iriver-pla = 767
 
 abbrev pub is-audio-x-it : ℕ
-is-audio-x-it = 763
+is-audio-x-it = 768
 
 abbrev pub is-audio-x-m4b : ℕ
-is-audio-x-m4b = 764
+is-audio-x-m4b = 769
 
 abbrev pub is-audio-x-matroska : ℕ
-is-audio-x-matroska = 765
+is-audio-x-matroska = 770
 
 abbrev pub is-audio-x-maud : ℕ
-is-audio-x-maud = 766
+is-audio-x-maud = 771
 
 abbrev pub is-audio-x-mids : ℕ
-is-audio-x-mids = 767
+is-audio-x-mids = 772
 
 abbrev pub is-audio-x-mo3 : ℕ
-is-audio-x-mo3 = 768
+is-audio-x-mo3 = 773
 
 abbrev pub is-audio-x-mod-as-known : ℕ
-is-audio-x-mod-as-known = 769
+is-audio-x-mod-as-known = 774
 
 abbrev pub is-audio-x-mod-as-row-mod : ℕ
-is-audio-x-mod-as-row-mod = 770
+is-audio-x-mod-as-row-mod = 775
 
 abbrev pub is-audio-x-mpegurl : ℕ
-is-audio-x-mpegurl = 771
+is-audio-x-mpegurl = 776
 
 abbrev pub is-audio-x-ms-asx : ℕ
-is-audio-x-ms-asx = 772
+is-audio-x-ms-asx = 777
 
 abbrev pub is-audio-x-ms-wma : ℕ
-is-audio-x-ms-wma = 773
+is-audio-x-ms-wma = 778
 
 abbrev pub is-audio-x-musepack : ℕ
-is-audio-x-musepack = 774
+is-audio-x-musepack = 779
 
 abbrev pub is-audio-x-nist : ℕ
-is-audio-x-nist = 775
+is-audio-x-nist = 780
 
 abbrev pub is-audio-x-nsf : ℕ
-is-audio-x-nsf = 776
+is-audio-x-nsf = 781
 
 abbrev pub is-audio-x-okt : ℕ
-is-audio-x-okt = 777
+is-audio-x-okt = 782
 
 abbrev pub is-audio-x-paf : ℕ
-is-audio-x-paf = 778
+is-audio-x-paf = 783
 
 abbrev pub is-audio-x-psf : ℕ
-is-audio-x-psf = 779
+is-audio-x-psf = 784
 
 abbrev pub is-audio-x-psion-wve : ℕ
-is-audio-x-psion-wve = 780
+is-audio-x-psion-wve = 785
 
 abbrev pub is-audio-x-ptm : ℕ
-is-audio-x-ptm = 781
+is-audio-x-ptm = 786
 
 abbrev pub is-audio-x-pvf : ℕ
-is-audio-x-pvf = 782
+is-audio-x-pvf = 787
 
 abbrev pub is-audio-x-rf64 : ℕ
-is-audio-x-rf64 = 783
+is-audio-x-rf64 = 788
 
 abbrev pub is-audio-x-s3m : ℕ
-is-audio-x-s3m = 784
+is-audio-x-s3m = 789
 
 abbrev pub is-audio-x-sample-vision : ℕ
-is-audio-x-sample-vision = 785
+is-audio-x-sample-vision = 790
 
 abbrev pub is-audio-x-sap : ℕ
-is-audio-x-sap = 786
+is-audio-x-sap = 791
 
 abbrev pub is-audio-x-scpls : ℕ
-is-audio-x-scpls = 787
+is-audio-x-scpls = 792
 
 abbrev pub is-audio-x-sds : ℕ
-is-audio-x-sds = 788
+is-audio-x-sds = 793
 
 abbrev pub is-audio-x-sfbk : ℕ
-is-audio-x-sfbk = 789
+is-audio-x-sfbk = 794
 
 abbrev pub is-audio-x-spc : ℕ
-is-audio-x-spc = 790
+is-audio-x-spc = 795
 
 abbrev pub is-audio-x-speex-ogg : ℕ
-is-audio-x-speex-ogg = 791
+is-audio-x-speex-ogg = 796
 
 abbrev pub is-audio-x-stm : ℕ
-is-audio-x-stm = 792
+is-audio-x-stm = 797
 
 abbrev pub is-audio-x-tta : ℕ
-is-audio-x-tta = 793
+is-audio-x-tta = 798
 
 abbrev pub is-audio-x-ult : ℕ
-is-audio-x-ult = 794
+is-audio-x-ult = 799
 
 abbrev pub is-audio-x-vgm : ℕ
-is-audio-x-vgm = 795
+is-audio-x-vgm = 800
 
 abbrev pub is-audio-x-voc : ℕ
-is-audio-x-voc = 796
+is-audio-x-voc = 801
 
 abbrev pub is-audio-x-w64 : ℕ
-is-audio-x-w64 = 797
+is-audio-x-w64 = 802
 
 abbrev pub is-audio-x-wav : ℕ
-is-audio-x-wav = 798
+is-audio-x-wav = 803
 
 abbrev pub is-audio-x-wavpack : ℕ
-is-audio-x-wavpack = 799
+is-audio-x-wavpack = 804
 
 abbrev pub is-audio-x-xbox-executable : ℕ
-is-audio-x-xbox-executable = 800
+is-audio-x-xbox-executable = 805
 
 abbrev pub is-audio-x-xbox360-executable : ℕ
-is-audio-x-xbox360-executable = 801
+is-audio-x-xbox360-executable = 806
 
 abbrev pub is-audio-x-xi : ℕ
-is-audio-x-xi = 802
+is-audio-x-xi = 807
 
 abbrev pub is-audio-x-xm : ℕ
-is-audio-x-xm = 803
+is-audio-x-xm = 808
 
 abbrev pub is-audio-x-yamaha-txw : ℕ
-is-audio-x-yamaha-txw = 804
+is-audio-x-yamaha-txw = 809
 
 abbrev pub is-chemical-x-cdx : ℕ
-is-chemical-x-cdx = 805
+is-chemical-x-cdx = 810
 
 abbrev pub is-chemical-x-cif : ℕ
-is-chemical-x-cif = 806
+is-chemical-x-cif = 811
 
 abbrev pub is-chemical-x-cml : ℕ
-is-chemical-x-cml = 807
+is-chemical-x-cml = 812
 
 abbrev pub is-chemical-x-mdl-molfile : ℕ
-is-chemical-x-mdl-molfile = 808
+is-chemical-x-mdl-molfile = 813
 
 abbrev pub is-chemical-x-mdl-sdfile : ℕ
-is-chemical-x-mdl-sdfile = 809
+is-chemical-x-mdl-sdfile = 814
 
 abbrev pub is-chemical-x-mol2 : ℕ
-is-chemical-x-mol2 = 810
+is-chemical-x-mol2 = 815
 
 abbrev pub is-chemical-x-pdb : ℕ
-is-chemical-x-pdb = 811
+is-chemical-x-pdb = 816
 
 abbrev pub is-chemical-x-xyz : ℕ
-is-chemical-x-xyz = 812
+is-chemical-x-xyz = 817
 
 abbrev pub is-font-collection : ℕ
-is-font-collection = 813
+is-font-collection = 818
 
 abbrev pub is-font-x-dos-cpi : ℕ
-is-font-x-dos-cpi = 814
+is-font-x-dos-cpi = 819
 
 abbrev pub is-font-x-drdos-cpi : ℕ
-is-font-x-drdos-cpi = 815
+is-font-x-drdos-cpi = 820
 
 abbrev pub is-image-apng : ℕ
-is-image-apng = 816
+is-image-apng = 821
 
 abbrev pub is-image-astc : ℕ
-is-image-astc = 817
+is-image-astc = 822
 
 abbrev pub is-image-avif : ℕ
-is-image-avif = 818
+is-image-avif = 823
 
 abbrev pub is-image-bmp : ℕ
-is-image-bmp = 819
+is-image-bmp = 824
 
 abbrev pub is-image-bpg : ℕ
-is-image-bpg = 820
+is-image-bpg = 825
 
 abbrev pub is-image-cineon : ℕ
-is-image-cineon = 821
+is-image-cineon = 826
 
 abbrev pub is-image-dpx : ℕ
-is-image-dpx = 822
+is-image-dpx = 827
 
 abbrev pub is-image-emf : ℕ
-is-image-emf = 823
+is-image-emf = 828
 
 abbrev pub is-image-fits : ℕ
-is-image-fits = 824
+is-image-fits = 829
 
 abbrev pub is-image-flif : ℕ
-is-image-flif = 825
+is-image-flif = 830
 
 abbrev pub is-image-geotiff : ℕ
-is-image-geotiff = 826
+is-image-geotiff = 831
 
 abbrev pub is-image-gif : ℕ
-is-image-gif = 827
+is-image-gif = 832
 
 abbrev pub is-image-heic : ℕ
-is-image-heic = 828
+is-image-heic = 833
 
 abbrev pub is-image-heic-sequence : ℕ
-is-image-heic-sequence = 829
+is-image-heic-sequence = 834
 
 abbrev pub is-image-heif : ℕ
-is-image-heif = 830
+is-image-heif = 835
 
 abbrev pub is-image-heif-sequence : ℕ
-is-image-heif-sequence = 831
+is-image-heif-sequence = 836
 
 abbrev pub is-image-jls : ℕ
-is-image-jls = 832
+is-image-jls = 837
 
 abbrev pub is-image-jp2 : ℕ
-is-image-jp2 = 833
+is-image-jp2 = 838
 
 abbrev pub is-image-jpeg : ℕ
-is-image-jpeg = 834
+is-image-jpeg = 839
 
 abbrev pub is-image-jph : ℕ
-is-image-jph = 835
+is-image-jph = 840
 
 abbrev pub is-image-jpm : ℕ
-is-image-jpm = 836
+is-image-jpm = 841
 
 abbrev pub is-image-jpx : ℕ
-is-image-jpx = 837
+is-image-jpx = 842
 
 abbrev pub is-image-jxl : ℕ
-is-image-jxl = 838
+is-image-jxl = 843
 
 abbrev pub is-image-ktx : ℕ
-is-image-ktx = 839
+is-image-ktx = 844
 
 abbrev pub is-image-ktx2 : ℕ
-is-image-ktx2 = 840
+is-image-ktx2 = 845
 
 abbrev pub is-image-openraster : ℕ
-is-image-openraster = 841
+is-image-openraster = 846
 
 abbrev pub is-image-png : ℕ
-is-image-png = 842
+is-image-png = 847
 
 abbrev pub is-image-pwg-raster : ℕ
-is-image-pwg-raster = 843
+is-image-pwg-raster = 848
 
 abbrev pub is-image-svg-xml : ℕ
-is-image-svg-xml = 844
+is-image-svg-xml = 849
 
 abbrev pub is-image-svg-xml-compressed : ℕ
-is-image-svg-xml-compressed = 845
+is-image-svg-xml-compressed = 850
 
 abbrev pub is-image-tiff : ℕ
-is-image-tiff = 846
+is-image-tiff = 851
 
 abbrev pub is-image-vnd-adobe-photoshop : ℕ
-is-image-vnd-adobe-photoshop = 847
+is-image-vnd-adobe-photoshop = 852
 
 abbrev pub is-image-vnd-djvu : ℕ
-is-image-vnd-djvu = 848
+is-image-vnd-djvu = 853
 
 abbrev pub is-image-vnd-dwg : ℕ
-is-image-vnd-dwg = 849
+is-image-vnd-dwg = 854
 
 abbrev pub is-image-vnd-dxf : ℕ
-is-image-vnd-dxf = 850
+is-image-vnd-dxf = 855
 
 abbrev pub is-image-vnd-fpx : ℕ
-is-image-vnd-fpx = 851
+is-image-vnd-fpx = 856
 
 abbrev pub is-image-vnd-microsoft-icon : ℕ
-is-image-vnd-microsoft-icon = 852
+is-image-vnd-microsoft-icon = 857
 
 abbrev pub is-image-vnd-ms-dds : ℕ
-is-image-vnd-ms-dds = 853
+is-image-vnd-ms-dds = 858
 
 abbrev pub is-image-vnd-ms-modi : ℕ
-is-image-vnd-ms-modi = 854
+is-image-vnd-ms-modi = 859
 
 abbrev pub is-image-vnd-ms-photo : ℕ
-is-image-vnd-ms-photo = 855
+is-image-vnd-ms-photo = 860
 
 abbrev pub is-image-vnd-radiance : ℕ
-is-image-vnd-radiance = 856
+is-image-vnd-radiance = 861
 
 abbrev pub is-image-vnd-valve-source-texture : ℕ
-is-image-vnd-valve-source-texture = 857
+is-image-vnd-valve-source-texture = 862
 
 abbrev pub is-image-vnd-zbrush-pcx : ℕ
-is-image-vnd-zbrush-pcx = 858
+is-image-vnd-zbrush-pcx = 863
 
 abbrev pub is-image-webp : ℕ
-is-image-webp = 859
+is-image-webp = 864
 
 abbrev pub is-image-wmf : ℕ
-is-image-wmf = 860
+is-image-wmf = 865
 
 abbrev pub is-image-x-3ds : ℕ
-is-image-x-3ds = 861
+is-image-x-3ds = 866
 
 abbrev pub is-image-x-adobe-dng : ℕ
-is-image-x-adobe-dng = 862
+is-image-x-adobe-dng = 867
 
 abbrev pub is-image-x-applix-graphics : ℕ
-is-image-x-applix-graphics = 863
+is-image-x-applix-graphics = 868
 
 abbrev pub is-image-x-award-bioslogo2 : ℕ
-is-image-x-award-bioslogo2 = 864
+is-image-x-award-bioslogo2 = 869
 
 abbrev pub is-image-x-blp : ℕ
-is-image-x-blp = 865
+is-image-x-blp = 870
 
 abbrev pub is-image-x-canon-cr2 : ℕ
-is-image-x-canon-cr2 = 866
+is-image-x-canon-cr2 = 871
 
 abbrev pub is-image-x-canon-cr3 : ℕ
-is-image-x-canon-cr3 = 867
+is-image-x-canon-cr3 = 872
 
 abbrev pub is-image-x-canon-crw : ℕ
-is-image-x-canon-crw = 868
+is-image-x-canon-crw = 873
 
 abbrev pub is-image-x-cmu-raster : ℕ
-is-image-x-cmu-raster = 869
+is-image-x-cmu-raster = 874
 
 abbrev pub is-image-x-cmx : ℕ
-is-image-x-cmx = 870
+is-image-x-cmx = 875
 
 abbrev pub is-image-x-corel-cpt : ℕ
-is-image-x-corel-cpt = 871
+is-image-x-corel-cpt = 876
 
 abbrev pub is-image-x-dcx : ℕ
-is-image-x-dcx = 872
+is-image-x-dcx = 877
 
 abbrev pub is-image-x-epoc-mbm : ℕ
-is-image-x-epoc-mbm = 873
+is-image-x-epoc-mbm = 878
 
 abbrev pub is-image-x-eps : ℕ
-is-image-x-eps = 874
+is-image-x-eps = 879
 
 abbrev pub is-image-x-epson-erf : ℕ
-is-image-x-epson-erf = 875
+is-image-x-epson-erf = 880
 
 abbrev pub is-image-x-exr : ℕ
-is-image-x-exr = 876
+is-image-x-exr = 881
 
 abbrev pub is-image-x-farbfeld : ℕ
-is-image-x-farbfeld = 877
+is-image-x-farbfeld = 882
 
 abbrev pub is-image-x-fuji-raf : ℕ
-is-image-x-fuji-raf = 878
+is-image-x-fuji-raf = 883
 
 abbrev pub is-image-x-gd2 : ℕ
-is-image-x-gd2 = 879
+is-image-x-gd2 = 884
 
 abbrev pub is-image-x-gimp-gbr : ℕ
-is-image-x-gimp-gbr = 880
+is-image-x-gimp-gbr = 885
 
 abbrev pub is-image-x-gimp-pat : ℕ
-is-image-x-gimp-pat = 881
+is-image-x-gimp-pat = 886
 
 abbrev pub is-image-x-godot-stex : ℕ
-is-image-x-godot-stex = 882
+is-image-x-godot-stex = 887
 
 abbrev pub is-image-x-hasselblad-3fr : ℕ
-is-image-x-hasselblad-3fr = 883
+is-image-x-hasselblad-3fr = 888
 
 abbrev pub is-image-x-hsi : ℕ
-is-image-x-hsi = 884
+is-image-x-hsi = 889
 
 abbrev pub is-image-x-icns : ℕ
-is-image-x-icns = 885
+is-image-x-icns = 890
 
 abbrev pub is-image-x-ilbm : ℕ
-is-image-x-ilbm = 886
+is-image-x-ilbm = 891
 
 abbrev pub is-image-x-itc : ℕ
-is-image-x-itc = 887
+is-image-x-itc = 892
 
 abbrev pub is-image-x-jbig2 : ℕ
-is-image-x-jbig2 = 888
+is-image-x-jbig2 = 893
 
 abbrev pub is-image-x-jng : ℕ
-is-image-x-jng = 889
+is-image-x-jng = 894
 
 abbrev pub is-image-x-jp2-codestream : ℕ
-is-image-x-jp2-codestream = 890
+is-image-x-jp2-codestream = 895
 
 abbrev pub is-image-x-kodak-dcr : ℕ
-is-image-x-kodak-dcr = 891
+is-image-x-kodak-dcr = 896
 
 abbrev pub is-image-x-kodak-kdc : ℕ
-is-image-x-kodak-kdc = 892
+is-image-x-kodak-kdc = 897
 
 abbrev pub is-image-x-lss16 : ℕ
-is-image-x-lss16 = 893
+is-image-x-lss16 = 898
 
 abbrev pub is-image-x-lwo : ℕ
-is-image-x-lwo = 894
+is-image-x-lwo = 899
 
 abbrev pub is-image-x-lytro-lfp : ℕ
-is-image-x-lytro-lfp = 895
+is-image-x-lytro-lfp = 900
 
 abbrev pub is-image-x-mamiya-mef : ℕ
-is-image-x-mamiya-mef = 896
+is-image-x-mamiya-mef = 901
 
 abbrev pub is-image-x-miff : ℕ
-is-image-x-miff = 897
+is-image-x-miff = 902
 
 abbrev pub is-image-x-minolta-mrw : ℕ
-is-image-x-minolta-mrw = 898
+is-image-x-minolta-mrw = 903
 
 abbrev pub is-image-x-mrc : ℕ
-is-image-x-mrc = 899
+is-image-x-mrc = 904
 
 abbrev pub is-image-x-mvg : ℕ
-is-image-x-mvg = 900
+is-image-x-mvg = 905
 
 abbrev pub is-image-x-niff : ℕ
-is-image-x-niff = 901
+is-image-x-niff = 906
 
 abbrev pub is-image-x-nikon-nef : ℕ
-is-image-x-nikon-nef = 902
+is-image-x-nikon-nef = 907
 
 abbrev pub is-image-x-nikon-nrw : ℕ
-is-image-x-nikon-nrw = 903
+is-image-x-nikon-nrw = 908
 
 abbrev pub is-image-x-olympus-orf : ℕ
-is-image-x-olympus-orf = 904
+is-image-x-olympus-orf = 909
 
 abbrev pub is-image-x-paintnet : ℕ
-is-image-x-paintnet = 905
+is-image-x-paintnet = 910
 
 abbrev pub is-image-x-paintshoppro : ℕ
-is-image-x-paintshoppro = 906
+is-image-x-paintshoppro = 911
 
 abbrev pub is-image-x-panasonic-rw2 : ℕ
-is-image-x-panasonic-rw2 = 907
+is-image-x-panasonic-rw2 = 912
 
 abbrev pub is-image-x-pentax-pef : ℕ
-is-image-x-pentax-pef = 908
+is-image-x-pentax-pef = 913
 
 abbrev pub is-image-x-pgf : ℕ
-is-image-x-pgf = 909
+is-image-x-pgf = 914
+
+abbrev pub is-image-x-phaseone-iiq : ℕ
+is-image-x-phaseone-iiq = 915
 
 abbrev pub is-image-x-pic : ℕ
-is-image-x-pic = 910
+is-image-x-pic = 916
 
 abbrev pub is-image-x-pict : ℕ
-is-image-x-pict = 911
+is-image-x-pict = 917
 
 abbrev pub is-image-x-portable-anymap : ℕ
-is-image-x-portable-anymap = 912
+is-image-x-portable-anymap = 918
 
 abbrev pub is-image-x-portable-arbitrarymap : ℕ
-is-image-x-portable-arbitrarymap = 913
+is-image-x-portable-arbitrarymap = 919
 
 abbrev pub is-image-x-portable-bitmap : ℕ
-is-image-x-portable-bitmap = 914
+is-image-x-portable-bitmap = 920
 
 abbrev pub is-image-x-portable-floatmap : ℕ
-is-image-x-portable-floatmap = 915
+is-image-x-portable-floatmap = 921
 
 abbrev pub is-image-x-portable-graymap : ℕ
-is-image-x-portable-graymap = 916
+is-image-x-portable-graymap = 922
 
 abbrev pub is-image-x-portable-pixmap : ℕ
-is-image-x-portable-pixmap = 917
+is-image-x-portable-pixmap = 923
 
 abbrev pub is-image-x-pvr : ℕ
-is-image-x-pvr = 918
+is-image-x-pvr = 924
 
 abbrev pub is-image-x-qoi : ℕ
-is-image-x-qoi = 919
+is-image-x-qoi = 925
 
 abbrev pub is-image-x-quicktime : ℕ
-is-image-x-quicktime = 920
+is-image-x-quicktime = 926
 
 abbrev pub is-image-x-samsung-srw : ℕ
-is-image-x-samsung-srw = 921
+is-image-x-samsung-srw = 927
 
 abbrev pub is-image-x-sgi : ℕ
-is-image-x-sgi = 922
+is-image-x-sgi = 928
 
 abbrev pub is-image-x-sigma-x3f : ℕ
-is-image-x-sigma-x3f = 923
+is-image-x-sigma-x3f = 929
 
 abbrev pub is-image-x-skencil : ℕ
-is-image-x-skencil = 924
+is-image-x-skencil = 930
 
 abbrev pub is-image-x-sony-arw : ℕ
-is-image-x-sony-arw = 925
+is-image-x-sony-arw = 931
 
 abbrev pub is-image-x-sony-sr2 : ℕ
-is-image-x-sony-sr2 = 926
+is-image-x-sony-sr2 = 932
 
 abbrev pub is-image-x-sony-srf : ℕ
-is-image-x-sony-srf = 927
+is-image-x-sony-srf = 933
 
 abbrev pub is-image-x-svm : ℕ
-is-image-x-svm = 928
+is-image-x-svm = 934
 
 abbrev pub is-image-x-tga-as-known : ℕ
-is-image-x-tga-as-known = 929
+is-image-x-tga-as-known = 935
 
 abbrev pub is-image-x-tga-as-row-tga : ℕ
-is-image-x-tga-as-row-tga = 930
+is-image-x-tga-as-row-tga = 936
 
 abbrev pub is-image-x-vips : ℕ
-is-image-x-vips = 931
+is-image-x-vips = 937
 
 abbrev pub is-image-x-win-bitmap : ℕ
-is-image-x-win-bitmap = 932
+is-image-x-win-bitmap = 938
 
 abbrev pub is-image-x-wpg : ℕ
-is-image-x-wpg = 933
+is-image-x-wpg = 939
 
 abbrev pub is-image-x-xbitmap : ℕ
-is-image-x-xbitmap = 934
+is-image-x-xbitmap = 940
 
 abbrev pub is-image-x-xcf : ℕ
-is-image-x-xcf = 935
+is-image-x-xcf = 941
 
 abbrev pub is-image-x-xfig : ℕ
-is-image-x-xfig = 936
+is-image-x-xfig = 942
 
 abbrev pub is-image-x-xisf : ℕ
-is-image-x-xisf = 937
+is-image-x-xisf = 943
 
 abbrev pub is-image-x-xpixmap : ℕ
-is-image-x-xpixmap = 938
+is-image-x-xpixmap = 944
 
 abbrev pub is-image-x-xwindowdump : ℕ
-is-image-x-xwindowdump = 939
+is-image-x-xwindowdump = 945
 
 abbrev pub is-image-x-zeiss-czi : ℕ
-is-image-x-zeiss-czi = 940
+is-image-x-zeiss-czi = 946
 
 abbrev pub is-image-x-nifti : ℕ
-is-image-x-nifti = 941
+is-image-x-nifti = 947
 
 abbrev pub is-message-http : ℕ
-is-message-http = 942
+is-message-http = 948
+
+abbrev pub is-message-news : ℕ
+is-message-news = 949
 
 abbrev pub is-message-rfc822 : ℕ
-is-message-rfc822 = 943
+is-message-rfc822 = 950
 
 abbrev pub is-model-3mf : ℕ
-is-model-3mf = 944
+is-model-3mf = 951
 
 abbrev pub is-model-e57 : ℕ
-is-model-e57 = 945
+is-model-e57 = 952
 
 abbrev pub is-model-gltf-json : ℕ
-is-model-gltf-json = 946
+is-model-gltf-json = 953
 
 abbrev pub is-model-gltf-binary : ℕ
-is-model-gltf-binary = 947
+is-model-gltf-binary = 954
 
 abbrev pub is-model-iges : ℕ
-is-model-iges = 948
+is-model-iges = 955
 
 abbrev pub is-model-mtl : ℕ
-is-model-mtl = 949
+is-model-mtl = 956
 
 abbrev pub is-model-obj : ℕ
-is-model-obj = 950
+is-model-obj = 957
 
 abbrev pub is-model-step : ℕ
-is-model-step = 951
+is-model-step = 958
 
 abbrev pub is-model-stl : ℕ
-is-model-stl = 952
+is-model-stl = 959
 
 abbrev pub is-model-vnd-collada-xml : ℕ
-is-model-vnd-collada-xml = 953
+is-model-vnd-collada-xml = 960
 
 abbrev pub is-model-vnd-usda : ℕ
-is-model-vnd-usda = 954
+is-model-vnd-usda = 961
 
 abbrev pub is-model-vrml : ℕ
-is-model-vrml = 955
+is-model-vrml = 962
 
 abbrev pub is-model-x-milkshape : ℕ
-is-model-x-milkshape = 956
+is-model-x-milkshape = 963
+
+abbrev pub is-model-x-pcd : ℕ
+is-model-x-pcd = 964
 
 abbrev pub is-model-x3d-xml : ℕ
-is-model-x3d-xml = 957
+is-model-x3d-xml = 965
 
 abbrev pub is-model-x3d-vrml : ℕ
-is-model-x3d-vrml = 958
+is-model-x3d-vrml = 966
 
 abbrev pub is-multipart-related : ℕ
-is-multipart-related = 959
+is-multipart-related = 967
 
 abbrev pub is-text-cache-manifest : ℕ
-is-text-cache-manifest = 960
+is-text-cache-manifest = 968
 
 abbrev pub is-text-calendar : ℕ
-is-text-calendar = 961
+is-text-calendar = 969
 
 abbrev pub is-text-cql : ℕ
-is-text-cql = 962
+is-text-cql = 970
 
 abbrev pub is-text-css : ℕ
-is-text-css = 963
+is-text-css = 971
 
 abbrev pub is-text-csv : ℕ
-is-text-csv = 964
+is-text-csv = 972
 
 abbrev pub is-text-html : ℕ
-is-text-html = 965
+is-text-html = 973
 
 abbrev pub is-text-javascript : ℕ
-is-text-javascript = 966
+is-text-javascript = 974
 
 abbrev pub is-text-markdown : ℕ
-is-text-markdown = 967
+is-text-markdown = 975
 
 abbrev pub is-text-mdx : ℕ
-is-text-mdx = 968
+is-text-mdx = 976
 
 abbrev pub is-text-n3 : ℕ
-is-text-n3 = 969
+is-text-n3 = 977
 
 abbrev pub is-text-org : ℕ
-is-text-org = 970
+is-text-org = 978
 
 abbrev pub is-text-plain : ℕ
-is-text-plain = 971
+is-text-plain = 979
 
 abbrev pub is-text-rust : ℕ
-is-text-rust = 972
+is-text-rust = 980
 
 abbrev pub is-text-sgml : ℕ
-is-text-sgml = 973
+is-text-sgml = 981
 
 abbrev pub is-text-spreadsheet : ℕ
-is-text-spreadsheet = 974
+is-text-spreadsheet = 982
 
 abbrev pub is-text-tab-separated-values : ℕ
-is-text-tab-separated-values = 975
+is-text-tab-separated-values = 983
 
 abbrev pub is-text-troff : ℕ
-is-text-troff = 976
+is-text-troff = 984
 
 abbrev pub is-text-turtle : ℕ
-is-text-turtle = 977
+is-text-turtle = 985
 
 abbrev pub is-text-uri-list : ℕ
-is-text-uri-list = 978
+is-text-uri-list = 986
 
 abbrev pub is-text-vbscript : ℕ
-is-text-vbscript = 979
+is-text-vbscript = 987
 
 abbrev pub is-text-vcard : ℕ
-is-text-vcard = 980
+is-text-vcard = 988
 
 abbrev pub is-text-velocity : ℕ
-is-text-velocity = 981
+is-text-velocity = 989
 
 abbrev pub is-text-vnd-abc : ℕ
-is-text-vnd-abc = 982
+is-text-vnd-abc = 990
 
 abbrev pub is-text-vnd-familysearch-gedcom : ℕ
-is-text-vnd-familysearch-gedcom = 983
+is-text-vnd-familysearch-gedcom = 991
 
 abbrev pub is-text-vnd-graphviz : ℕ
-is-text-vnd-graphviz = 984
+is-text-vnd-graphviz = 992
 
 abbrev pub is-text-vnd-sun-j2me-app-descriptor : ℕ
-is-text-vnd-sun-j2me-app-descriptor = 985
+is-text-vnd-sun-j2me-app-descriptor = 993
 
 abbrev pub is-text-vnd-trolltech-linguist : ℕ
-is-text-vnd-trolltech-linguist = 986
+is-text-vnd-trolltech-linguist = 994
 
 abbrev pub is-text-vnd-wap-wml : ℕ
-is-text-vnd-wap-wml = 987
+is-text-vnd-wap-wml = 995
 
 abbrev pub is-text-vtt : ℕ
-is-text-vtt = 988
+is-text-vtt = 996
 
 abbrev pub is-text-wgsl : ℕ
-is-text-wgsl = 989
+is-text-wgsl = 997
 
 abbrev pub is-text-x-abap : ℕ
-is-text-x-abap = 990
+is-text-x-abap = 998
 
 abbrev pub is-text-x-adasrc : ℕ
-is-text-x-adasrc = 991
+is-text-x-adasrc = 999
 
 abbrev pub is-text-x-agda : ℕ
-is-text-x-agda = 992
+is-text-x-agda = 1000
 
 abbrev pub is-text-x-aidl : ℕ
-is-text-x-aidl = 993
+is-text-x-aidl = 1001
 
 abbrev pub is-text-x-ampl : ℕ
-is-text-x-ampl = 994
+is-text-x-ampl = 1002
 
 abbrev pub is-text-x-antlr : ℕ
-is-text-x-antlr = 995
+is-text-x-antlr = 1003
 
 abbrev pub is-text-x-apacheconf : ℕ
-is-text-x-apacheconf = 996
+is-text-x-apacheconf = 1004
 
 abbrev pub is-text-x-apex : ℕ
-is-text-x-apex = 997
+is-text-x-apex = 1005
 
 abbrev pub is-text-x-apl : ℕ
-is-text-x-apl = 998
+is-text-x-apl = 1006
 
 abbrev pub is-text-x-applescript : ℕ
-is-text-x-applescript = 999
+is-text-x-applescript = 1007
 
 abbrev pub is-text-x-asciidoc : ℕ
-is-text-x-asciidoc = 1000
+is-text-x-asciidoc = 1008
 
 abbrev pub is-text-x-asm : ℕ
-is-text-x-asm = 1001
+is-text-x-asm = 1009
 
 abbrev pub is-text-x-asn1 : ℕ
-is-text-x-asn1 = 1002
+is-text-x-asn1 = 1010
 
 abbrev pub is-text-x-astro : ℕ
-is-text-x-astro = 1003
+is-text-x-astro = 1011
 
 abbrev pub is-text-x-asymptote : ℕ
-is-text-x-asymptote = 1004
+is-text-x-asymptote = 1012
 
 abbrev pub is-text-x-autoconf : ℕ
-is-text-x-autoconf = 1005
+is-text-x-autoconf = 1013
 
 abbrev pub is-text-x-autohotkey : ℕ
-is-text-x-autohotkey = 1006
+is-text-x-autohotkey = 1014
 
 abbrev pub is-text-x-autoit : ℕ
-is-text-x-autoit = 1007
+is-text-x-autoit = 1015
 
 abbrev pub is-text-x-automake : ℕ
-is-text-x-automake = 1008
+is-text-x-automake = 1016
 
 abbrev pub is-text-x-awk : ℕ
-is-text-x-awk = 1009
+is-text-x-awk = 1017
 
 abbrev pub is-text-x-ballerina : ℕ
-is-text-x-ballerina = 1010
+is-text-x-ballerina = 1018
 
 abbrev pub is-text-x-basic : ℕ
-is-text-x-basic = 1011
+is-text-x-basic = 1019
 
 abbrev pub is-text-x-bats : ℕ
-is-text-x-bats = 1012
+is-text-x-bats = 1020
 
 abbrev pub is-text-x-bc : ℕ
-is-text-x-bc = 1013
+is-text-x-bc = 1021
 
 abbrev pub is-text-x-bed : ℕ
-is-text-x-bed = 1014
+is-text-x-bed = 1022
 
 abbrev pub is-text-x-bibtex : ℕ
-is-text-x-bibtex = 1015
+is-text-x-bibtex = 1023
 
 abbrev pub is-text-x-bicep : ℕ
-is-text-x-bicep = 1016
+is-text-x-bicep = 1024
 
 abbrev pub is-text-x-bitbake : ℕ
-is-text-x-bitbake = 1017
+is-text-x-bitbake = 1025
 
 abbrev pub is-text-x-blade : ℕ
-is-text-x-blade = 1018
+is-text-x-blade = 1026
 
 abbrev pub is-text-x-bluespec : ℕ
-is-text-x-bluespec = 1019
+is-text-x-bluespec = 1027
 
 abbrev pub is-text-x-boo : ℕ
-is-text-x-boo = 1020
+is-text-x-boo = 1028
 
 abbrev pub is-text-x-bpftrace : ℕ
-is-text-x-bpftrace = 1021
+is-text-x-bpftrace = 1029
 
 abbrev pub is-text-x-bugs : ℕ
-is-text-x-bugs = 1022
+is-text-x-bugs = 1030
 
 abbrev pub is-text-x-c-hdr : ℕ
-is-text-x-c-hdr = 1023
+is-text-x-c-hdr = 1031
 
 abbrev pub is-text-x-c-src : ℕ
-is-text-x-c-src = 1024
+is-text-x-c-src = 1032
 
 abbrev pub is-text-x-cabal : ℕ
-is-text-x-cabal = 1025
+is-text-x-cabal = 1033
 
 abbrev pub is-text-x-cairo : ℕ
-is-text-x-cairo = 1026
+is-text-x-cairo = 1034
 
 abbrev pub is-text-x-capnp : ℕ
-is-text-x-capnp = 1027
+is-text-x-capnp = 1035
 
 abbrev pub is-text-x-cfm : ℕ
-is-text-x-cfm = 1028
+is-text-x-cfm = 1036
 
 abbrev pub is-text-x-chapel : ℕ
-is-text-x-chapel = 1029
+is-text-x-chapel = 1037
 
 abbrev pub is-text-x-chdr : ℕ
-is-text-x-chdr = 1030
+is-text-x-chdr = 1038
 
 abbrev pub is-text-x-checksums : ℕ
-is-text-x-checksums = 1031
+is-text-x-checksums = 1039
 
 abbrev pub is-text-x-chuck : ℕ
-is-text-x-chuck = 1032
+is-text-x-chuck = 1040
 
 abbrev pub is-text-x-clojure : ℕ
-is-text-x-clojure = 1033
+is-text-x-clojure = 1041
 
 abbrev pub is-text-x-cmake : ℕ
-is-text-x-cmake = 1034
+is-text-x-cmake = 1042
 
 abbrev pub is-text-x-cobol : ℕ
-is-text-x-cobol = 1035
+is-text-x-cobol = 1043
 
 abbrev pub is-text-x-cocci : ℕ
-is-text-x-cocci = 1036
+is-text-x-cocci = 1044
 
 abbrev pub is-text-x-common-lisp : ℕ
-is-text-x-common-lisp = 1037
+is-text-x-common-lisp = 1045
 
 abbrev pub is-text-x-component : ℕ
-is-text-x-component = 1038
+is-text-x-component = 1046
 
 abbrev pub is-text-x-coq : ℕ
-is-text-x-coq = 1039
+is-text-x-coq = 1047
 
 abbrev pub is-text-x-cppconf : ℕ
-is-text-x-cppconf = 1040
+is-text-x-cppconf = 1048
 
 abbrev pub is-text-x-creole : ℕ
-is-text-x-creole = 1041
+is-text-x-creole = 1049
 
 abbrev pub is-text-x-cron : ℕ
-is-text-x-cron = 1042
+is-text-x-cron = 1050
 
 abbrev pub is-text-x-crystal : ℕ
-is-text-x-crystal = 1043
+is-text-x-crystal = 1051
 
 abbrev pub is-text-x-csharp : ℕ
-is-text-x-csharp = 1044
+is-text-x-csharp = 1052
 
 abbrev pub is-text-x-csound : ℕ
-is-text-x-csound = 1045
+is-text-x-csound = 1053
 
 abbrev pub is-text-x-csrc : ℕ
-is-text-x-csrc = 1046
+is-text-x-csrc = 1054
 
 abbrev pub is-text-x-cuda : ℕ
-is-text-x-cuda = 1047
+is-text-x-cuda = 1055
 
 abbrev pub is-text-x-cwl : ℕ
-is-text-x-cwl = 1048
+is-text-x-cwl = 1056
 
 abbrev pub is-text-x-cypher : ℕ
-is-text-x-cypher = 1049
+is-text-x-cypher = 1057
 
 abbrev pub is-text-x-cython : ℕ
-is-text-x-cython = 1050
+is-text-x-cython = 1058
 
 abbrev pub is-text-x-d2 : ℕ
-is-text-x-d2 = 1051
+is-text-x-d2 = 1059
 
 abbrev pub is-text-x-dart : ℕ
-is-text-x-dart = 1052
+is-text-x-dart = 1060
+
+abbrev pub is-text-x-dbus-service : ℕ
+is-text-x-dbus-service = 1061
 
 abbrev pub is-text-x-debian-control : ℕ
-is-text-x-debian-control = 1053
+is-text-x-debian-control = 1062
 
 abbrev pub is-text-x-dhall : ℕ
-is-text-x-dhall = 1054
+is-text-x-dhall = 1063
 
 abbrev pub is-text-x-dimacs : ℕ
-is-text-x-dimacs = 1055
+is-text-x-dimacs = 1064
 
 abbrev pub is-text-x-dns-zone : ℕ
-is-text-x-dns-zone = 1056
+is-text-x-dns-zone = 1065
 
 abbrev pub is-text-x-dockerfile : ℕ
-is-text-x-dockerfile = 1057
+is-text-x-dockerfile = 1066
 
 abbrev pub is-text-x-dotenv : ℕ
-is-text-x-dotenv = 1058
+is-text-x-dotenv = 1067
 
 abbrev pub is-text-x-dsrc : ℕ
-is-text-x-dsrc = 1059
+is-text-x-dsrc = 1068
 
 abbrev pub is-text-x-dts : ℕ
-is-text-x-dts = 1060
+is-text-x-dts = 1069
 
 abbrev pub is-text-x-dune : ℕ
-is-text-x-dune = 1061
+is-text-x-dune = 1070
 
 abbrev pub is-text-x-ebnf : ℕ
-is-text-x-ebnf = 1062
+is-text-x-ebnf = 1071
 
 abbrev pub is-text-x-ebuild : ℕ
-is-text-x-ebuild = 1063
+is-text-x-ebuild = 1072
 
 abbrev pub is-text-x-editorconfig : ℕ
-is-text-x-editorconfig = 1064
+is-text-x-editorconfig = 1073
 
 abbrev pub is-text-x-eex : ℕ
-is-text-x-eex = 1065
+is-text-x-eex = 1074
 
 abbrev pub is-text-x-eiffel : ℕ
-is-text-x-eiffel = 1066
+is-text-x-eiffel = 1075
 
 abbrev pub is-text-x-ejs : ℕ
-is-text-x-ejs = 1067
+is-text-x-ejs = 1076
 
 abbrev pub is-text-x-elixir : ℕ
-is-text-x-elixir = 1068
+is-text-x-elixir = 1077
 
 abbrev pub is-text-x-elm : ℕ
-is-text-x-elm = 1069
+is-text-x-elm = 1078
 
 abbrev pub is-text-x-emacs-config : ℕ
-is-text-x-emacs-config = 1070
+is-text-x-emacs-config = 1079
 
 abbrev pub is-text-x-emacs-lisp : ℕ
-is-text-x-emacs-lisp = 1071
+is-text-x-emacs-lisp = 1080
 
 abbrev pub is-text-x-erlang : ℕ
-is-text-x-erlang = 1072
+is-text-x-erlang = 1081
 
 abbrev pub is-text-x-expect : ℕ
-is-text-x-expect = 1073
+is-text-x-expect = 1082
 
 abbrev pub is-text-x-factor : ℕ
-is-text-x-factor = 1074
+is-text-x-factor = 1083
 
 abbrev pub is-text-x-fasta : ℕ
-is-text-x-fasta = 1075
+is-text-x-fasta = 1084
 
 abbrev pub is-text-x-fastq : ℕ
-is-text-x-fastq = 1076
+is-text-x-fastq = 1085
 
 abbrev pub is-text-x-fennel : ℕ
-is-text-x-fennel = 1077
+is-text-x-fennel = 1086
 
 abbrev pub is-text-x-flatbuffers : ℕ
-is-text-x-flatbuffers = 1078
+is-text-x-flatbuffers = 1087
 
 abbrev pub is-text-x-forth : ℕ
-is-text-x-forth = 1079
+is-text-x-forth = 1088
 
 abbrev pub is-text-x-fortran : ℕ
-is-text-x-fortran = 1080
+is-text-x-fortran = 1089
 
 abbrev pub is-text-x-fountain : ℕ
-is-text-x-fountain = 1081
+is-text-x-fountain = 1090
 
 abbrev pub is-text-x-freemarker : ℕ
-is-text-x-freemarker = 1082
+is-text-x-freemarker = 1091
 
 abbrev pub is-text-x-fsharp : ℕ
-is-text-x-fsharp = 1083
+is-text-x-fsharp = 1092
 
 abbrev pub is-text-x-gams : ℕ
-is-text-x-gams = 1084
+is-text-x-gams = 1093
 
 abbrev pub is-text-x-gap : ℕ
-is-text-x-gap = 1085
+is-text-x-gap = 1094
 
 abbrev pub is-text-x-gcode-gx : ℕ
-is-text-x-gcode-gx = 1086
+is-text-x-gcode-gx = 1095
 
 abbrev pub is-text-x-gdb : ℕ
-is-text-x-gdb = 1087
+is-text-x-gdb = 1096
 
 abbrev pub is-text-x-genbank : ℕ
-is-text-x-genbank = 1088
+is-text-x-genbank = 1097
 
 abbrev pub is-text-x-genie : ℕ
-is-text-x-genie = 1089
+is-text-x-genie = 1098
 
 abbrev pub is-text-x-gerber : ℕ
-is-text-x-gerber = 1090
+is-text-x-gerber = 1099
 
 abbrev pub is-text-x-gettext-translation : ℕ
-is-text-x-gettext-translation = 1091
+is-text-x-gettext-translation = 1100
 
 abbrev pub is-text-x-gettext-translation-template : ℕ
-is-text-x-gettext-translation-template = 1092
+is-text-x-gettext-translation-template = 1101
 
 abbrev pub is-text-x-gff : ℕ
-is-text-x-gff = 1093
+is-text-x-gff = 1102
 
 abbrev pub is-text-x-gff3 : ℕ
-is-text-x-gff3 = 1094
+is-text-x-gff3 = 1103
 
 abbrev pub is-text-x-gfortran-module : ℕ
-is-text-x-gfortran-module = 1095
+is-text-x-gfortran-module = 1104
 
 abbrev pub is-text-x-gherkin : ℕ
-is-text-x-gherkin = 1096
+is-text-x-gherkin = 1105
 
 abbrev pub is-text-x-gimp-ggr : ℕ
-is-text-x-gimp-ggr = 1097
+is-text-x-gimp-ggr = 1106
 
 abbrev pub is-text-x-gimp-gpl : ℕ
-is-text-x-gimp-gpl = 1098
+is-text-x-gimp-gpl = 1107
 
 abbrev pub is-text-x-gitattributes : ℕ
-is-text-x-gitattributes = 1099
+is-text-x-gitattributes = 1108
 
 abbrev pub is-text-x-gitconfig : ℕ
-is-text-x-gitconfig = 1100
+is-text-x-gitconfig = 1109
 
 abbrev pub is-text-x-gitignore : ℕ
-is-text-x-gitignore = 1101
+is-text-x-gitignore = 1110
 
 abbrev pub is-text-x-gleam : ℕ
-is-text-x-gleam = 1102
+is-text-x-gleam = 1111
 
 abbrev pub is-text-x-glsl : ℕ
-is-text-x-glsl = 1103
+is-text-x-glsl = 1112
 
 abbrev pub is-text-x-gn : ℕ
-is-text-x-gn = 1104
+is-text-x-gn = 1113
 
 abbrev pub is-text-x-go : ℕ
-is-text-x-go = 1105
+is-text-x-go = 1114
 
 abbrev pub is-text-x-gomod : ℕ
-is-text-x-gomod = 1106
+is-text-x-gomod = 1115
 
 abbrev pub is-text-x-gosum : ℕ
-is-text-x-gosum = 1107
+is-text-x-gosum = 1116
 
 abbrev pub is-text-x-gotemplate : ℕ
-is-text-x-gotemplate = 1108
+is-text-x-gotemplate = 1117
 
 abbrev pub is-text-x-gpr : ℕ
-is-text-x-gpr = 1109
+is-text-x-gpr = 1118
 
 abbrev pub is-text-x-gradle : ℕ
-is-text-x-gradle = 1110
+is-text-x-gradle = 1119
 
 abbrev pub is-text-x-groovy : ℕ
-is-text-x-groovy = 1111
+is-text-x-groovy = 1120
 
 abbrev pub is-text-x-haml : ℕ
-is-text-x-haml = 1112
+is-text-x-haml = 1121
 
 abbrev pub is-text-x-handlebars : ℕ
-is-text-x-handlebars = 1113
+is-text-x-handlebars = 1122
 
 abbrev pub is-text-x-haskell : ℕ
-is-text-x-haskell = 1114
+is-text-x-haskell = 1123
 
 abbrev pub is-text-x-haxe : ℕ
-is-text-x-haxe = 1115
+is-text-x-haxe = 1124
 
 abbrev pub is-text-x-hcl : ℕ
-is-text-x-hcl = 1116
+is-text-x-hcl = 1125
 
 abbrev pub is-text-x-hive : ℕ
-is-text-x-hive = 1117
+is-text-x-hive = 1126
 
 abbrev pub is-text-x-hlsl : ℕ
-is-text-x-hlsl = 1118
+is-text-x-hlsl = 1127
 
 abbrev pub is-text-x-hunspell-affix : ℕ
-is-text-x-hunspell-affix = 1119
+is-text-x-hunspell-affix = 1128
 
 abbrev pub is-text-x-hy : ℕ
-is-text-x-hy = 1120
+is-text-x-hy = 1129
+
+abbrev pub is-text-x-icon-theme : ℕ
+is-text-x-icon-theme = 1130
 
 abbrev pub is-text-x-idl : ℕ
-is-text-x-idl = 1121
+is-text-x-idl = 1131
 
 abbrev pub is-text-x-idris : ℕ
-is-text-x-idris = 1122
+is-text-x-idris = 1132
 
 abbrev pub is-text-x-igor : ℕ
-is-text-x-igor = 1123
+is-text-x-igor = 1133
 
 abbrev pub is-text-x-imagej : ℕ
-is-text-x-imagej = 1124
+is-text-x-imagej = 1134
 
 abbrev pub is-text-x-imelody : ℕ
-is-text-x-imelody = 1125
+is-text-x-imelody = 1135
 
 abbrev pub is-text-x-info : ℕ
-is-text-x-info = 1126
+is-text-x-info = 1136
 
 abbrev pub is-text-x-ini : ℕ
-is-text-x-ini = 1127
+is-text-x-ini = 1137
 
 abbrev pub is-text-x-innosetup : ℕ
-is-text-x-innosetup = 1128
+is-text-x-innosetup = 1138
 
 abbrev pub is-text-x-io : ℕ
-is-text-x-io = 1129
+is-text-x-io = 1139
 
 abbrev pub is-text-x-ipxe : ℕ
-is-text-x-ipxe = 1130
+is-text-x-ipxe = 1140
 
 abbrev pub is-text-x-irclog : ℕ
-is-text-x-irclog = 1131
+is-text-x-irclog = 1141
 
 abbrev pub is-text-x-isabelle : ℕ
-is-text-x-isabelle = 1132
+is-text-x-isabelle = 1142
 
 abbrev pub is-text-x-janet : ℕ
-is-text-x-janet = 1133
+is-text-x-janet = 1143
 
 abbrev pub is-text-x-java : ℕ
-is-text-x-java = 1134
+is-text-x-java = 1144
 
 abbrev pub is-text-x-java-manifest : ℕ
-is-text-x-java-manifest = 1135
+is-text-x-java-manifest = 1145
 
 abbrev pub is-text-x-java-properties : ℕ
-is-text-x-java-properties = 1136
+is-text-x-java-properties = 1146
 
 abbrev pub is-text-x-jcl : ℕ
-is-text-x-jcl = 1137
+is-text-x-jcl = 1147
 
 abbrev pub is-text-x-jelly : ℕ
-is-text-x-jelly = 1138
+is-text-x-jelly = 1148
 
 abbrev pub is-text-x-jinja : ℕ
-is-text-x-jinja = 1139
+is-text-x-jinja = 1149
 
 abbrev pub is-text-x-jq : ℕ
-is-text-x-jq = 1140
+is-text-x-jq = 1150
 
 abbrev pub is-text-x-julia : ℕ
-is-text-x-julia = 1141
+is-text-x-julia = 1151
 
 abbrev pub is-text-x-just : ℕ
-is-text-x-just = 1142
+is-text-x-just = 1152
 
 abbrev pub is-text-x-kaitai-struct : ℕ
-is-text-x-kaitai-struct = 1143
+is-text-x-kaitai-struct = 1153
 
 abbrev pub is-text-x-kconfig : ℕ
-is-text-x-kconfig = 1144
+is-text-x-kconfig = 1154
 
 abbrev pub is-text-x-kickstart : ℕ
-is-text-x-kickstart = 1145
+is-text-x-kickstart = 1155
 
 abbrev pub is-text-x-kotlin : ℕ
-is-text-x-kotlin = 1146
+is-text-x-kotlin = 1156
 
 abbrev pub is-text-x-krl : ℕ
-is-text-x-krl = 1147
+is-text-x-krl = 1157
 
 abbrev pub is-text-x-kusto : ℕ
-is-text-x-kusto = 1148
+is-text-x-kusto = 1158
 
 abbrev pub is-text-x-latte : ℕ
-is-text-x-latte = 1149
+is-text-x-latte = 1159
 
 abbrev pub is-text-x-ld-script : ℕ
-is-text-x-ld-script = 1150
+is-text-x-ld-script = 1160
 
 abbrev pub is-text-x-ldif : ℕ
-is-text-x-ldif = 1151
+is-text-x-ldif = 1161
 
 abbrev pub is-text-x-lean : ℕ
-is-text-x-lean = 1152
+is-text-x-lean = 1162
 
 abbrev pub is-text-x-less : ℕ
-is-text-x-less = 1153
+is-text-x-less = 1163
 
 abbrev pub is-text-x-lex : ℕ
-is-text-x-lex = 1154
+is-text-x-lex = 1164
 
 abbrev pub is-text-x-lfe : ℕ
-is-text-x-lfe = 1155
+is-text-x-lfe = 1165
 
 abbrev pub is-text-x-lilypond : ℕ
-is-text-x-lilypond = 1156
+is-text-x-lilypond = 1166
 
 abbrev pub is-text-x-liquid : ℕ
-is-text-x-liquid = 1157
+is-text-x-liquid = 1167
 
 abbrev pub is-text-x-literate-haskell : ℕ
-is-text-x-literate-haskell = 1158
+is-text-x-literate-haskell = 1168
 
 abbrev pub is-text-x-livescript : ℕ
-is-text-x-livescript = 1159
+is-text-x-livescript = 1169
 
 abbrev pub is-text-x-llvm : ℕ
-is-text-x-llvm = 1160
+is-text-x-llvm = 1170
 
 abbrev pub is-text-x-logtalk : ℕ
-is-text-x-logtalk = 1161
+is-text-x-logtalk = 1171
 
 abbrev pub is-text-x-lsl : ℕ
-is-text-x-lsl = 1162
+is-text-x-lsl = 1172
 
 abbrev pub is-text-x-lua : ℕ
-is-text-x-lua = 1163
+is-text-x-lua = 1173
 
 abbrev pub is-text-x-luatex : ℕ
-is-text-x-luatex = 1164
+is-text-x-luatex = 1174
 
 abbrev pub is-text-x-makefile : ℕ
-is-text-x-makefile = 1165
+is-text-x-makefile = 1175
 
 abbrev pub is-text-x-mako : ℕ
-is-text-x-mako = 1166
+is-text-x-mako = 1176
 
 abbrev pub is-text-x-marko : ℕ
-is-text-x-marko = 1167
+is-text-x-marko = 1177
 
 abbrev pub is-text-x-matlab : ℕ
-is-text-x-matlab = 1168
+is-text-x-matlab = 1178
 
 abbrev pub is-text-x-maven-xml : ℕ
-is-text-x-maven-xml = 1169
+is-text-x-maven-xml = 1179
 
 abbrev pub is-text-x-maxima : ℕ
-is-text-x-maxima = 1170
+is-text-x-maxima = 1180
 
 abbrev pub is-text-x-mcfunction : ℕ
-is-text-x-mcfunction = 1171
+is-text-x-mcfunction = 1181
 
 abbrev pub is-text-x-mediawiki : ℕ
-is-text-x-mediawiki = 1172
+is-text-x-mediawiki = 1182
 
 abbrev pub is-text-x-mermaid : ℕ
-is-text-x-mermaid = 1173
+is-text-x-mermaid = 1183
 
 abbrev pub is-text-x-meson : ℕ
-is-text-x-meson = 1174
+is-text-x-meson = 1184
 
 abbrev pub is-text-x-metafont : ℕ
-is-text-x-metafont = 1175
+is-text-x-metafont = 1185
 
 abbrev pub is-text-x-metal : ℕ
-is-text-x-metal = 1176
+is-text-x-metal = 1186
 
 abbrev pub is-text-x-mib : ℕ
-is-text-x-mib = 1177
+is-text-x-mib = 1187
 
 abbrev pub is-text-x-mirc : ℕ
-is-text-x-mirc = 1178
+is-text-x-mirc = 1188
 
 abbrev pub is-text-x-mlir : ℕ
-is-text-x-mlir = 1179
+is-text-x-mlir = 1189
 
 abbrev pub is-text-x-modelica : ℕ
-is-text-x-modelica = 1180
+is-text-x-modelica = 1190
 
 abbrev pub is-text-x-modula : ℕ
-is-text-x-modula = 1181
+is-text-x-modula = 1191
 
 abbrev pub is-text-x-mojo : ℕ
-is-text-x-mojo = 1182
+is-text-x-mojo = 1192
 
 abbrev pub is-text-x-monkey : ℕ
-is-text-x-monkey = 1183
+is-text-x-monkey = 1193
 
 abbrev pub is-text-x-moonscript : ℕ
-is-text-x-moonscript = 1184
+is-text-x-moonscript = 1194
 
 abbrev pub is-text-x-move : ℕ
-is-text-x-move = 1185
+is-text-x-move = 1195
+
+abbrev pub is-text-x-mpsub : ℕ
+is-text-x-mpsub = 1196
 
 abbrev pub is-text-x-ms-regedit : ℕ
-is-text-x-ms-regedit = 1186
+is-text-x-ms-regedit = 1197
 
 abbrev pub is-text-x-msdos-batch : ℕ
-is-text-x-msdos-batch = 1187
+is-text-x-msdos-batch = 1198
 
 abbrev pub is-text-x-mup : ℕ
-is-text-x-mup = 1188
+is-text-x-mup = 1199
 
 abbrev pub is-text-x-newick : ℕ
-is-text-x-newick = 1189
+is-text-x-newick = 1200
 
 abbrev pub is-text-x-nextflow : ℕ
-is-text-x-nextflow = 1190
+is-text-x-nextflow = 1201
 
 abbrev pub is-text-x-nexus : ℕ
-is-text-x-nexus = 1191
+is-text-x-nexus = 1202
 
 abbrev pub is-text-x-nftables : ℕ
-is-text-x-nftables = 1192
+is-text-x-nftables = 1203
 
 abbrev pub is-text-x-nginx-conf : ℕ
-is-text-x-nginx-conf = 1193
+is-text-x-nginx-conf = 1204
 
 abbrev pub is-text-x-nim : ℕ
-is-text-x-nim = 1194
+is-text-x-nim = 1205
 
 abbrev pub is-text-x-ninja : ℕ
-is-text-x-ninja = 1195
+is-text-x-ninja = 1206
 
 abbrev pub is-text-x-nix : ℕ
-is-text-x-nix = 1196
+is-text-x-nix = 1207
 
 abbrev pub is-text-x-nsis : ℕ
-is-text-x-nsis = 1197
+is-text-x-nsis = 1208
 
 abbrev pub is-text-x-nushell : ℕ
-is-text-x-nushell = 1198
+is-text-x-nushell = 1209
 
 abbrev pub is-text-x-objc-src : ℕ
-is-text-x-objc-src = 1199
+is-text-x-objc-src = 1210
 
 abbrev pub is-text-x-objcsrc : ℕ
-is-text-x-objcsrc = 1200
+is-text-x-objcsrc = 1211
 
 abbrev pub is-text-x-ocaml : ℕ
-is-text-x-ocaml = 1201
+is-text-x-ocaml = 1212
 
 abbrev pub is-text-x-octave : ℕ
-is-text-x-octave = 1202
+is-text-x-octave = 1213
 
 abbrev pub is-text-x-odin : ℕ
-is-text-x-odin = 1203
+is-text-x-odin = 1214
 
 abbrev pub is-text-x-ooc : ℕ
-is-text-x-ooc = 1204
+is-text-x-ooc = 1215
 
 abbrev pub is-text-x-opencl-src : ℕ
-is-text-x-opencl-src = 1205
+is-text-x-opencl-src = 1216
 
 abbrev pub is-text-x-openscad : ℕ
-is-text-x-openscad = 1206
+is-text-x-openscad = 1217
 
 abbrev pub is-text-x-opentype-feature : ℕ
-is-text-x-opentype-feature = 1207
+is-text-x-opentype-feature = 1218
 
 abbrev pub is-text-x-opml-xml : ℕ
-is-text-x-opml-xml = 1208
+is-text-x-opml-xml = 1219
 
 abbrev pub is-text-x-oz : ℕ
-is-text-x-oz = 1209
+is-text-x-oz = 1220
 
 abbrev pub is-text-x-pascal : ℕ
-is-text-x-pascal = 1210
+is-text-x-pascal = 1221
 
 abbrev pub is-text-x-patch : ℕ
-is-text-x-patch = 1211
+is-text-x-patch = 1222
 
 abbrev pub is-text-x-pawn : ℕ
-is-text-x-pawn = 1212
+is-text-x-pawn = 1223
 
 abbrev pub is-text-x-perl : ℕ
-is-text-x-perl = 1213
+is-text-x-perl = 1224
 
 abbrev pub is-text-x-php : ℕ
-is-text-x-php = 1214
+is-text-x-php = 1225
 
 abbrev pub is-text-x-pic : ℕ
-is-text-x-pic = 1215
+is-text-x-pic = 1226
 
 abbrev pub is-text-x-pig : ℕ
-is-text-x-pig = 1216
+is-text-x-pig = 1227
 
 abbrev pub is-text-x-pike : ℕ
-is-text-x-pike = 1217
+is-text-x-pike = 1228
 
 abbrev pub is-text-x-pkg-config : ℕ
-is-text-x-pkg-config = 1218
+is-text-x-pkg-config = 1229
 
 abbrev pub is-text-x-plantuml : ℕ
-is-text-x-plantuml = 1219
+is-text-x-plantuml = 1230
 
 abbrev pub is-text-x-pli : ℕ
-is-text-x-pli = 1220
+is-text-x-pli = 1231
 
 abbrev pub is-text-x-pod : ℕ
-is-text-x-pod = 1221
+is-text-x-pod = 1232
 
 abbrev pub is-text-x-pony : ℕ
-is-text-x-pony = 1222
+is-text-x-pony = 1233
 
 abbrev pub is-text-x-postcss : ℕ
-is-text-x-postcss = 1223
+is-text-x-postcss = 1234
 
 abbrev pub is-text-x-praat : ℕ
-is-text-x-praat = 1224
+is-text-x-praat = 1235
 
 abbrev pub is-text-x-preseed : ℕ
-is-text-x-preseed = 1225
+is-text-x-preseed = 1236
 
 abbrev pub is-text-x-prisma : ℕ
-is-text-x-prisma = 1226
+is-text-x-prisma = 1237
 
 abbrev pub is-text-x-procfile : ℕ
-is-text-x-procfile = 1227
+is-text-x-procfile = 1238
 
 abbrev pub is-text-x-prolog : ℕ
-is-text-x-prolog = 1228
+is-text-x-prolog = 1239
 
 abbrev pub is-text-x-protobuf : ℕ
-is-text-x-protobuf = 1229
+is-text-x-protobuf = 1240
 
 abbrev pub is-text-x-psv : ℕ
-is-text-x-psv = 1230
+is-text-x-psv = 1241
 
 abbrev pub is-text-x-pth : ℕ
-is-text-x-pth = 1231
+is-text-x-pth = 1242
 
 abbrev pub is-text-x-pug : ℕ
-is-text-x-pug = 1232
+is-text-x-pug = 1243
 
 abbrev pub is-text-x-puppet : ℕ
-is-text-x-puppet = 1233
+is-text-x-puppet = 1244
 
 abbrev pub is-text-x-purescript : ℕ
-is-text-x-purescript = 1234
+is-text-x-purescript = 1245
 
 abbrev pub is-text-x-python-as-known : ℕ
-is-text-x-python-as-known = 1235
+is-text-x-python-as-known = 1246
 
 abbrev pub is-text-x-python-as-row-py : ℕ
-is-text-x-python-as-row-py = 1236
+is-text-x-python-as-row-py = 1247
 
 abbrev pub is-text-x-qmake : ℕ
-is-text-x-qmake = 1237
+is-text-x-qmake = 1248
 
 abbrev pub is-text-x-qml : ℕ
-is-text-x-qml = 1238
+is-text-x-qml = 1249
 
 abbrev pub is-text-x-r-doc : ℕ
-is-text-x-r-doc = 1239
+is-text-x-r-doc = 1250
 
 abbrev pub is-text-x-racket : ℕ
-is-text-x-racket = 1240
+is-text-x-racket = 1251
 
 abbrev pub is-text-x-ragel : ℕ
-is-text-x-ragel = 1241
+is-text-x-ragel = 1252
 
 abbrev pub is-text-x-raku : ℕ
-is-text-x-raku = 1242
+is-text-x-raku = 1253
 
 abbrev pub is-text-x-razor : ℕ
-is-text-x-razor = 1243
+is-text-x-razor = 1254
 
 abbrev pub is-text-x-rdoc : ℕ
-is-text-x-rdoc = 1244
+is-text-x-rdoc = 1255
 
 abbrev pub is-text-x-readline : ℕ
-is-text-x-readline = 1245
+is-text-x-readline = 1256
 
 abbrev pub is-text-x-reason : ℕ
-is-text-x-reason = 1246
+is-text-x-reason = 1257
 
 abbrev pub is-text-x-rebol : ℕ
-is-text-x-rebol = 1247
+is-text-x-rebol = 1258
 
 abbrev pub is-text-x-red : ℕ
-is-text-x-red = 1248
+is-text-x-red = 1259
 
 abbrev pub is-text-x-rego : ℕ
-is-text-x-rego = 1249
+is-text-x-rego = 1260
 
 abbrev pub is-text-x-reject : ℕ
-is-text-x-reject = 1250
+is-text-x-reject = 1261
 
 abbrev pub is-text-x-rexx : ℕ
-is-text-x-rexx = 1251
+is-text-x-rexx = 1262
 
 abbrev pub is-text-x-ring : ℕ
-is-text-x-ring = 1252
+is-text-x-ring = 1263
 
 abbrev pub is-text-x-rmarkdown : ℕ
-is-text-x-rmarkdown = 1253
+is-text-x-rmarkdown = 1264
 
 abbrev pub is-text-x-robotframework : ℕ
-is-text-x-robotframework = 1254
+is-text-x-robotframework = 1265
 
 abbrev pub is-text-x-roc : ℕ
-is-text-x-roc = 1255
+is-text-x-roc = 1266
 
 abbrev pub is-text-x-rpgle : ℕ
-is-text-x-rpgle = 1256
+is-text-x-rpgle = 1267
 
 abbrev pub is-text-x-rpm-spec : ℕ
-is-text-x-rpm-spec = 1257
+is-text-x-rpm-spec = 1268
 
 abbrev pub is-text-x-rsrc : ℕ
-is-text-x-rsrc = 1258
+is-text-x-rsrc = 1269
 
 abbrev pub is-text-x-rst : ℕ
-is-text-x-rst = 1259
+is-text-x-rst = 1270
 
 abbrev pub is-text-x-ruby : ℕ
-is-text-x-ruby = 1260
+is-text-x-ruby = 1271
 
 abbrev pub is-text-x-sagemath : ℕ
-is-text-x-sagemath = 1261
+is-text-x-sagemath = 1272
 
 abbrev pub is-text-x-sam : ℕ
-is-text-x-sam = 1262
+is-text-x-sam = 1273
 
 abbrev pub is-text-x-sas : ℕ
-is-text-x-sas = 1263
+is-text-x-sas = 1274
 
 abbrev pub is-text-x-sass : ℕ
-is-text-x-sass = 1264
+is-text-x-sass = 1275
 
 abbrev pub is-text-x-scala : ℕ
-is-text-x-scala = 1265
+is-text-x-scala = 1276
 
 abbrev pub is-text-x-scc : ℕ
-is-text-x-scc = 1266
+is-text-x-scc = 1277
 
 abbrev pub is-text-x-scheme : ℕ
-is-text-x-scheme = 1267
+is-text-x-scheme = 1278
 
 abbrev pub is-text-x-scilab : ℕ
-is-text-x-scilab = 1268
+is-text-x-scilab = 1279
 
 abbrev pub is-text-x-scons : ℕ
-is-text-x-scons = 1269
+is-text-x-scons = 1280
 
 abbrev pub is-text-x-scss : ℕ
-is-text-x-scss = 1270
+is-text-x-scss = 1281
 
 abbrev pub is-text-x-sdc : ℕ
-is-text-x-sdc = 1271
+is-text-x-sdc = 1282
 
 abbrev pub is-text-x-sed : ℕ
-is-text-x-sed = 1272
+is-text-x-sed = 1283
 
 abbrev pub is-text-x-selinux : ℕ
-is-text-x-selinux = 1273
+is-text-x-selinux = 1284
 
 abbrev pub is-text-x-setext : ℕ
-is-text-x-setext = 1274
+is-text-x-setext = 1285
 
 abbrev pub is-text-x-shell-config : ℕ
-is-text-x-shell-config = 1275
+is-text-x-shell-config = 1286
 
 abbrev pub is-text-x-shellscript : ℕ
-is-text-x-shellscript = 1276
+is-text-x-shellscript = 1287
 
 abbrev pub is-text-x-sieve : ℕ
-is-text-x-sieve = 1277
+is-text-x-sieve = 1288
 
 abbrev pub is-text-x-slim : ℕ
-is-text-x-slim = 1278
+is-text-x-slim = 1289
 
 abbrev pub is-text-x-slint : ℕ
-is-text-x-slint = 1279
+is-text-x-slint = 1290
 
 abbrev pub is-text-x-sln : ℕ
-is-text-x-sln = 1280
+is-text-x-sln = 1291
 
 abbrev pub is-text-x-smali : ℕ
-is-text-x-smali = 1281
+is-text-x-smali = 1292
 
 abbrev pub is-text-x-smarty : ℕ
-is-text-x-smarty = 1282
+is-text-x-smarty = 1293
 
 abbrev pub is-text-x-sml : ℕ
-is-text-x-sml = 1283
+is-text-x-sml = 1294
 
 abbrev pub is-text-x-smt : ℕ
-is-text-x-smt = 1284
+is-text-x-smt = 1295
 
 abbrev pub is-text-x-snakemake : ℕ
-is-text-x-snakemake = 1285
+is-text-x-snakemake = 1296
 
 abbrev pub is-text-x-solidity : ℕ
-is-text-x-solidity = 1286
+is-text-x-solidity = 1297
 
 abbrev pub is-text-x-sourcepawn : ℕ
-is-text-x-sourcepawn = 1287
+is-text-x-sourcepawn = 1298
 
 abbrev pub is-text-x-soy : ℕ
-is-text-x-soy = 1288
+is-text-x-soy = 1299
 
 abbrev pub is-text-x-spice : ℕ
-is-text-x-spice = 1289
+is-text-x-spice = 1300
 
 abbrev pub is-text-x-spin : ℕ
-is-text-x-spin = 1290
+is-text-x-spin = 1301
 
 abbrev pub is-text-x-squirrel : ℕ
-is-text-x-squirrel = 1291
+is-text-x-squirrel = 1302
 
 abbrev pub is-text-x-ssa : ℕ
-is-text-x-ssa = 1292
+is-text-x-ssa = 1303
 
 abbrev pub is-text-x-stan : ℕ
-is-text-x-stan = 1293
+is-text-x-stan = 1304
 
 abbrev pub is-text-x-starlark : ℕ
-is-text-x-starlark = 1294
+is-text-x-starlark = 1305
 
 abbrev pub is-text-x-stata : ℕ
-is-text-x-stata = 1295
+is-text-x-stata = 1306
 
 abbrev pub is-text-x-strings : ℕ
-is-text-x-strings = 1296
+is-text-x-strings = 1307
 
 abbrev pub is-text-x-stylus : ℕ
-is-text-x-stylus = 1297
+is-text-x-stylus = 1308
 
 abbrev pub is-text-x-subviewer : ℕ
-is-text-x-subviewer = 1298
+is-text-x-subviewer = 1309
 
 abbrev pub is-text-x-supercollider : ℕ
-is-text-x-supercollider = 1299
+is-text-x-supercollider = 1310
 
 abbrev pub is-text-x-svelte : ℕ
-is-text-x-svelte = 1300
+is-text-x-svelte = 1311
 
 abbrev pub is-text-x-svhdr : ℕ
-is-text-x-svhdr = 1301
+is-text-x-svhdr = 1312
 
 abbrev pub is-text-x-svsrc : ℕ
-is-text-x-svsrc = 1302
+is-text-x-svsrc = 1313
 
 abbrev pub is-text-x-swift : ℕ
-is-text-x-swift = 1303
+is-text-x-swift = 1314
 
 abbrev pub is-text-x-systemd-unit : ℕ
-is-text-x-systemd-unit = 1304
+is-text-x-systemd-unit = 1315
 
 abbrev pub is-text-x-tablegen : ℕ
-is-text-x-tablegen = 1305
+is-text-x-tablegen = 1316
 
 abbrev pub is-text-x-tcl : ℕ
-is-text-x-tcl = 1306
+is-text-x-tcl = 1317
 
 abbrev pub is-text-x-template-toolkit : ℕ
-is-text-x-template-toolkit = 1307
+is-text-x-template-toolkit = 1318
 
 abbrev pub is-text-x-tex : ℕ
-is-text-x-tex = 1308
+is-text-x-tex = 1319
 
 abbrev pub is-text-x-texinfo : ℕ
-is-text-x-texinfo = 1309
+is-text-x-texinfo = 1320
 
 abbrev pub is-text-x-textile : ℕ
-is-text-x-textile = 1310
+is-text-x-textile = 1321
 
 abbrev pub is-text-x-textproto : ℕ
-is-text-x-textproto = 1311
+is-text-x-textproto = 1322
 
 abbrev pub is-text-x-thrift : ℕ
-is-text-x-thrift = 1312
+is-text-x-thrift = 1323
 
 abbrev pub is-text-x-tla : ℕ
-is-text-x-tla = 1313
+is-text-x-tla = 1324
 
 abbrev pub is-text-x-tmux-conf : ℕ
-is-text-x-tmux-conf = 1314
+is-text-x-tmux-conf = 1325
 
 abbrev pub is-text-x-tsx : ℕ
-is-text-x-tsx = 1315
+is-text-x-tsx = 1326
 
 abbrev pub is-text-x-twig : ℕ
-is-text-x-twig = 1316
+is-text-x-twig = 1327
 
 abbrev pub is-text-x-txt2tags : ℕ
-is-text-x-txt2tags = 1317
+is-text-x-txt2tags = 1328
 
 abbrev pub is-text-x-typescript : ℕ
-is-text-x-typescript = 1318
+is-text-x-typescript = 1329
 
 abbrev pub is-text-x-typst : ℕ
-is-text-x-typst = 1319
+is-text-x-typst = 1330
 
 abbrev pub is-text-x-uc : ℕ
-is-text-x-uc = 1320
+is-text-x-uc = 1331
 
 abbrev pub is-text-x-udev-rules : ℕ
-is-text-x-udev-rules = 1321
+is-text-x-udev-rules = 1332
 
 abbrev pub is-text-x-unity : ℕ
-is-text-x-unity = 1322
+is-text-x-unity = 1333
 
 abbrev pub is-text-x-uri : ℕ
-is-text-x-uri = 1323
+is-text-x-uri = 1334
 
 abbrev pub is-text-x-uuencode : ℕ
-is-text-x-uuencode = 1324
+is-text-x-uuencode = 1335
 
 abbrev pub is-text-x-vagrantfile : ℕ
-is-text-x-vagrantfile = 1325
+is-text-x-vagrantfile = 1336
 
 abbrev pub is-text-x-vala : ℕ
-is-text-x-vala = 1326
+is-text-x-vala = 1337
 
 abbrev pub is-text-x-vb : ℕ
-is-text-x-vb = 1327
+is-text-x-vb = 1338
 
 abbrev pub is-text-x-vcf : ℕ
-is-text-x-vcf = 1328
+is-text-x-vcf = 1339
 
 abbrev pub is-text-x-vcl : ℕ
-is-text-x-vcl = 1329
+is-text-x-vcl = 1340
 
 abbrev pub is-text-x-vdf : ℕ
-is-text-x-vdf = 1330
+is-text-x-vdf = 1341
 
 abbrev pub is-text-x-verilog : ℕ
-is-text-x-verilog = 1331
+is-text-x-verilog = 1342
 
 abbrev pub is-text-x-vhdl : ℕ
-is-text-x-vhdl = 1332
+is-text-x-vhdl = 1343
 
 abbrev pub is-text-x-vim : ℕ
-is-text-x-vim = 1333
+is-text-x-vim = 1344
 
 abbrev pub is-text-x-vnote : ℕ
-is-text-x-vnote = 1334
+is-text-x-vnote = 1345
 
 abbrev pub is-text-x-vue : ℕ
-is-text-x-vue = 1335
+is-text-x-vue = 1346
 
 abbrev pub is-text-x-vyper : ℕ
-is-text-x-vyper = 1336
+is-text-x-vyper = 1347
 
 abbrev pub is-text-x-wat : ℕ
-is-text-x-wat = 1337
+is-text-x-wat = 1348
 
 abbrev pub is-text-x-wdl : ℕ
-is-text-x-wdl = 1338
+is-text-x-wdl = 1349
 
 abbrev pub is-text-x-wkt : ℕ
-is-text-x-wkt = 1339
+is-text-x-wkt = 1350
 
 abbrev pub is-text-x-wren : ℕ
-is-text-x-wren = 1340
+is-text-x-wren = 1351
 
 abbrev pub is-text-x-xcu-rng : ℕ
-is-text-x-xcu-rng = 1341
+is-text-x-xcu-rng = 1352
 
 abbrev pub is-text-x-xmcd : ℕ
-is-text-x-xmcd = 1342
+is-text-x-xmcd = 1353
 
 abbrev pub is-text-x-xmi : ℕ
-is-text-x-xmi = 1343
+is-text-x-xmi = 1354
 
 abbrev pub is-text-x-xonsh : ℕ
-is-text-x-xonsh = 1344
+is-text-x-xonsh = 1355
 
 abbrev pub is-text-x-xresources : ℕ
-is-text-x-xresources = 1345
+is-text-x-xresources = 1356
 
 abbrev pub is-text-x-yacc : ℕ
-is-text-x-yacc = 1346
+is-text-x-yacc = 1357
 
 abbrev pub is-text-x-yang : ℕ
-is-text-x-yang = 1347
+is-text-x-yang = 1358
 
 abbrev pub is-text-x-zig : ℕ
-is-text-x-zig = 1348
+is-text-x-zig = 1359
 
 abbrev pub is-text-x-zimpl : ℕ
-is-text-x-zimpl = 1349
+is-text-x-zimpl = 1360
 
 abbrev pub is-text-x-gcode : ℕ
-is-text-x-gcode = 1350
+is-text-x-gcode = 1361
 
 abbrev pub is-text-xml : ℕ
-is-text-xml = 1351
+is-text-xml = 1362
 
 abbrev pub is-video-3gpp : ℕ
-is-video-3gpp = 1352
+is-video-3gpp = 1363
 
 abbrev pub is-video-3gpp2 : ℕ
-is-video-3gpp2 = 1353
+is-video-3gpp2 = 1364
 
 abbrev pub is-video-dv : ℕ
-is-video-dv = 1354
+is-video-dv = 1365
 
 abbrev pub is-video-h264 : ℕ
-is-video-h264 = 1355
+is-video-h264 = 1366
 
 abbrev pub is-video-h265 : ℕ
-is-video-h265 = 1356
+is-video-h265 = 1367
 
 abbrev pub is-video-mj2 : ℕ
-is-video-mj2 = 1357
+is-video-mj2 = 1368
 
 abbrev pub is-video-mp2t : ℕ
-is-video-mp2t = 1358
+is-video-mp2t = 1369
 
 abbrev pub is-video-mp4 : ℕ
-is-video-mp4 = 1359
+is-video-mp4 = 1370
 
 abbrev pub is-video-mpeg : ℕ
-is-video-mpeg = 1360
+is-video-mpeg = 1371
 
 abbrev pub is-video-ogg : ℕ
-is-video-ogg = 1361
+is-video-ogg = 1372
 
 abbrev pub is-video-quicktime-as-row-mov : ℕ
-is-video-quicktime-as-row-mov = 1362
+is-video-quicktime-as-row-mov = 1373
 
 abbrev pub is-video-quicktime-as-row-mqv : ℕ
-is-video-quicktime-as-row-mqv = 1363
+is-video-quicktime-as-row-mqv = 1374
 
 abbrev pub is-video-vnd-dvb-file : ℕ
-is-video-vnd-dvb-file = 1364
+is-video-vnd-dvb-file = 1375
 
 abbrev pub is-video-vnd-mpegurl : ℕ
-is-video-vnd-mpegurl = 1365
+is-video-vnd-mpegurl = 1376
 
 abbrev pub is-video-vnd-radgamettools-bink : ℕ
-is-video-vnd-radgamettools-bink = 1366
+is-video-vnd-radgamettools-bink = 1377
 
 abbrev pub is-video-vnd-radgamettools-smacker : ℕ
-is-video-vnd-radgamettools-smacker = 1367
+is-video-vnd-radgamettools-smacker = 1378
 
 abbrev pub is-video-webm : ℕ
-is-video-webm = 1368
+is-video-webm = 1379
 
 abbrev pub is-video-x-4xmv : ℕ
-is-video-x-4xmv = 1369
+is-video-x-4xmv = 1380
 
 abbrev pub is-video-x-amv : ℕ
-is-video-x-amv = 1370
+is-video-x-amv = 1381
 
 abbrev pub is-video-x-anim : ℕ
-is-video-x-anim = 1371
+is-video-x-anim = 1382
 
 abbrev pub is-video-x-cdxa : ℕ
-is-video-x-cdxa = 1372
+is-video-x-cdxa = 1383
 
 abbrev pub is-video-x-dirac : ℕ
-is-video-x-dirac = 1373
+is-video-x-dirac = 1384
 
 abbrev pub is-video-x-f4v : ℕ
-is-video-x-f4v = 1374
+is-video-x-f4v = 1385
 
 abbrev pub is-video-x-flic : ℕ
-is-video-x-flic = 1375
+is-video-x-flic = 1386
 
 abbrev pub is-video-x-flv : ℕ
-is-video-x-flv = 1376
+is-video-x-flv = 1387
 
 abbrev pub is-video-x-ifo : ℕ
-is-video-x-ifo = 1377
+is-video-x-ifo = 1388
 
 abbrev pub is-video-x-interplay-mve : ℕ
-is-video-x-interplay-mve = 1378
+is-video-x-interplay-mve = 1389
 
 abbrev pub is-video-x-ivf : ℕ
-is-video-x-ivf = 1379
+is-video-x-ivf = 1390
 
 abbrev pub is-video-x-m4v : ℕ
-is-video-x-m4v = 1380
+is-video-x-m4v = 1391
 
 abbrev pub is-video-x-matroska : ℕ
-is-video-x-matroska = 1381
+is-video-x-matroska = 1392
 
 abbrev pub is-video-x-matroska-3d : ℕ
-is-video-x-matroska-3d = 1382
+is-video-x-matroska-3d = 1393
 
 abbrev pub is-video-x-mmm : ℕ
-is-video-x-mmm = 1383
+is-video-x-mmm = 1394
 
 abbrev pub is-video-x-mng : ℕ
-is-video-x-mng = 1384
+is-video-x-mng = 1395
 
 abbrev pub is-video-x-ms-wmv : ℕ
-is-video-x-ms-wmv = 1385
+is-video-x-ms-wmv = 1396
 
 abbrev pub is-video-x-ms-wtv : ℕ
-is-video-x-ms-wtv = 1386
+is-video-x-ms-wtv = 1397
 
 abbrev pub is-video-x-msvideo : ℕ
-is-video-x-msvideo = 1387
+is-video-x-msvideo = 1398
 
 abbrev pub is-video-x-nsv : ℕ
-is-video-x-nsv = 1388
+is-video-x-nsv = 1399
 
 abbrev pub is-video-x-nut : ℕ
-is-video-x-nut = 1389
+is-video-x-nut = 1400
 
 abbrev pub is-video-x-ogm-ogg : ℕ
-is-video-x-ogm-ogg = 1390
+is-video-x-ogm-ogg = 1401
 
 abbrev pub is-video-x-red-r3d : ℕ
-is-video-x-red-r3d = 1391
+is-video-x-red-r3d = 1402
 
 abbrev pub is-video-x-roq : ℕ
-is-video-x-roq = 1392
+is-video-x-roq = 1403
 
 abbrev pub is-video-x-sgi-movie : ℕ
-is-video-x-sgi-movie = 1393
+is-video-x-sgi-movie = 1404
 
 abbrev pub is-video-x-vdr : ℕ
-is-video-x-vdr = 1394
+is-video-x-vdr = 1405
 
 abbrev pub is-video-x-yuv4mpeg : ℕ
-is-video-x-yuv4mpeg = 1395
+is-video-x-yuv4mpeg = 1406
 
 abbrev pub is-x-epoc-x-sisx-app : ℕ
-is-x-epoc-x-sisx-app = 1396
+is-x-epoc-x-sisx-app = 1407
 
 unfoldable pub types_0 : List NamedType
 types_0 =
@@ -4213,7 +4246,7 @@ types_0 =
     ∷ named (codes "application/font-sfnt") (row (codes "ttf"))
     ∷ named (codes "application/font-woff") (row (codes "woff"))
     ∷ named (codes "application/font-woff") (row (codes "woff2"))
-    ∷ named (codes "application/geo+json") known
+    ∷ named (codes "application/geo+json") (row (codes "geojson"))
     ∷ named (codes "application/geopackage+sqlite3") (row (codes "gpkg"))
     ∷ named (codes "application/gml+xml") (row (codes "gml"))
     ∷ named (codes "application/gnunet-directory") (row (codes "gnd"))
@@ -4234,7 +4267,7 @@ types_0 =
     ∷ named (codes "application/mac-binhex40") (row (codes "hqx"))
     ∷ named (codes "application/manifest+json") known
     ∷ named (codes "application/mathml+xml") (row (codes "mml"))
-    ∷ named (codes "application/mbox") known
+    ∷ named (codes "application/mbox") (row (codes "mbox"))
     ∷ named (codes "application/metalink+xml") (row (codes "metalink"))
     ∷ named (codes "application/metalink4+xml") (row (codes "meta4"))
     ∷ named (codes "application/msgpack") own
@@ -4310,6 +4343,7 @@ types_0 =
     ∷ named (codes "application/vnd.corel-draw") (row (codes "cdr"))
     ∷ named (codes "application/vnd.cups-ppd") (row (codes "ppd"))
     ∷ named (codes "application/vnd.cups-raster") (row (codes "cupsraster"))
+    ∷ named (codes "application/vnd.cyclonedx+json") (row (codes "cdx"))
     ∷ named (codes "application/vnd.dbf") (row (codes "dbf"))
     ∷ named (codes "application/vnd.debian.binary-package") (row (codes "deb"))
     ∷ named (codes "application/vnd.etsi.asic-e+zip") known
@@ -4428,6 +4462,7 @@ types_0 =
     ∷ named (codes "application/x-admx") own
     ∷ named (codes "application/x-aes-encrypted") (row (codes "aes"))
     ∷ named (codes "application/x-age-encryption") (row (codes "age"))
+    ∷ named (codes "application/x-age-key") (row (codes "agekey"))
     ∷ named (codes "application/x-alz") (row (codes "alz"))
     ∷ named (codes "application/x-amf") (row (codes "amf"))
     ∷ named (codes "application/x-amiga-disk-format") (row (codes "adf"))
@@ -4449,13 +4484,13 @@ types_0 =
     ∷ named (codes "application/x-apt-cache") (row (codes "aptcache"))
     ∷ named (codes "application/x-arb+json") own
     ∷ named (codes "application/x-arc") known
-    ∷ named (codes "application/x-arj") (row (codes "arj"))
-    ∷ named (codes "application/x-asar") (row (codes "asar"))
     ∷ []
 
 unfoldable pub types_1 : List NamedType
 types_1 =
-    named (codes "application/x-asp") known
+    named (codes "application/x-arj") (row (codes "arj"))
+    ∷ named (codes "application/x-asar") (row (codes "asar"))
+    ∷ named (codes "application/x-asp") known
     ∷ named (codes "application/x-aspx") known
     ∷ named (codes "application/x-atari-7800-rom") (row (codes "a78"))
     ∷ named (codes "application/x-atari-lynx-rom") (row (codes "lnx"))
@@ -4485,7 +4520,9 @@ types_1 =
     ∷ named (codes "application/x-ccmx") (row (codes "ccmx"))
     ∷ named (codes "application/x-cd-image") known
     ∷ named (codes "application/x-cdf") (row (codes "cdf"))
+    ∷ named (codes "application/x-cdrdao-toc") (row (codes "toc"))
     ∷ named (codes "application/x-cern-root") (row (codes "root"))
+    ∷ named (codes "application/x-cisco-vpn-settings") (row (codes "vpnpcf"))
     ∷ named (codes "application/x-clang-pch") (row (codes "pch"))
     ∷ named (codes "application/x-cmi") own
     ∷ named (codes "application/x-com-executable") own
@@ -4500,11 +4537,11 @@ types_1 =
     ∷ named (codes "application/x-csh") (row (codes "csh"))
     ∷ named (codes "application/x-csi") (row (codes "csi"))
     ∷ named (codes "application/x-cubin") (row (codes "cubin"))
-    ∷ named (codes "application/x-cue") known
+    ∷ named (codes "application/x-cue") (row (codes "cue"))
     ∷ named (codes "application/x-dar") (row (codes "dar"))
     ∷ named (codes "application/x-dbm") (row (codes "bdb"))
     ∷ named (codes "application/x-designer") (row (codes "ui"))
-    ∷ named (codes "application/x-desktop") known
+    ∷ named (codes "application/x-desktop") (row (codes "desktop"))
     ∷ named (codes "application/x-devhelp+xml") own
     ∷ named (codes "application/x-device-tree-blob") own
     ∷ named (codes "application/x-dfont") (row (codes "dfont"))
@@ -4582,6 +4619,7 @@ types_1 =
     ∷ named (codes "application/x-gnucash") (row (codes "gnucash"))
     ∷ named (codes "application/x-gnumeric") (row (codes "gnumeric"))
     ∷ named (codes "application/x-gnupg-keybox") (row (codes "kbx"))
+    ∷ named (codes "application/x-gnupg-private-key") (row (codes "gpgsec"))
     ∷ named (codes "application/x-gnupg-trustdb") (row (codes "trustdb"))
     ∷ named (codes "application/x-gnuplot") (row (codes "gnuplot"))
     ∷ named (codes "application/x-go-object") (row (codes "goobj"))
@@ -4617,7 +4655,7 @@ types_1 =
     ∷ named (codes "application/x-intellij+xml") own
     ∷ named (codes "application/x-ios-app") own
     ∷ named (codes "application/x-ips-patch") (row (codes "ips"))
-    ∷ named (codes "application/x-ipynb+json") known
+    ∷ named (codes "application/x-ipynb+json") (row (codes "ipynb"))
     ∷ named (codes "application/x-it87") (row (codes "it87"))
     ∷ named (codes "application/x-jasper+xml") own
     ∷ named (codes "application/x-java-enterprise-archive") own
@@ -4706,16 +4744,16 @@ types_1 =
     ∷ named (codes "application/x-ms-shortcut") (row (codes "lnk"))
     ∷ named (codes "application/x-ms-wim") (row (codes "wim"))
     ∷ named (codes "application/x-msaccess") (row (codes "accdb"))
-    ∷ named (codes "application/x-msaccess") (row (codes "mdb"))
-    ∷ named (codes "application/x-msbuild+xml") (row (codes "msbuild"))
-    ∷ named (codes "application/x-msi") (row (codes "msi"))
-    ∷ named (codes "application/x-mswinurl") (row (codes "url"))
-    ∷ named (codes "application/x-mswrite") (row (codes "wri"))
     ∷ []
 
 unfoldable pub types_2 : List NamedType
 types_2 =
-    named (codes "application/x-musescore") (row (codes "mscz"))
+    named (codes "application/x-msaccess") (row (codes "mdb"))
+    ∷ named (codes "application/x-msbuild+xml") (row (codes "msbuild"))
+    ∷ named (codes "application/x-msi") (row (codes "msi"))
+    ∷ named (codes "application/x-mswinurl") (row (codes "url"))
+    ∷ named (codes "application/x-mswrite") (row (codes "wri"))
+    ∷ named (codes "application/x-musescore") (row (codes "mscz"))
     ∷ named (codes "application/x-musescore+xml") (row (codes "mscx"))
     ∷ named (codes "application/x-mxml") own
     ∷ named (codes "application/x-mysql-myisam") (row (codes "myi"))
@@ -4811,9 +4849,9 @@ types_2 =
     ∷ named (codes "application/x-scf") (row (codes "scf"))
     ∷ named (codes "application/x-schematron+xml") (row (codes "sch"))
     ∷ named (codes "application/x-scxml+xml") own
-    ∷ named (codes "application/x-setupscript") own
+    ∷ named (codes "application/x-setupscript") (row (codes "inf"))
     ∷ named (codes "application/x-shapefile-index") own
-    ∷ named (codes "application/x-shared-library-la") known
+    ∷ named (codes "application/x-shared-library-la") (row (codes "la"))
     ∷ named (codes "application/x-sharedlib") (row (codes "so"))
     ∷ named (codes "application/x-shockwave-flash") (row (codes "swf"))
     ∷ named (codes "application/x-shorten") (row (codes "shn"))
@@ -4966,16 +5004,16 @@ types_2 =
     ∷ named (codes "audio/x-gsm") known
     ∷ named (codes "audio/x-ircam") (row (codes "ircam"))
     ∷ named (codes "audio/x-iriver-pla") (row (codes "pla"))
-    ∷ named (codes "audio/x-it") (row (codes "it"))
-    ∷ named (codes "audio/x-m4b") (row (codes "m4b"))
-    ∷ named (codes "audio/x-matroska") known
-    ∷ named (codes "audio/x-maud") (row (codes "maud"))
-    ∷ named (codes "audio/x-mids") (row (codes "mids"))
     ∷ []
 
 unfoldable pub types_3 : List NamedType
 types_3 =
-    named (codes "audio/x-mo3") (row (codes "mo3"))
+    named (codes "audio/x-it") (row (codes "it"))
+    ∷ named (codes "audio/x-m4b") (row (codes "m4b"))
+    ∷ named (codes "audio/x-matroska") known
+    ∷ named (codes "audio/x-maud") (row (codes "maud"))
+    ∷ named (codes "audio/x-mids") (row (codes "mids"))
+    ∷ named (codes "audio/x-mo3") (row (codes "mo3"))
     ∷ named (codes "audio/x-mod") known
     ∷ named (codes "audio/x-mod") (row (codes "mod"))
     ∷ named (codes "audio/x-mpegurl") known
@@ -5057,7 +5095,7 @@ types_3 =
     ∷ named (codes "image/vnd.adobe.photoshop") (row (codes "psd"))
     ∷ named (codes "image/vnd.djvu") (row (codes "djvu"))
     ∷ named (codes "image/vnd.dwg") (row (codes "dwg"))
-    ∷ named (codes "image/vnd.dxf") known
+    ∷ named (codes "image/vnd.dxf") (row (codes "dxf"))
     ∷ named (codes "image/vnd.fpx") (row (codes "fpx"))
     ∷ named (codes "image/vnd.microsoft.icon") (row (codes "ico"))
     ∷ named (codes "image/vnd.ms-dds") (row (codes "dds"))
@@ -5117,6 +5155,7 @@ types_3 =
     ∷ named (codes "image/x-panasonic-rw2") (row (codes "rw2"))
     ∷ named (codes "image/x-pentax-pef") known
     ∷ named (codes "image/x-pgf") (row (codes "pgf"))
+    ∷ named (codes "image/x-phaseone-iiq") (row (codes "iiq"))
     ∷ named (codes "image/x-pic") (row (codes "pic"))
     ∷ named (codes "image/x-pict") (row (codes "pict"))
     ∷ named (codes "image/x-portable-anymap") (row (codes "pnm"))
@@ -5141,7 +5180,7 @@ types_3 =
     ∷ named (codes "image/x-vips") (row (codes "vips"))
     ∷ named (codes "image/x-win-bitmap") (row (codes "cur"))
     ∷ named (codes "image/x-wpg") (row (codes "wpg"))
-    ∷ named (codes "image/x-xbitmap") known
+    ∷ named (codes "image/x-xbitmap") (row (codes "xbm"))
     ∷ named (codes "image/x-xcf") (row (codes "xcf"))
     ∷ named (codes "image/x-xfig") (row (codes "fig"))
     ∷ named (codes "image/x-xisf") (row (codes "xisf"))
@@ -5150,20 +5189,22 @@ types_3 =
     ∷ named (codes "image/x-zeiss-czi") (row (codes "czi"))
     ∷ named (codes "image/x.nifti") (row (codes "nii"))
     ∷ named (codes "message/http") (row (codes "http"))
-    ∷ named (codes "message/rfc822") known
+    ∷ named (codes "message/news") (row (codes "news"))
+    ∷ named (codes "message/rfc822") (row (codes "eml"))
     ∷ named (codes "model/3mf") (row (codes "3mf"))
     ∷ named (codes "model/e57") (row (codes "e57"))
-    ∷ named (codes "model/gltf+json") known
+    ∷ named (codes "model/gltf+json") (row (codes "gltf"))
     ∷ named (codes "model/gltf-binary") (row (codes "glb"))
     ∷ named (codes "model/iges") (row (codes "igs"))
-    ∷ named (codes "model/mtl") known
-    ∷ named (codes "model/obj") known
+    ∷ named (codes "model/mtl") (row (codes "mtl"))
+    ∷ named (codes "model/obj") (row (codes "model/obj"))
     ∷ named (codes "model/step") (row (codes "model/step"))
     ∷ named (codes "model/stl") (row (codes "stl"))
     ∷ named (codes "model/vnd.collada+xml") (row (codes "dae"))
     ∷ named (codes "model/vnd.usda") (row (codes "usda"))
     ∷ named (codes "model/vrml") (row (codes "wrl"))
     ∷ named (codes "model/x-milkshape") (row (codes "ms3d"))
+    ∷ named (codes "model/x-pcd") (row (codes "pcd"))
     ∷ named (codes "model/x3d+xml") (row (codes "x3d"))
     ∷ named (codes "model/x3d-vrml") (row (codes "x3dv"))
     ∷ named (codes "multipart/related") known
@@ -5184,14 +5225,14 @@ types_3 =
     ∷ named (codes "text/spreadsheet") (row (codes "slk"))
     ∷ named (codes "text/tab-separated-values") known
     ∷ named (codes "text/troff") (row (codes "roff"))
-    ∷ named (codes "text/turtle") known
+    ∷ named (codes "text/turtle") (row (codes "ttl"))
     ∷ named (codes "text/uri-list") known
     ∷ named (codes "text/vbscript") known
     ∷ named (codes "text/vcard") (row (codes "vcf"))
     ∷ named (codes "text/velocity") known
     ∷ named (codes "text/vnd.abc") (row (codes "abc"))
     ∷ named (codes "text/vnd.familysearch.gedcom") (row (codes "ged"))
-    ∷ named (codes "text/vnd.graphviz") known
+    ∷ named (codes "text/vnd.graphviz") (row (codes "gv"))
     ∷ named (codes "text/vnd.sun.j2me.app-descriptor") (row (codes "jad"))
     ∷ named (codes "text/vnd.trolltech.linguist") (row (codes "lingts"))
     ∷ named (codes "text/vnd.wap.wml") known
@@ -5222,8 +5263,12 @@ types_3 =
     ∷ named (codes "text/x-bats") own
     ∷ named (codes "text/x-bc") own
     ∷ named (codes "text/x-bed") own
-    ∷ named (codes "text/x-bibtex") known
-    ∷ named (codes "text/x-bicep") own
+    ∷ named (codes "text/x-bibtex") (row (codes "bib"))
+    ∷ []
+
+unfoldable pub types_4 : List NamedType
+types_4 =
+    named (codes "text/x-bicep") own
     ∷ named (codes "text/x-bitbake") own
     ∷ named (codes "text/x-blade") own
     ∷ named (codes "text/x-bluespec") own
@@ -5231,11 +5276,7 @@ types_3 =
     ∷ named (codes "text/x-bpftrace") own
     ∷ named (codes "text/x-bugs") own
     ∷ named (codes "text/x-c++hdr") known
-    ∷ []
-
-unfoldable pub types_4 : List NamedType
-types_4 =
-    named (codes "text/x-c++src") known
+    ∷ named (codes "text/x-c++src") known
     ∷ named (codes "text/x-cabal") own
     ∷ named (codes "text/x-cairo") own
     ∷ named (codes "text/x-capnp") own
@@ -5264,11 +5305,12 @@ types_4 =
     ∷ named (codes "text/x-cython") known
     ∷ named (codes "text/x-d2") own
     ∷ named (codes "text/x-dart") known
-    ∷ named (codes "text/x-debian-control") own
+    ∷ named (codes "text/x-dbus-service") (row (codes "dbusservice"))
+    ∷ named (codes "text/x-debian-control") (row (codes "dsc"))
     ∷ named (codes "text/x-dhall") own
     ∷ named (codes "text/x-dimacs") own
     ∷ named (codes "text/x-dns-zone") own
-    ∷ named (codes "text/x-dockerfile") known
+    ∷ named (codes "text/x-dockerfile") (row (codes "docker"))
     ∷ named (codes "text/x-dotenv") own
     ∷ named (codes "text/x-dsrc") known
     ∷ named (codes "text/x-dts") own
@@ -5282,7 +5324,7 @@ types_4 =
     ∷ named (codes "text/x-elixir") (row (codes "exs"))
     ∷ named (codes "text/x-elm") known
     ∷ named (codes "text/x-emacs-config") own
-    ∷ named (codes "text/x-emacs-lisp") known
+    ∷ named (codes "text/x-emacs-lisp") (row (codes "elisp"))
     ∷ named (codes "text/x-erlang") (row (codes "escript"))
     ∷ named (codes "text/x-expect") own
     ∷ named (codes "text/x-factor") known
@@ -5332,6 +5374,7 @@ types_4 =
     ∷ named (codes "text/x-hlsl") own
     ∷ named (codes "text/x-hunspell-affix") own
     ∷ named (codes "text/x-hy") own
+    ∷ named (codes "text/x-icon-theme") (row (codes "icontheme"))
     ∷ named (codes "text/x-idl") known
     ∷ named (codes "text/x-idris") own
     ∷ named (codes "text/x-igor") own
@@ -5362,12 +5405,12 @@ types_4 =
     ∷ named (codes "text/x-kusto") own
     ∷ named (codes "text/x-latte") own
     ∷ named (codes "text/x-ld-script") own
-    ∷ named (codes "text/x-ldif") known
+    ∷ named (codes "text/x-ldif") (row (codes "ldif"))
     ∷ named (codes "text/x-lean") own
     ∷ named (codes "text/x-less") own
     ∷ named (codes "text/x-lex") own
     ∷ named (codes "text/x-lfe") own
-    ∷ named (codes "text/x-lilypond") known
+    ∷ named (codes "text/x-lilypond") (row (codes "ly"))
     ∷ named (codes "text/x-liquid") own
     ∷ named (codes "text/x-literate-haskell") known
     ∷ named (codes "text/x-livescript") known
@@ -5397,6 +5440,7 @@ types_4 =
     ∷ named (codes "text/x-monkey") own
     ∷ named (codes "text/x-moonscript") own
     ∷ named (codes "text/x-move") own
+    ∷ named (codes "text/x-mpsub") (row (codes "mpsub"))
     ∷ named (codes "text/x-ms-regedit") (row (codes "reg"))
     ∷ named (codes "text/x-msdos-batch") (row (codes "bat"))
     ∷ named (codes "text/x-mup") (row (codes "mup"))
@@ -5429,7 +5473,7 @@ types_4 =
     ∷ named (codes "text/x-pic") own
     ∷ named (codes "text/x-pig") own
     ∷ named (codes "text/x-pike") own
-    ∷ named (codes "text/x-pkg-config") own
+    ∷ named (codes "text/x-pkg-config") (row (codes "pc"))
     ∷ named (codes "text/x-plantuml") (row (codes "puml"))
     ∷ named (codes "text/x-pli") own
     ∷ named (codes "text/x-pod") own
@@ -5468,7 +5512,7 @@ types_4 =
     ∷ named (codes "text/x-robotframework") own
     ∷ named (codes "text/x-roc") own
     ∷ named (codes "text/x-rpgle") own
-    ∷ named (codes "text/x-rpm-spec") known
+    ∷ named (codes "text/x-rpm-spec") (row (codes "spec"))
     ∷ named (codes "text/x-rsrc") known
     ∷ named (codes "text/x-rst") known
     ∷ named (codes "text/x-ruby") (row (codes "rb"))
@@ -5480,7 +5524,11 @@ types_4 =
     ∷ named (codes "text/x-scc") (row (codes "scc"))
     ∷ named (codes "text/x-scheme") (row (codes "scm"))
     ∷ named (codes "text/x-scilab") own
-    ∷ named (codes "text/x-scons") known
+    ∷ []
+
+unfoldable pub types_5 : List NamedType
+types_5 =
+    named (codes "text/x-scons") known
     ∷ named (codes "text/x-scss") known
     ∷ named (codes "text/x-sdc") own
     ∷ named (codes "text/x-sed") (row (codes "sed"))
@@ -5491,11 +5539,7 @@ types_4 =
     ∷ named (codes "text/x-sieve") own
     ∷ named (codes "text/x-slim") known
     ∷ named (codes "text/x-slint") own
-    ∷ []
-
-unfoldable pub types_5 : List NamedType
-types_5 =
-    named (codes "text/x-sln") own
+    ∷ named (codes "text/x-sln") own
     ∷ named (codes "text/x-smali") own
     ∷ named (codes "text/x-smarty") known
     ∷ named (codes "text/x-sml") own
@@ -5519,11 +5563,11 @@ types_5 =
     ∷ named (codes "text/x-svhdr") known
     ∷ named (codes "text/x-svsrc") known
     ∷ named (codes "text/x-swift") known
-    ∷ named (codes "text/x-systemd-unit") known
+    ∷ named (codes "text/x-systemd-unit") (row (codes "unit"))
     ∷ named (codes "text/x-tablegen") own
     ∷ named (codes "text/x-tcl") (row (codes "tcl"))
     ∷ named (codes "text/x-template-toolkit") own
-    ∷ named (codes "text/x-tex") known
+    ∷ named (codes "text/x-tex") (row (codes "tex"))
     ∷ named (codes "text/x-texinfo") (row (codes "texi"))
     ∷ named (codes "text/x-textile") known
     ∷ named (codes "text/x-textproto") own

@@ -1613,9 +1613,9 @@ fn widens_before_768(i: usize, parent: Option<usize>, buf: &[u8]) -> bool
     }
 }
 
-/// [`row_at`] for the rows before 871.
+/// [`row_at`] for the rows before 913.
 #[inline(always)]
-fn row_before_871(i: usize) -> Option<&'static FurtherRow>
+fn row_before_913(i: usize) -> Option<&'static FurtherRow>
     ensures listed { option_map (λ row. row_listed row.now) result ≡ slice_get further i }
     ensures ended { IfSome result (λ row. ended_listed row.now.ended
         ≡ ended_shown (row_listed row.now).shows) }
@@ -1725,13 +1725,55 @@ fn row_before_871(i: usize) -> Option<&'static FurtherRow>
         868 => row_of::<868>(),
         869 => row_of::<869>(),
         870 => row_of::<870>(),
+        871 => row_of::<871>(),
+        872 => row_of::<872>(),
+        873 => row_of::<873>(),
+        874 => row_of::<874>(),
+        875 => row_of::<875>(),
+        876 => row_of::<876>(),
+        877 => row_of::<877>(),
+        878 => row_of::<878>(),
+        879 => row_of::<879>(),
+        880 => row_of::<880>(),
+        881 => row_of::<881>(),
+        882 => row_of::<882>(),
+        883 => row_of::<883>(),
+        884 => row_of::<884>(),
+        885 => row_of::<885>(),
+        886 => row_of::<886>(),
+        887 => row_of::<887>(),
+        888 => row_of::<888>(),
+        889 => row_of::<889>(),
+        890 => row_of::<890>(),
+        891 => row_of::<891>(),
+        892 => row_of::<892>(),
+        893 => row_of::<893>(),
+        894 => row_of::<894>(),
+        895 => row_of::<895>(),
+        896 => row_of::<896>(),
+        897 => row_of::<897>(),
+        898 => row_of::<898>(),
+        899 => row_of::<899>(),
+        900 => row_of::<900>(),
+        901 => row_of::<901>(),
+        902 => row_of::<902>(),
+        903 => row_of::<903>(),
+        904 => row_of::<904>(),
+        905 => row_of::<905>(),
+        906 => row_of::<906>(),
+        907 => row_of::<907>(),
+        908 => row_of::<908>(),
+        909 => row_of::<909>(),
+        910 => row_of::<910>(),
+        911 => row_of::<911>(),
+        912 => row_of::<912>(),
         _ => row_in_lists(i),
     }
 }
 
-/// [`widens`] for the rows before 871.
+/// [`widens`] for the rows before 913.
 #[inline(always)]
-fn widens_before_871(i: usize, parent: Option<usize>, buf: &[u8]) -> bool
+fn widens_before_913(i: usize, parent: Option<usize>, buf: &[u8]) -> bool
     ensures { IsTrue result ↔ WidensAt parent buf.now i }
 {
     match i {
@@ -1838,6 +1880,48 @@ fn widens_before_871(i: usize, parent: Option<usize>, buf: &[u8]) -> bool
         868 => widens_row::<868>(parent, buf),
         869 => widens_row::<869>(parent, buf),
         870 => widens_row::<870>(parent, buf),
+        871 => widens_row::<871>(parent, buf),
+        872 => widens_row::<872>(parent, buf),
+        873 => widens_row::<873>(parent, buf),
+        874 => widens_row::<874>(parent, buf),
+        875 => widens_row::<875>(parent, buf),
+        876 => widens_row::<876>(parent, buf),
+        877 => widens_row::<877>(parent, buf),
+        878 => widens_row::<878>(parent, buf),
+        879 => widens_row::<879>(parent, buf),
+        880 => widens_row::<880>(parent, buf),
+        881 => widens_row::<881>(parent, buf),
+        882 => widens_row::<882>(parent, buf),
+        883 => widens_row::<883>(parent, buf),
+        884 => widens_row::<884>(parent, buf),
+        885 => widens_row::<885>(parent, buf),
+        886 => widens_row::<886>(parent, buf),
+        887 => widens_row::<887>(parent, buf),
+        888 => widens_row::<888>(parent, buf),
+        889 => widens_row::<889>(parent, buf),
+        890 => widens_row::<890>(parent, buf),
+        891 => widens_row::<891>(parent, buf),
+        892 => widens_row::<892>(parent, buf),
+        893 => widens_row::<893>(parent, buf),
+        894 => widens_row::<894>(parent, buf),
+        895 => widens_row::<895>(parent, buf),
+        896 => widens_row::<896>(parent, buf),
+        897 => widens_row::<897>(parent, buf),
+        898 => widens_row::<898>(parent, buf),
+        899 => widens_row::<899>(parent, buf),
+        900 => widens_row::<900>(parent, buf),
+        901 => widens_row::<901>(parent, buf),
+        902 => widens_row::<902>(parent, buf),
+        903 => widens_row::<903>(parent, buf),
+        904 => widens_row::<904>(parent, buf),
+        905 => widens_row::<905>(parent, buf),
+        906 => widens_row::<906>(parent, buf),
+        907 => widens_row::<907>(parent, buf),
+        908 => widens_row::<908>(parent, buf),
+        909 => widens_row::<909>(parent, buf),
+        910 => widens_row::<910>(parent, buf),
+        911 => widens_row::<911>(parent, buf),
+        912 => widens_row::<912>(parent, buf),
         _ => widens_any(i, parent, buf),
     }
 }
@@ -1858,7 +1942,7 @@ pub(crate) fn row_at(i: usize) -> Option<&'static FurtherRow>
     if i < 768 {
         return row_before_768(i);
     }
-    row_before_871(i)
+    row_before_913(i)
 }
 
 /// Whether further row `i` has this parent and accepts the buffer: code of its own for each row.
@@ -1875,5 +1959,5 @@ pub(crate) fn widens(i: usize, parent: Option<usize>, buf: &[u8]) -> bool
     if i < 768 {
         return widens_before_768(i, parent, buf);
     }
-    widens_before_871(i, parent, buf)
+    widens_before_913(i, parent, buf)
 }

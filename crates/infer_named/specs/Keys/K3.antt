@@ -2,22 +2,22 @@
 use Rattle.std.specs.Prelude.{List, [], ◌∷◌, codes, false, true}
 use Rattle.infer_named.specs.Key.{Key, key}
 use Rattle.infer_named.specs.Listed.{reading}
-use Rattle.infer_named.specs.Sets.{any-lead, leads-10, leads-2, no-rows, rows-3dmodel-abw-amf-atom-aup-busconfig-catmeta-cml-dae-dbk-dbusintro-dia-diashape-fb2-fodg-fodp-fods-fodt-fontconfig-glade-gml-gnucash-gnumeric-gpx-gresource-gschema-gtkbuilder-jnlp-kml-ldml-lingts-meta4-metainfo-metalink-mimeinfo-mml-mpd-msbuild-mscx-musicxml-ncx-nzb-opf-opml-osm-owx-pkgmeta-plist-pom-rdf-rng-rss-sbml-sch-sitemap-sla-smil-srx-svg-tei-ttml-ttx-ui-wordml-wsdl-x3d-xbel-xhtml-xib-xkbrules-xliff-xmi-xmp-xsd-xslt-xspf, rows-3ds, rows-3gp, rows-aac, rows-aes, rows-afm, rows-ag, rows-amr, rows-application-x-msi, rows-application-x-ole-storage, rows-application-x-ole-storage-pptm-pptx-zip, rows-application-x-ole-storage-pptx-zip, rows-ar, rows-asc, rows-asx, rows-aup3-fossil-gpkg-mbtiles-mtn, rows-awk, rows-bai, rows-bc, rows-bdf, rows-bdfb, rows-bookmarks, rows-bsdiff, rows-bz2, rows-bzimage, rows-caf, rows-cci, rows-ccmx, rows-cdr, rows-cmap-eps-pfa-t2t, rows-cmi, rows-cmx, rows-cmxr, rows-cpt, rows-crw, rows-crx, rows-csr-p10, rows-cubin, rows-dart, rows-dbk, rows-deb-goa, rows-der-pem-txt, rows-djvm, rows-djvu, rows-docx-application-x-ole-storage-zip, rows-dwg, rows-eet, rows-elf, rows-elf-so, rows-eot, rows-escript, rows-exe, rows-f4v, rows-fig, rows-fish, rows-fm, rows-fodg, rows-gb-gbc, rows-gba, rows-gem, rows-gjs-js, rows-glb, rows-gnd, rows-goobj, rows-gpg-gpgold, rows-gpkg, rows-gz-zip, rows-html, rows-html-json-php-svg-txt-xhtml-xml, rows-html-sh-svg-txt-xhtml-xml, rows-html-txt, rows-html-txt-xhtml-xml, rows-html-txt-xml, rows-icc, rows-icures, rows-ifo, rows-ilbm, rows-info, rows-jar-zip, rows-jffs2, rows-jks, rows-jmod, rows-json, rows-json-sh-txt, rows-jxr, rows-kml, rows-kmz, rows-kon, rows-kra, rows-kwaj, rows-las, rows-lingts, rows-lmdb, rows-locarch, rows-lua, rows-lua-sh-txt, rows-luks, rows-lzfse, rows-lzma, rows-m, rows-m3u8, rows-m4, rows-mach, rows-metalink, rows-mk, rows-mkv, rows-ml, rows-model-step, rows-mol2, rows-mov, rows-mp4, rows-mpc, rows-mpg, rows-mpp, rows-mpq, rows-ms3d, rows-msbuild, rows-mup, rows-myi, rows-n64, rows-nes, rows-o, rows-obj, rows-odf, rows-odg, rows-odm-ott, rows-odp-zip, rows-odt, rows-opml, rows-otp, rows-paf, rows-pat, rows-pcapng, rows-pch, rows-pem, rows-pgn, rows-pgp-pgpmsg, rows-pgpsig-sig, rows-php, rows-php-svg-txt-xhtml-xml, rows-pic, rows-pjl, rows-pkgstream, rows-pla, rows-plist-txt-xml, rows-pom, rows-ppf, rows-ppt, rows-pptm, rows-ppu, rows-ps, rows-ps-sh-txt, rows-ps-txt, rows-ps1, rows-psd, rows-psf1-psf2, rows-ptm, rows-puml, rows-py, rows-qcow2, rows-qgz, rows-qoi, rows-qti, rows-r, rows-raku, rows-rb, rows-res, rows-roff, rows-root, rows-rpm, rows-rtf, rows-s3m, rows-scm, rows-sf2, rows-sh-txt, rows-shn, rows-sid, rows-sk, rows-snoop, rows-sqlite, rows-squashfs, rows-srpm, rows-sxi, rows-sxw, rows-sz, rows-szdd, rows-tar, rows-texlua, rows-tga, rows-ts, rows-txt, rows-txt-xml, rows-ups, rows-usda, rows-vhd, rows-vmdk-vmdkcow, rows-w64, rows-wmv, rows-woff2, rows-wpl, rows-xisf, rows-xliff, rows-xls, rows-xml, rows-zim, rows-zip, rows-zst, text-rows}
+use Rattle.infer_named.specs.Sets.{any-lead, leads-10, leads-2, no-rows, rows-3dmodel-abw-amf-atom-aup-busconfig-catmeta-cml-dae-dbk-dbusintro-dia-diashape-fb2-fodg-fodp-fods-fodt-fontconfig-glade-gml-gnucash-gnumeric-gpx-gresource-gschema-gtkbuilder-jnlp-kml-ldml-lingts-meta4-metainfo-metalink-mimeinfo-mml-mpd-msbuild-mscx-musicxml-ncx-nzb-opf-opml-osm-owx-pkgmeta-plist-pom-rdf-rng-rss-sbml-sch-sitemap-sla-smil-srx-svg-tei-ttml-ttx-ui-wordml-wsdl-x3d-xbel-xhtml-xib-xkbrules-xliff-xmi-xmp-xsd-xslt-xspf, rows-3ds, rows-3gp, rows-aac, rows-aes, rows-afm, rows-ag, rows-amr, rows-application-x-msi, rows-application-x-ole-storage, rows-application-x-ole-storage-pptm-pptx-zip, rows-application-x-ole-storage-pptx-zip, rows-ar, rows-asc, rows-asx, rows-aup3-fossil-gpkg-mbtiles-mtn, rows-awk, rows-bai, rows-bc, rows-bdf, rows-bdfb, rows-bookmarks, rows-bsdiff, rows-bz2, rows-bzimage, rows-caf, rows-cci, rows-ccmx, rows-cdr, rows-cmap-eps-pfa-t2t, rows-cmi, rows-cmx, rows-cmxr, rows-cpt, rows-crw, rows-crx, rows-csr-p10, rows-cubin, rows-dart, rows-dbk, rows-deb-goa, rows-der-pem-txt, rows-djvm, rows-djvu, rows-docx-application-x-ole-storage-zip, rows-dwg, rows-eet, rows-elf, rows-elf-so, rows-eot, rows-escript, rows-exe, rows-exe-dll-efi-lx-ne-sys, rows-f4v, rows-fig, rows-fish, rows-fm, rows-fodg, rows-gb-gbc, rows-gba, rows-gem, rows-gjs-js, rows-glb, rows-gnd, rows-goobj, rows-gpg-gpgold, rows-gpkg, rows-gz-zip, rows-html, rows-html-json-php-svg-txt-xhtml-xml, rows-html-sh-svg-txt-xhtml-xml, rows-html-txt, rows-html-txt-xhtml-xml, rows-html-txt-xml, rows-icc, rows-icures, rows-ifo, rows-ilbm, rows-info, rows-jar-zip, rows-jffs2, rows-jks, rows-jmod, rows-json, rows-json-sh-txt, rows-jxr, rows-kml, rows-kmz, rows-kon, rows-kra, rows-kwaj, rows-las, rows-lingts, rows-lmdb, rows-locarch, rows-lua, rows-lua-sh-txt, rows-luks, rows-ly, rows-lzfse, rows-lzma, rows-m, rows-m3u8, rows-m4, rows-mach, rows-mbox, rows-metalink, rows-mk, rows-mkv, rows-ml, rows-model-step, rows-mol2, rows-mov, rows-mp4, rows-mpc, rows-mpg, rows-mpp, rows-mpq, rows-ms3d, rows-msbuild, rows-mup, rows-myi, rows-n64, rows-nes, rows-o, rows-obj, rows-odf, rows-odg, rows-odm-ott, rows-odp-zip, rows-odt, rows-opml, rows-otp, rows-paf, rows-pat, rows-pcapng, rows-pch, rows-pem, rows-pgn, rows-pgp-pgpmsg, rows-pgpsig-sig, rows-php, rows-php-svg-txt-xhtml-xml, rows-pic, rows-pjl, rows-pkgstream, rows-pla, rows-plist-txt-xml, rows-pom, rows-ppf, rows-ppt, rows-pptm, rows-ppu, rows-ps, rows-ps-sh-txt, rows-ps-txt, rows-ps1, rows-psd, rows-psf1-psf2, rows-ptm, rows-puml, rows-py, rows-qcow2, rows-qgz, rows-qoi, rows-qti, rows-r, rows-raku, rows-rb, rows-res, rows-roff, rows-root, rows-rpm, rows-rtf, rows-s3m, rows-scm, rows-sf2, rows-sh-txt, rows-shn, rows-sid, rows-sk, rows-snoop, rows-sqlite, rows-squashfs, rows-srpm, rows-sxi, rows-sxw, rows-sz, rows-szdd, rows-tar, rows-tex, rows-texlua, rows-tga, rows-ts, rows-txt, rows-txt-xml, rows-unit, rows-ups, rows-usda, rows-vhd, rows-vmdk-vmdkcow, rows-w64, rows-wmv, rows-woff2, rows-wpl, rows-xisf, rows-xliff, rows-xls, rows-xml, rows-zim, rows-zip, rows-zst, text-rows}
 use Rattle.infer_named.specs.Types.{is-application-dita-xml, is-application-font-woff-as-row-woff2, is-application-geopackage-sqlite3, is-application-gnunet-directory, is-application-json, is-application-mbox, is-application-metalink-xml, is-application-octet-stream, is-application-pgp-encrypted, is-application-pgp-keys-as-row-asc, is-application-pgp-keys-as-row-gpg, is-application-pgp-signature, is-application-pkcs10, is-application-postscript, is-application-rtf, is-application-sourcemap-json, is-application-vnd-adobe-xfdf, is-application-vnd-apple-mpegurl, is-application-vnd-chess-pgn, is-application-vnd-corel-draw, is-application-vnd-framemaker, is-application-vnd-garmin-tcx-xml, is-application-vnd-geogebra-file, is-application-vnd-google-earth-kml-xml, is-application-vnd-google-earth-kmz, is-application-vnd-hp-pjl, is-application-vnd-iccprofile, is-application-vnd-las, is-application-vnd-lotus-1-2-3-as-known, is-application-vnd-microsoft-portable-executable, is-application-vnd-ms-excel, is-application-vnd-ms-powerpoint, is-application-vnd-ms-powerpoint-presentation-macroenabled-12, is-application-vnd-ms-powerpoint-template-macroenabled-12, is-application-vnd-ms-project, is-application-vnd-ms-wpl, is-application-vnd-oasis-opendocument-formula, is-application-vnd-oasis-opendocument-graphics, is-application-vnd-oasis-opendocument-graphics-flat-xml, is-application-vnd-oasis-opendocument-presentation-template, is-application-vnd-oasis-opendocument-text, is-application-vnd-openxmlformats-officedocument-wordprocessingml-template, is-application-vnd-sqlite3, is-application-vnd-squashfs, is-application-vnd-sun-xml-impress, is-application-vnd-sun-xml-writer, is-application-x-aes-encrypted, is-application-x-ant-xml, is-application-x-arb-json, is-application-x-bai, is-application-x-bdf, is-application-x-bsdiff, is-application-x-bzip2, is-application-x-ccmx, is-application-x-cern-root, is-application-x-clang-pch, is-application-x-cmi, is-application-x-com-executable, is-application-x-cubin, is-application-x-docbook-xml, is-application-x-eet, is-application-x-entitlements, is-application-x-executable-as-row-obj, is-application-x-fishscript, is-application-x-font-afm, is-application-x-font-bdf, is-application-x-font-linux-psf, is-application-x-gameboy-rom, is-application-x-gba-rom-as-row-gba, is-application-x-gds, is-application-x-gdscript, is-application-x-gir-xml, is-application-x-glibc-locale-archive, is-application-x-go-object, is-application-x-google-chrome-extension, is-application-x-har-json, is-application-x-haskell-interface, is-application-x-icu-data, is-application-x-intellij-xml, is-application-x-ios-app, is-application-x-java-jmod, is-application-x-java-keystore, is-application-x-jffs2, is-application-x-jsonc, is-application-x-jsp, is-application-x-kontour, is-application-x-krita, is-application-x-leveldb-table, is-application-x-linux-kernel-as-row-bzimage, is-application-x-llvm, is-application-x-lmdb, is-application-x-locale-archive, is-application-x-luks, is-application-x-lzfse, is-application-x-lzma-compressed-tar, is-application-x-m4, is-application-x-mach-binary, is-application-x-mimecache, is-application-x-mpq, is-application-x-ms-compress-kwaj, is-application-x-ms-compress-szdd, is-application-x-ms-resource, is-application-x-msbuild-xml, is-application-x-msi, is-application-x-mysql-myisam, is-application-x-n64-rom, is-application-x-nintendo-3ds-rom, is-application-x-nintendo-nes-rom, is-application-x-object, is-application-x-ocaml-cmi, is-application-x-ocaml-cmx, is-application-x-openzim, is-application-x-pascal-unit, is-application-x-pcapng, is-application-x-powershell, is-application-x-ppf-patch, is-application-x-pytorch, is-application-x-qemu-disk, is-application-x-qgis-project-as-row-qgz, is-application-x-qtiplot, is-application-x-ruby-gem, is-application-x-shorten, is-application-x-snappy-framed, is-application-x-snoop, is-application-x-source-rpm, is-application-x-storyboard-xml, is-application-x-svr4-package, is-application-x-swiftmodule, is-application-x-tflite, is-application-x-thumbs-db, is-application-x-tmx-xml, is-application-x-unix-archive, is-application-x-ups-patch, is-application-x-vhd-disk, is-application-x-vim-swap, is-application-x-vmdk-disk, is-application-x-wix-xml, is-application-x-xpinstall, is-application-x-zstd-compressed-tar, is-application-xaml-xml, is-application-xliff-xml, is-application-xquery, is-audio-aac, is-audio-amr, is-audio-prs-sid, is-audio-x-caf, is-audio-x-iriver-pla, is-audio-x-ms-asx, is-audio-x-ms-wma, is-audio-x-musepack, is-audio-x-paf, is-audio-x-ptm, is-audio-x-s3m, is-audio-x-sfbk, is-audio-x-w64, is-chemical-x-mol2, is-image-vnd-adobe-photoshop, is-image-vnd-djvu, is-image-vnd-dwg, is-image-vnd-ms-photo, is-image-x-3ds, is-image-x-applix-graphics, is-image-x-canon-crw, is-image-x-cmx, is-image-x-corel-cpt, is-image-x-gimp-pat, is-image-x-ilbm, is-image-x-pic, is-image-x-qoi, is-image-x-skencil, is-image-x-tga-as-row-tga, is-image-x-xfig, is-image-x-xisf, is-model-gltf-binary, is-model-step, is-model-vnd-usda, is-model-x-milkshape, is-text-html, is-text-javascript, is-text-plain, is-text-troff, is-text-vnd-trolltech-linguist, is-text-x-asn1, is-text-x-asymptote, is-text-x-awk, is-text-x-bluespec, is-text-x-boo, is-text-x-c-src, is-text-x-checksums, is-text-x-cmake, is-text-x-cocci, is-text-x-csound, is-text-x-cuda, is-text-x-cython, is-text-x-d2, is-text-x-dart, is-text-x-dune, is-text-x-ebnf, is-text-x-eex, is-text-x-ejs, is-text-x-erlang, is-text-x-expect, is-text-x-flatbuffers, is-text-x-fortran, is-text-x-fsharp, is-text-x-genie, is-text-x-gerber, is-text-x-gleam, is-text-x-glsl, is-text-x-gomod, is-text-x-hlsl, is-text-x-hy, is-text-x-idl, is-text-x-info, is-text-x-ini, is-text-x-isabelle, is-text-x-krl, is-text-x-lex, is-text-x-lfe, is-text-x-lilypond, is-text-x-logtalk, is-text-x-lua, is-text-x-luatex, is-text-x-makefile, is-text-x-maven-xml, is-text-x-mermaid, is-text-x-meson, is-text-x-metafont, is-text-x-modula, is-text-x-mup, is-text-x-nginx-conf, is-text-x-nix, is-text-x-ocaml, is-text-x-octave, is-text-x-opentype-feature, is-text-x-opml-xml, is-text-x-pascal, is-text-x-php, is-text-x-pic, is-text-x-plantuml, is-text-x-praat, is-text-x-preseed, is-text-x-pug, is-text-x-puppet, is-text-x-python-as-row-py, is-text-x-qmake, is-text-x-raku, is-text-x-razor, is-text-x-rsrc, is-text-x-ruby, is-text-x-sagemath, is-text-x-scheme, is-text-x-spice, is-text-x-starlark, is-text-x-stata, is-text-x-svelte, is-text-x-systemd-unit, is-text-x-tablegen, is-text-x-tex, is-text-x-tla, is-text-x-typescript, is-text-x-vhdl, is-text-x-vim, is-text-x-wkt, is-text-x-xmi, is-text-xml, is-video-3gpp, is-video-mp2t, is-video-mpeg, is-video-quicktime-as-row-mov, is-video-x-f4v, is-video-x-ifo, is-video-x-matroska-3d}
 use Rattle.infer_named.specs.declared.table.Asks.TheVariants.{Bytes, Nothing, Signature, Text}
 use Rattle.infer_named.specs.declared.table.Part.TheVariants.{Extension, Whole}
 
 unfoldable pub keys : List Key
 keys =
-    key Extension (codes "ax") false (reading is-application-vnd-microsoft-portable-executable Signature rows-exe no-rows no-rows any-lead ∷ [])
+    key Extension (codes "ax") false (reading is-application-vnd-microsoft-portable-executable Signature rows-exe-dll-efi-lx-ne-sys no-rows no-rows any-lead ∷ [])
     ∷ key Extension (codes "vmdk") false (reading is-application-x-vmdk-disk Bytes rows-vmdk-vmdkcow rows-txt no-rows any-lead ∷ [])
     ∷ key Extension (codes "doh") false (reading is-text-x-stata Text no-rows rows-txt no-rows any-lead ∷ [])
     ∷ key Extension (codes "mmd") false (reading is-text-x-mermaid Text no-rows rows-txt no-rows any-lead ∷ [])
     ∷ key Whole (codes "dune-workspace") false (reading is-text-x-dune Text no-rows rows-txt no-rows any-lead ∷ [])
+    ∷ key Extension (codes "ly") false (reading is-text-x-lilypond Text rows-ly rows-ps-txt no-rows any-lead ∷ [])
     ∷ key Extension (codes "djv") false (reading is-image-vnd-djvu Signature rows-djvu no-rows rows-djvm any-lead ∷ [])
     ∷ key Extension (codes "stp") false (reading is-text-plain Text rows-txt no-rows text-rows any-lead ∷ [])
     ∷ key Extension (codes "sqlproj") false (reading is-application-x-msbuild-xml Text rows-msbuild rows-html-txt-xhtml-xml no-rows leads-10 ∷ [])
-    ∷ key Extension (codes "ly") false (reading is-text-x-lilypond Text no-rows rows-ps-txt no-rows any-lead ∷ [])
     ∷ key Extension (codes "bnf") false (reading is-text-x-ebnf Text no-rows rows-txt no-rows any-lead ∷ [])
     ∷ key Whole (codes "api-extractor.json") false (reading is-application-x-jsonc Text no-rows rows-txt rows-json any-lead ∷ [])
     ∷ key Extension (codes "py3") false (reading is-text-x-python-as-row-py Text rows-py rows-json-sh-txt no-rows any-lead ∷ [])
@@ -78,7 +78,7 @@ keys =
     ∷ key Extension (codes "3perl") false (reading is-text-troff Text rows-roff rows-txt no-rows any-lead ∷ [])
     ∷ key Extension (codes "sqlitedb") false (reading is-application-vnd-sqlite3 Signature rows-sqlite no-rows rows-aup3-fossil-gpkg-mbtiles-mtn any-lead ∷ [])
     ∷ key Whole (codes "pylintrc") false (reading is-text-x-ini Text no-rows rows-txt no-rows any-lead ∷ [])
-    ∷ key Extension (codes "service") false (reading is-text-x-systemd-unit Text no-rows rows-txt no-rows any-lead ∷ [])
+    ∷ key Extension (codes "service") false (reading is-text-x-systemd-unit Text rows-unit rows-txt no-rows any-lead ∷ [])
     ∷ key Extension (codes "fxh") false (reading is-text-x-hlsl Text no-rows rows-txt no-rows any-lead ∷ [])
     ∷ key Extension (codes "gbo") false (reading is-text-x-gerber Text no-rows rows-txt no-rows any-lead ∷ [])
     ∷ key Whole (codes "pipfile.lock") false (reading is-application-json Text rows-json no-rows no-rows any-lead ∷ [])
@@ -120,9 +120,9 @@ keys =
     ∷ key Whole (codes "vmlinuz") false (reading is-application-x-linux-kernel-as-row-bzimage Signature rows-bzimage no-rows no-rows any-lead ∷ [])
     ∷ key Extension (codes "ts") false (reading is-video-mp2t Bytes rows-ts no-rows no-rows any-lead ∷ reading is-text-x-typescript Text no-rows rows-sh-txt no-rows any-lead ∷ reading is-text-vnd-trolltech-linguist Text rows-lingts rows-html-txt-xhtml-xml no-rows leads-10 ∷ [])
     ∷ key Extension (codes "gba") false (reading is-application-x-gba-rom-as-row-gba Bytes rows-gba no-rows no-rows any-lead ∷ [])
+    ∷ key Extension (codes "mbx") false (reading is-application-mbox Text rows-mbox rows-txt no-rows any-lead ∷ [])
     ∷ key Extension (codes "sqsh") false (reading is-application-vnd-squashfs Signature rows-squashfs no-rows no-rows any-lead ∷ [])
     ∷ key Extension (codes "src.rpm") false (reading is-application-x-source-rpm Signature rows-srpm rows-rpm no-rows any-lead ∷ [])
-    ∷ key Extension (codes "mbx") false (reading is-application-mbox Text no-rows rows-txt no-rows any-lead ∷ [])
     ∷ key Extension (codes "geom") false (reading is-text-x-glsl Text no-rows rows-txt no-rows any-lead ∷ [])
     ∷ key Extension (codes "logtalk") false (reading is-text-x-logtalk Text no-rows rows-txt no-rows any-lead ∷ [])
     ∷ key Extension (codes "cmi") false (reading is-application-x-ocaml-cmi Bytes rows-cmi rows-elf-so no-rows any-lead ∷ [])
@@ -188,8 +188,8 @@ keys =
     ∷ key Extension (codes "vhdl") false (reading is-text-x-vhdl Text no-rows rows-txt no-rows any-lead ∷ [])
     ∷ key Whole (codes "thanks") false (reading is-text-plain Text rows-txt no-rows text-rows any-lead ∷ [])
     ∷ key Whole (codes "devcontainer.json") false (reading is-application-x-jsonc Text no-rows rows-txt rows-json any-lead ∷ [])
+    ∷ key Extension (codes "clo") false (reading is-text-x-tex Text rows-tex rows-ps-txt no-rows any-lead ∷ [])
     ∷ key Extension (codes "root") false (reading is-application-x-cern-root Signature rows-root no-rows no-rows any-lead ∷ [])
-    ∷ key Extension (codes "clo") false (reading is-text-x-tex Text no-rows rows-ps-txt no-rows any-lead ∷ [])
     ∷ key Extension (codes "idl") false (reading is-text-x-idl Text no-rows rows-txt no-rows any-lead ∷ [])
     ∷ key Extension (codes "eot") false (reading is-application-octet-stream Bytes rows-eot no-rows no-rows any-lead ∷ [])
     ∷ key Extension (codes "paf") false (reading is-audio-x-paf Signature rows-paf no-rows no-rows any-lead ∷ [])
@@ -237,7 +237,7 @@ keys =
     ∷ key Extension (codes "m2") false (reading is-text-x-modula Text no-rows rows-txt no-rows any-lead ∷ [])
     ∷ key Extension (codes "asy") false (reading is-text-x-asymptote Text no-rows rows-txt no-rows any-lead ∷ [])
     ∷ key Extension (codes "afm") false (reading is-application-x-font-afm Text rows-afm rows-txt no-rows any-lead ∷ [])
-    ∷ key Extension (codes "dll") false (reading is-application-vnd-microsoft-portable-executable Signature rows-exe no-rows no-rows any-lead ∷ [])
+    ∷ key Extension (codes "dll") false (reading is-application-vnd-microsoft-portable-executable Signature rows-exe-dll-efi-lx-ne-sys no-rows no-rows any-lead ∷ [])
     ∷ key Extension (codes "sf2") false (reading is-audio-x-sfbk Bytes rows-sf2 no-rows no-rows any-lead ∷ [])
     ∷ key Extension (codes "vhd") false (reading is-application-x-vhd-disk Bytes rows-vhd no-rows no-rows any-lead ∷ reading is-text-x-vhdl Text no-rows rows-txt no-rows any-lead ∷ [])
     ∷ key Extension (codes "jsx") false (reading is-text-javascript Text rows-gjs-js rows-json-sh-txt no-rows any-lead ∷ [])
@@ -277,9 +277,9 @@ keys =
     ∷ key Whole (codes "locale-archive") false (reading is-application-x-locale-archive Bytes no-rows no-rows no-rows any-lead ∷ reading is-application-x-glibc-locale-archive Signature rows-locarch no-rows no-rows any-lead ∷ [])
     ∷ key Extension (codes "csproj") false (reading is-application-x-msbuild-xml Text rows-msbuild rows-html-txt-xhtml-xml no-rows leads-10 ∷ [])
     ∷ key Extension (codes "metalink") false (reading is-application-metalink-xml Text rows-metalink rows-html-txt-xhtml-xml no-rows leads-10 ∷ [])
+    ∷ key Extension (codes "dtx") false (reading is-text-x-tex Text rows-tex rows-ps-txt no-rows any-lead ∷ [])
     ∷ key Extension (codes "psid") false (reading is-audio-prs-sid Bytes rows-sid no-rows no-rows any-lead ∷ [])
     ∷ key Extension (codes "psm1") false (reading is-application-x-powershell Text rows-ps1 rows-sh-txt no-rows any-lead ∷ [])
-    ∷ key Extension (codes "dtx") false (reading is-text-x-tex Text no-rows rows-ps-txt no-rows any-lead ∷ [])
     ∷ key Extension (codes "f08") false (reading is-text-x-fortran Text no-rows rows-txt no-rows any-lead ∷ [])
     ∷ key Extension (codes "thy") false (reading is-text-x-isabelle Text no-rows rows-txt no-rows any-lead ∷ [])
     ∷ key Whole (codes "tslint.json") false (reading is-application-x-jsonc Text no-rows rows-txt rows-json any-lead ∷ [])

@@ -2,8 +2,8 @@
 use Rattle.std.specs.Prelude.{List, [], ◌∷◌, codes, false, true}
 use Rattle.infer_named.specs.Key.{Key, key}
 use Rattle.infer_named.specs.Listed.{reading}
-use Rattle.infer_named.specs.Sets.{any-lead, leads-10, no-rows, rows-3dsx, rows-3g2-3gp-f4v-m4a-m4b-m4v-mov, rows-aac-adif, rows-aifc, rows-aiff, rows-alz, rows-amf, rows-ape, rows-apk-jar-zip, rows-application-x-ole-storage, rows-application-x-ole-storage-pptx-zip, rows-application-x-ole-storage-xlsm-xlsx-zip, rows-aptcache, rows-ar, rows-asar, rows-avif, rows-awk, rows-ay, rows-bc-bcw, rows-bcstm, rows-bfstm, rows-bookmarks, rows-brstm, rows-cbor, rows-clj, rows-cma, rows-cmo, rows-csi, rows-cupsraster, rows-dds, rows-dif, rows-dsf, rows-elf-so, rows-eps, rows-escript, rows-exe, rows-ext2, rows-fbx-fbxtext, rows-flatpakrepo, rows-g64, rows-ged, rows-gff3, rows-gnumeric, rows-grib, rows-grp, rows-gschema, rows-gvdb, rows-gx, rows-gz-html-txt-xhtml-xml, rows-hdf4, rows-hdf5, rows-hdt, rows-heic, rows-heif, rows-html, rows-html-json-php-svg-txt-xhtml-xml, rows-html-rss-txt-xml, rows-html-sh-svg-txt-xhtml-xml, rows-html-txt-xhtml-xml, rows-http, rows-iff, rows-ilbm, rows-j2c, rows-jar-zip, rows-jbig2, rows-jks, rows-jl, rows-jp2, rows-jph-jpm-jpx-mj2, rows-json, rows-json-ndjson-txt, rows-json-plist-txt-xml, rows-kate-oga-ogm-ogv-ogx-opus-spx-vorbis, rows-ktx2, rows-lisp, rows-lua, rows-lz, rows-m4a, rows-m4b-m4v-mp4, rows-mach, rows-mbtiles, rows-meta4, rows-midi, rows-mids, rows-mk, rows-mkv, rows-mlp, rows-mo, rows-mp3, rows-mp4, rows-mpg, rows-msbuild, rows-mscx, rows-mtm, rows-mtn, rows-ncch, rows-nex, rows-nso, rows-odg-zip, rows-ogg, rows-openssl, rows-osm, rows-otf, rows-otg, rows-p12, rows-pak, rows-parquet, rows-pf2, rows-pgf, rows-php, rows-php-svg-txt-xhtml-xml, rows-pkl, rows-pl, rows-por, rows-ps, rows-ps-sh-txt, rows-psw, rows-psx, rows-pvf, rows-py, rows-pyc, rows-qml, rows-qtif, rows-rar, rows-ras, rows-rb, rows-rdb, rows-rdf, rows-rkt, rows-roff, rows-sap, rows-scala, rows-sh, rows-sh-txt, rows-slk, rows-sqlite, rows-squashfs, rows-srt, rows-subviewer, rows-swf-swfz, rows-sxm, rows-tar, rows-tei, rows-thomsap, rows-tres, rows-ttf, rows-txt, rows-txt-xml, rows-txt-yaml, rows-url, rows-vdr, rows-vsd, rows-webm, rows-wmf, rows-wpd, rows-xls, rows-xmp, rows-xslt, rows-yaml, rows-z, rows-zip, text-rows}
-use Rattle.infer_named.specs.Types.{is-application-brotli, is-application-cbor, is-application-dita-xml, is-application-font-sfnt-as-row-otf, is-application-graphql, is-application-hta, is-application-metalink4-xml, is-application-pkcs12, is-application-rdf-xml, is-application-relax-ng-compact-syntax, is-application-sql, is-application-tei-xml, is-application-vnd-apache-parquet, is-application-vnd-coffeescript, is-application-vnd-cups-raster, is-application-vnd-flatpak-repo, is-application-vnd-hdt, is-application-vnd-mbtiles, is-application-vnd-microsoft-portable-executable, is-application-vnd-mozilla-webapp-json, is-application-vnd-ms-excel, is-application-vnd-ms-excel-addin-macroenabled-12, is-application-vnd-oasis-opendocument-graphics-template, is-application-vnd-openstreetmap-data-xml, is-application-vnd-openxmlformats-officedocument-presentationml-slideshow, is-application-vnd-rar, is-application-vnd-snap, is-application-vnd-sun-xml-math, is-application-vnd-visio, is-application-vnd-wordperfect, is-application-x-alz, is-application-x-amf, is-application-x-android-archive, is-application-x-apkm, is-application-x-apt-cache, is-application-x-asar, is-application-x-asp, is-application-x-avro-schema-json, is-application-x-build-grp, is-application-x-cbt, is-application-x-csi, is-application-x-desktop, is-application-x-dif, is-application-x-eclipse-xml, is-application-x-erb, is-application-x-ext-filesystem, is-application-x-fbx, is-application-x-font-pf2, is-application-x-g64-disk, is-application-x-genesis-rom-as-known, is-application-x-gettext-translation, is-application-x-gnumeric, is-application-x-godot-resource, is-application-x-grib, is-application-x-gschema-xml, is-application-x-gvdb, is-application-x-hdf, is-application-x-hdf5, is-application-x-hwpx, is-application-x-hxml, is-application-x-iff, is-application-x-java-enterprise-archive, is-application-x-java-keystore, is-application-x-jsa, is-application-x-jsonc, is-application-x-llvm, is-application-x-lzip, is-application-x-mach-binary, is-application-x-maya-binary, is-application-x-monotone-database, is-application-x-ms-registry-hive, is-application-x-msbuild-xml, is-application-x-mswinurl, is-application-x-musescore-xml, is-application-x-nintendo-3ds-executable, is-application-x-nintendo-ncch, is-application-x-nintendo-nso, is-application-x-ocaml-cma, is-application-x-ocaml-cmo, is-application-x-openssl-encrypted, is-application-x-osm-pbf, is-application-x-pak, is-application-x-pocket-word, is-application-x-psx-executable, is-application-x-python-bytecode, is-application-x-python-pickle, is-application-x-quattropro, is-application-x-redis-dump, is-application-x-rust-rlib, is-application-x-shapefile-index, is-application-x-shockwave-flash, is-application-x-sketch, is-application-x-sketchup, is-application-x-spss-por, is-application-x-stata-dta, is-application-x-sublime-syntax, is-application-x-subrip, is-application-x-swiftmodule, is-application-x-tarz, is-application-x-terraform-state-json, is-application-x-tex-pk, is-application-x-tex-tfm, is-application-x-theme-xml, is-application-x-thomson-sap-image, is-application-x-urdf-xml, is-application-x-xmp-xml, is-application-xproc-xml, is-application-xslt-xml, is-application-yaml, is-audio-aac, is-audio-m4a, is-audio-midi, is-audio-mpeg, is-audio-ogg-as-row-ogg, is-audio-vnd-dolby-mlp, is-audio-x-aifc, is-audio-x-ape, is-audio-x-ay, is-audio-x-bcstm, is-audio-x-bfstm, is-audio-x-brstm, is-audio-x-dsf, is-audio-x-mids, is-audio-x-mod-as-known, is-audio-x-pvf, is-audio-x-sap, is-image-heif, is-image-jp2, is-image-ktx2, is-image-vnd-dxf, is-image-vnd-ms-dds, is-image-wmf, is-image-x-cmu-raster, is-image-x-eps, is-image-x-ilbm, is-image-x-jbig2, is-image-x-jp2-codestream, is-image-x-pgf, is-image-x-quicktime, is-message-http, is-text-html, is-text-markdown, is-text-plain, is-text-spreadsheet, is-text-troff, is-text-turtle, is-text-velocity, is-text-vnd-familysearch-gedcom, is-text-vnd-graphviz, is-text-x-adasrc, is-text-x-agda, is-text-x-apex, is-text-x-asm, is-text-x-awk, is-text-x-bc, is-text-x-c-src, is-text-x-chapel, is-text-x-checksums, is-text-x-chuck, is-text-x-clojure, is-text-x-common-lisp, is-text-x-coq, is-text-x-csharp, is-text-x-cython, is-text-x-dns-zone, is-text-x-dune, is-text-x-ebuild, is-text-x-editorconfig, is-text-x-eex, is-text-x-elm, is-text-x-erlang, is-text-x-fasta, is-text-x-forth, is-text-x-fortran, is-text-x-gap, is-text-x-gcode, is-text-x-gcode-gx, is-text-x-gerber, is-text-x-gff3, is-text-x-gitconfig, is-text-x-gitignore, is-text-x-haml, is-text-x-hcl, is-text-x-idris, is-text-x-igor, is-text-x-ini, is-text-x-java, is-text-x-jelly, is-text-x-jinja, is-text-x-julia, is-text-x-kaitai-struct, is-text-x-kotlin, is-text-x-lean, is-text-x-lua, is-text-x-makefile, is-text-x-matlab, is-text-x-mlir, is-text-x-moonscript, is-text-x-nexus, is-text-x-nginx-conf, is-text-x-ninja, is-text-x-opencl-src, is-text-x-perl, is-text-x-php, is-text-x-pike, is-text-x-pod, is-text-x-python-as-row-py, is-text-x-qml, is-text-x-racket, is-text-x-razor, is-text-x-reject, is-text-x-rexx, is-text-x-ruby, is-text-x-scala, is-text-x-scilab, is-text-x-shell-config, is-text-x-shellscript, is-text-x-slim, is-text-x-stata, is-text-x-subviewer, is-text-x-supercollider, is-text-x-systemd-unit, is-text-x-textile, is-text-x-tsx, is-text-x-unity, is-text-x-vala, is-text-x-vim, is-text-x-xmi, is-text-x-yang, is-text-x-zig, is-video-mp4, is-video-mpeg, is-video-x-matroska, is-video-x-vdr}
+use Rattle.infer_named.specs.Sets.{any-lead, leads-10, no-rows, rows-3dsx, rows-3g2-3gp-f4v-m4a-m4b-m4v-mov, rows-aac-adif, rows-aifc, rows-aiff, rows-alz, rows-amf, rows-ape, rows-apk-jar-zip, rows-application-x-ole-storage, rows-application-x-ole-storage-pptx-zip, rows-application-x-ole-storage-xlsm-xlsx-zip, rows-aptcache, rows-ar, rows-asar, rows-avif, rows-awk, rows-ay, rows-bc-bcw, rows-bcstm, rows-bfstm, rows-bookmarks, rows-brstm, rows-cbor, rows-clj, rows-cma, rows-cmo, rows-csi, rows-cupsraster, rows-dds, rows-desktop, rows-dif, rows-dsf, rows-dxf, rows-elf-so, rows-eps, rows-escript, rows-exe-dll-efi-lx-ne-sys, rows-ext2, rows-fbx-fbxtext, rows-flatpakrepo, rows-g64, rows-ged, rows-gff3, rows-gnumeric, rows-grib, rows-grp, rows-gschema, rows-gv, rows-gvdb, rows-gx, rows-gz-html-txt-xhtml-xml, rows-hdf4, rows-hdf5, rows-hdt, rows-heic, rows-heif, rows-html, rows-html-json-php-svg-txt-xhtml-xml, rows-html-rss-txt-xml, rows-html-sh-svg-txt-xhtml-xml, rows-html-txt-xhtml-xml, rows-http, rows-iff, rows-iiq, rows-ilbm, rows-j2c, rows-jar-zip, rows-jbig2, rows-jks, rows-jl, rows-jp2, rows-jph-jpm-jpx-mj2, rows-json, rows-json-ndjson-txt, rows-json-plist-txt-xml, rows-kate-oga-ogm-ogv-ogx-opus-spx-vorbis, rows-ktx2, rows-lisp, rows-lua, rows-lz, rows-m4a, rows-m4b-m4v-mp4, rows-mach, rows-mbtiles, rows-meta4, rows-midi, rows-mids, rows-mk, rows-mkv, rows-mlp, rows-mo, rows-mp3, rows-mp4, rows-mpg, rows-msbuild, rows-mscx, rows-mtm, rows-mtn, rows-ncch, rows-nex, rows-nso, rows-odg-zip, rows-ogg, rows-openssl, rows-osm, rows-otf, rows-otg, rows-p12, rows-pak, rows-parquet, rows-pf2, rows-pgf, rows-php, rows-php-svg-txt-xhtml-xml, rows-pkl, rows-pl, rows-por, rows-ps, rows-ps-sh-txt, rows-psw, rows-psx, rows-pvf, rows-py, rows-pyc, rows-qml, rows-qtif, rows-rar, rows-ras, rows-rb, rows-rdb, rows-rdf, rows-rkt, rows-roff, rows-sap, rows-scala, rows-sh, rows-sh-txt, rows-slk, rows-sqlite, rows-squashfs, rows-srt, rows-subviewer, rows-swf-swfz, rows-sxm, rows-tar, rows-tei, rows-thomsap, rows-tif, rows-tres, rows-ttf, rows-ttl, rows-txt, rows-txt-xml, rows-txt-yaml, rows-unit, rows-url, rows-vdr, rows-vpnpcf, rows-vsd, rows-webm, rows-wmf, rows-wpd, rows-xls, rows-xmp, rows-xslt, rows-yaml, rows-z, rows-zip, text-rows}
+use Rattle.infer_named.specs.Types.{is-application-brotli, is-application-cbor, is-application-dita-xml, is-application-font-sfnt-as-row-otf, is-application-graphql, is-application-hta, is-application-metalink4-xml, is-application-pkcs12, is-application-rdf-xml, is-application-relax-ng-compact-syntax, is-application-sql, is-application-tei-xml, is-application-vnd-apache-parquet, is-application-vnd-coffeescript, is-application-vnd-cups-raster, is-application-vnd-flatpak-repo, is-application-vnd-hdt, is-application-vnd-mbtiles, is-application-vnd-microsoft-portable-executable, is-application-vnd-mozilla-webapp-json, is-application-vnd-ms-excel, is-application-vnd-ms-excel-addin-macroenabled-12, is-application-vnd-oasis-opendocument-graphics-template, is-application-vnd-openstreetmap-data-xml, is-application-vnd-openxmlformats-officedocument-presentationml-slideshow, is-application-vnd-rar, is-application-vnd-snap, is-application-vnd-sun-xml-math, is-application-vnd-visio, is-application-vnd-wordperfect, is-application-x-alz, is-application-x-amf, is-application-x-android-archive, is-application-x-apkm, is-application-x-apt-cache, is-application-x-asar, is-application-x-asp, is-application-x-avro-schema-json, is-application-x-build-grp, is-application-x-cbt, is-application-x-cisco-vpn-settings, is-application-x-csi, is-application-x-desktop, is-application-x-dif, is-application-x-eclipse-xml, is-application-x-erb, is-application-x-ext-filesystem, is-application-x-fbx, is-application-x-font-pf2, is-application-x-g64-disk, is-application-x-genesis-rom-as-known, is-application-x-gettext-translation, is-application-x-gnumeric, is-application-x-godot-resource, is-application-x-grib, is-application-x-gschema-xml, is-application-x-gvdb, is-application-x-hdf, is-application-x-hdf5, is-application-x-hwpx, is-application-x-hxml, is-application-x-iff, is-application-x-java-enterprise-archive, is-application-x-java-keystore, is-application-x-jsa, is-application-x-jsonc, is-application-x-llvm, is-application-x-lzip, is-application-x-mach-binary, is-application-x-maya-binary, is-application-x-monotone-database, is-application-x-ms-registry-hive, is-application-x-msbuild-xml, is-application-x-mswinurl, is-application-x-musescore-xml, is-application-x-nintendo-3ds-executable, is-application-x-nintendo-ncch, is-application-x-nintendo-nso, is-application-x-ocaml-cma, is-application-x-ocaml-cmo, is-application-x-openssl-encrypted, is-application-x-osm-pbf, is-application-x-pak, is-application-x-pocket-word, is-application-x-psx-executable, is-application-x-python-bytecode, is-application-x-python-pickle, is-application-x-quattropro, is-application-x-redis-dump, is-application-x-rust-rlib, is-application-x-shapefile-index, is-application-x-shockwave-flash, is-application-x-sketch, is-application-x-sketchup, is-application-x-spss-por, is-application-x-stata-dta, is-application-x-sublime-syntax, is-application-x-subrip, is-application-x-swiftmodule, is-application-x-tarz, is-application-x-terraform-state-json, is-application-x-tex-pk, is-application-x-tex-tfm, is-application-x-theme-xml, is-application-x-thomson-sap-image, is-application-x-urdf-xml, is-application-x-xmp-xml, is-application-xproc-xml, is-application-xslt-xml, is-application-yaml, is-audio-aac, is-audio-m4a, is-audio-midi, is-audio-mpeg, is-audio-ogg-as-row-ogg, is-audio-vnd-dolby-mlp, is-audio-x-aifc, is-audio-x-ape, is-audio-x-ay, is-audio-x-bcstm, is-audio-x-bfstm, is-audio-x-brstm, is-audio-x-dsf, is-audio-x-mids, is-audio-x-mod-as-known, is-audio-x-pvf, is-audio-x-sap, is-image-heif, is-image-jp2, is-image-ktx2, is-image-vnd-dxf, is-image-vnd-ms-dds, is-image-wmf, is-image-x-cmu-raster, is-image-x-eps, is-image-x-ilbm, is-image-x-jbig2, is-image-x-jp2-codestream, is-image-x-pgf, is-image-x-phaseone-iiq, is-image-x-quicktime, is-message-http, is-text-html, is-text-markdown, is-text-plain, is-text-spreadsheet, is-text-troff, is-text-turtle, is-text-velocity, is-text-vnd-familysearch-gedcom, is-text-vnd-graphviz, is-text-x-adasrc, is-text-x-agda, is-text-x-apex, is-text-x-asm, is-text-x-awk, is-text-x-bc, is-text-x-c-src, is-text-x-chapel, is-text-x-checksums, is-text-x-chuck, is-text-x-clojure, is-text-x-common-lisp, is-text-x-coq, is-text-x-csharp, is-text-x-cython, is-text-x-dns-zone, is-text-x-dune, is-text-x-ebuild, is-text-x-editorconfig, is-text-x-eex, is-text-x-elm, is-text-x-erlang, is-text-x-fasta, is-text-x-forth, is-text-x-fortran, is-text-x-gap, is-text-x-gcode, is-text-x-gcode-gx, is-text-x-gerber, is-text-x-gff3, is-text-x-gitconfig, is-text-x-gitignore, is-text-x-haml, is-text-x-hcl, is-text-x-idris, is-text-x-igor, is-text-x-ini, is-text-x-java, is-text-x-jelly, is-text-x-jinja, is-text-x-julia, is-text-x-kaitai-struct, is-text-x-kotlin, is-text-x-lean, is-text-x-lua, is-text-x-makefile, is-text-x-matlab, is-text-x-mlir, is-text-x-moonscript, is-text-x-nexus, is-text-x-nginx-conf, is-text-x-ninja, is-text-x-opencl-src, is-text-x-perl, is-text-x-php, is-text-x-pike, is-text-x-pod, is-text-x-python-as-row-py, is-text-x-qml, is-text-x-racket, is-text-x-razor, is-text-x-reject, is-text-x-rexx, is-text-x-ruby, is-text-x-scala, is-text-x-scilab, is-text-x-shell-config, is-text-x-shellscript, is-text-x-slim, is-text-x-stata, is-text-x-subviewer, is-text-x-supercollider, is-text-x-systemd-unit, is-text-x-textile, is-text-x-tsx, is-text-x-unity, is-text-x-vala, is-text-x-vim, is-text-x-xmi, is-text-x-yang, is-text-x-zig, is-video-mp4, is-video-mpeg, is-video-x-matroska, is-video-x-vdr}
 use Rattle.infer_named.specs.declared.table.Asks.TheVariants.{Bytes, Signature, Text}
 use Rattle.infer_named.specs.declared.table.Part.TheVariants.{Extension, Whole}
 
@@ -62,7 +62,7 @@ keys =
     ∷ key Whole (codes ".yarnrc") false (reading is-text-plain Text rows-txt no-rows text-rows any-lead ∷ [])
     ∷ key Whole (codes "ssh_config") false (reading is-text-plain Text rows-txt no-rows text-rows any-lead ∷ [])
     ∷ key Extension (codes "hif") false (reading is-image-heif Signature rows-heif rows-avif rows-heic any-lead ∷ [])
-    ∷ key Extension (codes "scr") false (reading is-application-vnd-microsoft-portable-executable Signature rows-exe no-rows no-rows any-lead ∷ [])
+    ∷ key Extension (codes "scr") false (reading is-application-vnd-microsoft-portable-executable Signature rows-exe-dll-efi-lx-ne-sys no-rows no-rows any-lead ∷ [])
     ∷ key Extension (codes "asa") false (reading is-application-x-asp Text no-rows rows-html-json-php-svg-txt-xhtml-xml no-rows any-lead ∷ [])
     ∷ key Extension (codes "rej") false (reading is-text-x-reject Text no-rows rows-txt no-rows any-lead ∷ [])
     ∷ key Extension (codes "taz") false (reading is-application-x-tarz Signature no-rows rows-z no-rows any-lead ∷ [])
@@ -74,6 +74,7 @@ keys =
     ∷ key Extension (codes "meta4") false (reading is-application-metalink4-xml Text rows-meta4 rows-html-txt-xhtml-xml no-rows leads-10 ∷ [])
     ∷ key Extension (codes "pxi") false (reading is-text-x-cython Text no-rows rows-sh-txt no-rows any-lead ∷ [])
     ∷ key Extension (codes "aac") false (reading is-audio-aac Bytes rows-aac-adif no-rows no-rows any-lead ∷ [])
+    ∷ key Extension (codes "iiq") false (reading is-image-x-phaseone-iiq Signature rows-iiq rows-tif no-rows any-lead ∷ [])
     ∷ key Extension (codes "psw") true (reading is-application-x-pocket-word Signature rows-psw no-rows no-rows any-lead ∷ [])
     ∷ key Extension (codes "uml") false (reading is-text-x-xmi Text no-rows rows-html-txt-xhtml-xml no-rows leads-10 ∷ [])
     ∷ key Whole (codes "contributors") false (reading is-text-plain Text rows-txt no-rows text-rows any-lead ∷ [])
@@ -83,6 +84,7 @@ keys =
     ∷ key Extension (codes "mtm") false (reading is-audio-x-mod-as-known Bytes rows-mtm no-rows no-rows any-lead ∷ [])
     ∷ key Extension (codes "ipf") false (reading is-text-x-igor Text no-rows rows-txt no-rows any-lead ∷ [])
     ∷ key Whole (codes ".coveragerc") false (reading is-text-x-ini Text no-rows rows-txt no-rows any-lead ∷ [])
+    ∷ key Extension (codes "vpnpcf") false (reading is-application-x-cisco-vpn-settings Signature rows-vpnpcf no-rows no-rows any-lead ∷ [])
     ∷ key Extension (codes "parquet") false (reading is-application-vnd-apache-parquet Signature rows-parquet no-rows no-rows any-lead ∷ [])
     ∷ key Extension (codes "avpr") false (reading is-application-x-avro-schema-json Text no-rows rows-json no-rows any-lead ∷ [])
     ∷ key Whole (codes ".cproject") false (reading is-application-x-eclipse-xml Text no-rows rows-html-txt-xhtml-xml no-rows leads-10 ∷ [])
@@ -124,8 +126,8 @@ keys =
     ∷ key Extension (codes "opencl") false (reading is-text-x-opencl-src Text no-rows rows-txt no-rows any-lead ∷ [])
     ∷ key Whole (codes ".project") false (reading is-application-x-eclipse-xml Text no-rows rows-html-txt-xhtml-xml no-rows leads-10 ∷ [])
     ∷ key Extension (codes "bc") false (reading is-application-x-llvm Signature rows-bc-bcw no-rows no-rows any-lead ∷ reading is-text-x-bc Text no-rows rows-txt no-rows any-lead ∷ [])
+    ∷ key Extension (codes "dxf") false (reading is-image-vnd-dxf Text rows-dxf rows-txt no-rows any-lead ∷ [])
     ∷ key Extension (codes "jpc") false (reading is-image-x-jp2-codestream Bytes rows-j2c no-rows no-rows any-lead ∷ [])
-    ∷ key Extension (codes "dxf") false (reading is-image-vnd-dxf Text no-rows rows-txt no-rows any-lead ∷ [])
     ∷ key Extension (codes "wb2") false (reading is-application-x-quattropro Bytes no-rows rows-application-x-ole-storage no-rows any-lead ∷ [])
     ∷ key Extension (codes "sbx") false (reading is-application-x-shapefile-index Bytes no-rows no-rows no-rows any-lead ∷ [])
     ∷ key Extension (codes "rlib") false (reading is-application-x-rust-rlib Signature no-rows rows-ar no-rows any-lead ∷ [])
@@ -168,16 +170,16 @@ keys =
     ∷ key Extension (codes "hwpx") false (reading is-application-x-hwpx Bytes no-rows rows-zip no-rows any-lead ∷ [])
     ∷ key Extension (codes "sketch") false (reading is-application-x-sketch Signature no-rows rows-zip no-rows any-lead ∷ [])
     ∷ key Whole (codes "jsconfig.json") false (reading is-application-x-jsonc Text no-rows rows-txt rows-json any-lead ∷ [])
-    ∷ key Extension (codes "cpl") false (reading is-application-vnd-microsoft-portable-executable Signature rows-exe no-rows no-rows any-lead ∷ [])
+    ∷ key Extension (codes "cpl") false (reading is-application-vnd-microsoft-portable-executable Signature rows-exe-dll-efi-lx-ne-sys no-rows no-rows any-lead ∷ [])
     ∷ key Extension (codes "mlp") false (reading is-audio-vnd-dolby-mlp Signature rows-mlp no-rows no-rows any-lead ∷ [])
     ∷ key Extension (codes "otg") false (reading is-application-vnd-oasis-opendocument-graphics-template Signature rows-otg rows-odg-zip no-rows any-lead ∷ [])
     ∷ key Extension (codes "pro") false (reading is-text-plain Text rows-txt no-rows text-rows any-lead ∷ [])
     ∷ key Extension (codes "qpw") false (reading is-application-x-quattropro Bytes no-rows rows-application-x-ole-storage no-rows any-lead ∷ [])
     ∷ key Extension (codes "gts") false (reading is-text-x-gerber Text no-rows rows-txt no-rows any-lead ∷ [])
-    ∷ key Extension (codes "pyd") false (reading is-application-vnd-microsoft-portable-executable Signature rows-exe no-rows no-rows any-lead ∷ [])
-    ∷ key Extension (codes "gv") false (reading is-text-vnd-graphviz Text no-rows rows-txt no-rows any-lead ∷ [])
+    ∷ key Extension (codes "gv") false (reading is-text-vnd-graphviz Text rows-gv rows-txt no-rows any-lead ∷ [])
+    ∷ key Extension (codes "pyd") false (reading is-application-vnd-microsoft-portable-executable Signature rows-exe-dll-efi-lx-ne-sys no-rows no-rows any-lead ∷ [])
+    ∷ key Extension (codes "directory") false (reading is-application-x-desktop Text rows-desktop rows-txt no-rows any-lead ∷ [])
     ∷ key Extension (codes "ras") false (reading is-image-x-cmu-raster Bytes rows-ras no-rows no-rows any-lead ∷ reading is-application-vnd-cups-raster Signature rows-cupsraster no-rows no-rows any-lead ∷ [])
-    ∷ key Extension (codes "directory") false (reading is-application-x-desktop Text no-rows rows-txt no-rows any-lead ∷ [])
     ∷ key Extension (codes "chpl") false (reading is-text-x-chapel Text no-rows rows-sh-txt no-rows any-lead ∷ [])
     ∷ key Extension (codes "m2p") false (reading is-video-mpeg Bytes rows-mpg no-rows no-rows any-lead ∷ [])
     ∷ key Extension (codes "xproc") false (reading is-application-xproc-xml Text no-rows rows-html-txt-xhtml-xml no-rows leads-10 ∷ [])
@@ -202,9 +204,9 @@ keys =
     ∷ key Extension (codes "asar") false (reading is-application-x-asar Bytes rows-asar no-rows no-rows any-lead ∷ [])
     ∷ key Extension (codes "cxx") false (reading is-text-x-c-src Text no-rows rows-txt no-rows any-lead ∷ [])
     ∷ key Extension (codes "nex") false (reading is-text-x-nexus Text rows-nex rows-txt no-rows any-lead ∷ [])
+    ∷ key Extension (codes "turtle") false (reading is-text-turtle Text rows-ttl rows-txt no-rows any-lead ∷ [])
     ∷ key Extension (codes "aj") false (reading is-text-x-java Text no-rows rows-txt no-rows any-lead ∷ [])
     ∷ key Extension (codes "f95") false (reading is-text-x-fortran Text no-rows rows-txt no-rows any-lead ∷ [])
-    ∷ key Extension (codes "turtle") false (reading is-text-turtle Text no-rows rows-txt no-rows any-lead ∷ [])
     ∷ key Extension (codes "zone") false (reading is-text-x-dns-zone Text no-rows rows-txt no-rows any-lead ∷ [])
     ∷ key Extension (codes "ay") false (reading is-audio-x-ay Signature rows-ay no-rows no-rows any-lead ∷ [])
     ∷ key Extension (codes "textile") false (reading is-text-x-textile Text no-rows rows-txt no-rows any-lead ∷ [])
@@ -218,9 +220,9 @@ keys =
     ∷ key Extension (codes "vala") false (reading is-text-x-vala Text no-rows rows-sh-txt no-rows any-lead ∷ [])
     ∷ key Extension (codes "matlab") false (reading is-text-x-matlab Text no-rows rows-txt no-rows any-lead ∷ [])
     ∷ key Extension (codes "swiftmodule") false (reading is-application-x-swiftmodule Bytes no-rows no-rows no-rows any-lead ∷ [])
+    ∷ key Extension (codes "swap") false (reading is-text-x-systemd-unit Text rows-unit rows-txt no-rows any-lead ∷ [])
     ∷ key Extension (codes "rockspec") false (reading is-text-x-lua Text rows-lua rows-sh-txt no-rows any-lead ∷ [])
     ∷ key Extension (codes "snap") false (reading is-application-vnd-snap Signature no-rows rows-squashfs no-rows any-lead ∷ [])
-    ∷ key Extension (codes "swap") false (reading is-text-x-systemd-unit Text no-rows rows-txt no-rows any-lead ∷ [])
     ∷ key Extension (codes "pbf") false (reading is-application-x-osm-pbf Bytes no-rows no-rows no-rows any-lead ∷ [])
     ∷ key Extension (codes "tfm") false (reading is-application-x-tex-tfm Bytes no-rows no-rows no-rows any-lead ∷ [])
     ∷ key Extension (codes "apex") false (reading is-text-x-apex Text no-rows rows-txt no-rows any-lead ∷ [])

@@ -1074,7 +1074,7 @@ fn part_9(rt: HostRuntime) -> Result<(), Fail> {
         b"data.json" b"{\"a\": 1}\n{\"b\": 2}\n" Contradicts "application/x-ndjson";
         b"tsconfig.json" b"// x\n{}\n" NameRefines "application/x-jsonc";
         b"data.json" b"// x\n{}\n" Contradicts "text/plain";
-        b"map.geojson" b"{\"type\": \"Point\"}\n" NameRefines "application/geo+json";
+        b"map.geojson" b"{\"type\": \"Point\"}\n" Agree "application/geo+json";
         b"a.yaml" b"{\"a\": 1}\n" NameRefines "application/yaml";
         b"a.xml" b"<note/>\n" NameRefines "text/xml";
         b"a.svg" b"<svg xmlns=\"http://www.w3.org/2000/svg\"/>\n" Agree "image/svg+xml";

@@ -22,12 +22,12 @@ returns-clause-listed c =
       c.rows-13.ensures.listed,
       c.rows-14.ensures.listed,
       c.rows-15.ensures.listed,
+    )
+    (rw (
       c.rows-16.ensures.listed,
       c.rows-17.ensures.listed,
       c.rows-18.ensures.listed,
       c.rows-19.ensures.listed,
-    )
-    (rw (
       c.rows-20.ensures.listed,
       c.rows-21.ensures.listed,
       c.rows-22.ensures.listed,
@@ -39,6 +39,8 @@ returns-clause-listed c =
       c.rows-28.ensures.listed,
       c.rows-29.ensures.listed,
       c.rows-30.ensures.listed,
+    )
+    (rw (
       c.rows-31.ensures.listed,
       c.rows-32.ensures.listed,
       c.rows-33.ensures.listed,
@@ -47,8 +49,6 @@ returns-clause-listed c =
       c.rows-36.ensures.listed,
       c.rows-37.ensures.listed,
       c.rows-38.ensures.listed,
-    )
-    (rw (
       c.rows-39.ensures.listed,
       c.rows-40.ensures.listed,
       c.rows-41.ensures.listed,
@@ -56,6 +56,8 @@ returns-clause-listed c =
       c.rows-43.ensures.listed,
       c.rows-44.ensures.listed,
       c.rows-45.ensures.listed,
+    )
+    (rw (
       c.rows-46.ensures.listed,
       c.rows-47.ensures.listed,
       c.rows-48.ensures.listed,
@@ -67,8 +69,12 @@ returns-clause-listed c =
       c.rows-54.ensures.listed,
       c.rows-55.ensures.listed,
       c.rows-56.ensures.listed,
+      c.rows-57.ensures.listed,
+      c.rows-58.ensures.listed,
+      c.rows-59.ensures.listed,
+      c.rows-60.ensures.listed,
     )
-    refl))
+    refl)))
 
 pub returns-clause-ended : goal.returns-clause-ended
 returns-clause-ended c =
@@ -129,4 +135,8 @@ returns-clause-ended c =
     more _ _ c.rows-54.ensures.ended (
     more _ _ c.rows-55.ensures.ended (
     more _ _ c.rows-56.ensures.ended (
-    none)))))))))))))))))))))))))))))))))))))))))))))))))))))))))
+    more _ _ c.rows-57.ensures.ended (
+    more _ _ c.rows-58.ensures.ended (
+    more _ _ c.rows-59.ensures.ended (
+    more _ _ c.rows-60.ensures.ended (
+    none)))))))))))))))))))))))))))))))))))))))))))))))))))))))))))))
