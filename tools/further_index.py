@@ -100,24 +100,13 @@ pub(crate) fn found_below(buf: &[u8], row: usize) -> usize
     }}
 }}
 """
-BY_NUMBER = """//! Made by `tools/tables` from the further rows: each by its number, and code of its own for each.
-ghost use Rattle.std.specs.Prelude.{{◌≡◌, ◌↔◌, IfSome, IsTrue, option_map, slice_get}};
-ghost use Rattle.infer_more.specs.Ended.{{ended_listed, ended_shown}};
-ghost use Rattle.infer_more.specs.Listed.{{row_listed}};
-ghost use Rattle.infer_more.specs.Row.{{is_row_closed}};
-ghost use Rattle.infer_more.specs.Table.{{further}};
+BY_NUMBER = """//! Made by `tools/tables` from the further rows: code of its own for each.
+ghost use Rattle.std.specs.Prelude.{{◌↔◌, IsTrue}};
 ghost use Rattle.infer_more.specs.Wider.{{WidensAt}};
 
-use crate::table::{{FurtherRow, row_in_lists, row_of, widens_any, widens_row}};
+use crate::table::{{widens_any, widens_row}};
 
 {}
-/// Row `i`, by one look: the compiler makes a table of the addresses.
-pub(crate) fn row_at(i: usize) -> Option<&'static FurtherRow>
-{}
-{{
-{}
-}}
-
 /// Whether further row `i` has this parent and accepts the buffer: code of its own for each row.
 #[inline(never)]
 pub(crate) fn widens(i: usize, parent: Option<usize>, buf: &[u8]) -> bool
@@ -126,30 +115,14 @@ pub(crate) fn widens(i: usize, parent: Option<usize>, buf: &[u8]) -> bool
 {}
 }}
 """
-# What a row by its number is.
-ROW_IS = """    ensures listed { option_map (λ row. row_listed row.now) result ≡ slice_get further i }
-    ensures ended { IfSome result (λ row. ended_listed row.now.ended
-        ≡ ended_shown (row_listed row.now).shows) }
-    ensures closed { IfSome result (λ row. IsTrue (is_row_closed (row_listed row.now))) }"""
 # The rows before one of these numbers: the borrow checker takes no function with some 500 arms.
-BLOCK = """/// [`row_at`] for the rows before {0}.
-#[inline(always)]
-fn row_before_{0}(i: usize) -> Option<&'static FurtherRow>
-{1}
-{{
-    match i {{
-{2}
-        _ => row_in_lists(i),
-    }}
-}}
-
-/// [`widens`] for the rows before {0}.
+BLOCK = """/// [`widens`] for the rows before {0}.
 #[inline(always)]
 fn widens_before_{0}(i: usize, parent: Option<usize>, buf: &[u8]) -> bool
     ensures {{ IsTrue result ↔ WidensAt parent buf.now i }}
 {{
     match i {{
-{3}
+{1}
         _ => widens_any(i, parent, buf),
     }}
 }}
@@ -996,7 +969,7 @@ def blocks(count):
 
 def block(numbers):
     """What tells the rows of these numbers."""
-    return BLOCK.format(numbers.stop, ROW_IS, *(arms(numbers, it) for it in ("row_of::<{}>()", "widens_row::<{}>(parent, buf)")))
+    return BLOCK.format(numbers.stop, arms(numbers, "widens_row::<{}>(parent, buf)"))
 
 
 def by_block(ends, call):
@@ -1009,8 +982,7 @@ def by_number(rows):
     """The file with each row by its number, and with code for each."""
     parts = blocks(len(rows))
     ends = [it.stop for it in parts]
-    found = ("\n".join(by_block(ends, it)) for it in ("row_before_{}(i)", "widens_before_{}(i, parent, buf)"))
-    return BY_NUMBER.format("\n".join(map(block, parts)), ROW_IS, *found)
+    return BY_NUMBER.format("\n".join(map(block, parts)), "\n".join(by_block(ends, "widens_before_{}(i, parent, buf)")))
 
 
 def text(rows, parents):

@@ -19,15 +19,6 @@ module _ {A B : Type 0} (p : B → Bool) (f : A → B) where
   pub passed_read : (xs : List A) (k : ℕ) (x : A) → slice_get xs k ≡ Some x → IsTrue (list_all p (map f xs)) → IsTrue (p (f x))
   passed_read xs k x e all = subst (λ y. IsTrue (p (f y))) (get_or_from_slice_get xs k x x e) (passed_by xs k x (slice_get_within xs k x e) all)
 
--- each element of a list, one by one: what holds of all of them
-pub data Each {A : Type 0} (P : A → Type 0) : List A → Type 0 where
-  none : Each P []
-  more : (x : A) (xs : List A) → P x → Each P xs → Each P (x ∷ xs)
-
-pub all_each : {A : Type 0} (P : A → Type 0) (xs : List A) → Each P xs → All P xs
-all_each P [] none = All-nil P
-all_each P (x ∷ xs) (more y ys here others) = All-cons P x xs here (all_each P xs others)
-
 -- one more element, and all of them
 module _ {A : Type 0} (p : A → Bool) where
   no_or : (x y : Bool) → x ≡ false → y ≡ false → (x || y) ≡ false

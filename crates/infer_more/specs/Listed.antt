@@ -1,15 +1,16 @@
 -- The further rows as the code lists them.
-use Rattle.std.specs.Prelude.{◌≡◌, ◌==◌, ℕ, Bool, true, false, List, [], ◌∷◌, ◌++◌, Some, MatchOption, if◌then◌else◌, map, slice_get}
-use denote.Ref.{Bor}
+use Rattle.std.specs.Prelude.{◌≡◌, ◌==◌, ℕ, Bool, true, false, List, [], ◌∷◌, MatchOption, drop, if◌then◌else◌, map, slice_get, take}
 use Rattle.infer_formats.specs.Relation.{relation_listed}
 use Rattle.infer_sig.specs.Signature as fixed
 use Rattle.infer_sig.specs.Signature.{Part, at_least, text, byte, any_of, between}
 use Rattle.infer.specs.Triple.{triple}
 use Rattle.infer_more.specs.Ended.{ended_listed, ended_shown}
 use Rattle.infer_more.specs.Row.{Further}
+use Rattle.infer_more.specs.Table.{further}
 use Rattle.infer_notation.specs.Alternative as signature
 use Rattle.infer_notation.specs.Alternative.{binary_bytes, bytes, related}
 use Rattle.infer_more.specs.declared.table.FurtherRow.{FurtherRow}
+use Rattle.infer_more.specs.declared.table.listed.TheConstants.{ROWS_OF_A_LIST}
 use Rattle.infer_more.specs.declared.signature.Alternative.{Alternative}
 use Rattle.infer_more.specs.declared.signature.Alternative.TheVariants.{BinaryBytes, Bytes, Related}
 use Rattle.infer_more.specs.declared.signature.Bytes as listed
@@ -54,16 +55,6 @@ row_listed r = record {
 abbrev pub AreEnded : List FurtherRow → Type 0
 AreEnded rows = map (λ r. ended_listed r.ended) rows ≡ map (λ r. ended_shown (row_listed r).shows) rows
 
--- the rows of all lists, in order
-abbrev pub joined : List (Bor (List FurtherRow)) → List Further
-joined [] = []
-joined (rows ∷ others) = map row_listed rows.now ++ joined others
-
--- row i of these lists is this one, whatever lists are behind them
-abbrev pub IsAmong : List (Bor (List FurtherRow)) → ℕ → Further → Type 0
-IsAmong lists i row = (others : List (Bor (List FurtherRow))) → Some row ≡ slice_get (joined (lists ++ others)) i
-
--- these lists have no row i: it is row `left` of whatever lists are behind them
-abbrev pub IsBehind : List (Bor (List FurtherRow)) → ℕ → ℕ → Type 0
-IsBehind lists i left =
-    (others : List (Bor (List FurtherRow))) → slice_get (joined others) left ≡ slice_get (joined (lists ++ others)) i
+-- these are rows that stand one after the other, the first of them at that place, and as many as a list has or all that are left
+abbrev pub AreRows : ℕ → List FurtherRow → Type 0
+AreRows first rows = map row_listed rows ≡ take ROWS_OF_A_LIST (drop first further)

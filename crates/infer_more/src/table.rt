@@ -1,8 +1,8 @@
 //! The further rows, in the order in which they are asked, and whether each widens an answer: a function for each row, which
 //! the compiler makes of the evaluator.
-ghost use Rattle.std.specs.Prelude.{◌≡◌, ◌↔◌, All, IfErr, IfOk, IfSome, IsTrue, option_map, slice_get};
+ghost use Rattle.std.specs.Prelude.{◌≡◌, ◌↔◌, IfSome, IsTrue, option_map, slice_get};
 ghost use Rattle.infer_more.specs.Ended.{ended_listed, ended_shown};
-ghost use Rattle.infer_more.specs.Listed.{AreEnded, IsAmong, IsBehind, joined, row_listed};
+ghost use Rattle.infer_more.specs.Listed.{row_listed};
 ghost use Rattle.infer_more.specs.Row.{is_row_closed};
 ghost use Rattle.infer_more.specs.Table.{further};
 ghost use Rattle.infer_more.specs.Wider.{Widens, WidensAt};
@@ -84,175 +84,37 @@ macro_rules! is {
     };
 }
 
-mod archives;
-mod assorted;
-mod bitmaps;
-mod bundles;
-mod buried;
-mod captions;
-mod chunks;
-mod code;
-mod compiled;
-mod consoles;
-mod databases;
-mod deeper;
-mod dialects;
-mod disks;
-mod documents;
-mod elements;
-mod farther;
-mod games;
 mod generated;
-mod headers;
-mod headlines;
-mod images;
-mod inner;
-mod keyrings;
-mod kinds;
-mod late;
-mod letters;
-mod markup;
-mod measures;
-mod media;
-mod mended;
-mod notations;
-mod objects;
-mod office;
-mod openings;
-mod others;
-mod packages;
-mod packed;
-mod papers;
-mod pictures;
-mod prefaces;
-mod prints;
-mod rasters;
-mod records;
-mod remarks;
-mod roots;
-mod schemas;
-mod science;
-mod scores;
-mod scripts;
-mod secrets;
-mod settings;
-mod shallow;
-mod shapes;
-mod sounds;
-mod squeezed;
-mod stores;
-mod texts;
-mod tunes;
-mod unheaded;
-mod volumes;
+mod listed;
 
-pub(crate) use generated::{row_at, widens};
+pub(crate) use generated::widens;
+use listed::list_of;
 
-/// The rows, list by list.
+/// Row `i`, by one look at its list.
 #[inline(always)]
-pub(crate) fn lists() -> [&'static [FurtherRow]; 60]
-    ensures listed { joined result ≡ further }
-    ensures ended { All (λ rows. AreEnded rows.now) result }
-{
-    [
-        packages::rows(),
-        headers::rows(),
-        markup::rows(),
-        code::rows(),
-        records::rows(),
-        archives::rows(),
-        images::rows(),
-        media::rows(),
-        late::rows(),
-        office::rows(),
-        kinds::rows(),
-        roots::rows(),
-        elements::rows(),
-        pictures::rows(),
-        rasters::rows(),
-        sounds::rows(),
-        packed::rows(),
-        disks::rows(),
-        papers::rows(),
-        stores::rows(),
-        games::rows(),
-        others::rows(),
-        scripts::rows(),
-        documents::rows(),
-        secrets::rows(),
-        bitmaps::rows(),
-        shapes::rows(),
-        chunks::rows(),
-        tunes::rows(),
-        squeezed::rows(),
-        bundles::rows(),
-        volumes::rows(),
-        assorted::rows(),
-        databases::rows(),
-        science::rows(),
-        measures::rows(),
-        prints::rows(),
-        compiled::rows(),
-        keyrings::rows(),
-        consoles::rows(),
-        shallow::rows(),
-        schemas::rows(),
-        dialects::rows(),
-        notations::rows(),
-        unheaded::rows(),
-        mended::rows(),
-        openings::rows(),
-        prefaces::rows(),
-        remarks::rows(),
-        captions::rows(),
-        headlines::rows(),
-        letters::rows(),
-        settings::rows(),
-        scores::rows(),
-        objects::rows(),
-        inner::rows(),
-        deeper::rows(),
-        farther::rows(),
-        buried::rows(),
-        texts::rows(),
-    ]
-}
-
-/// Row `i` of these lists, or what is left of the number behind them.
-#[inline(always)]
-fn row_among(lists: &[&'static [FurtherRow]], i: usize) -> Result<&'static FurtherRow, usize>
-    requires ended { All (λ rows. AreEnded rows.now) lists.now }
-    ensures found { IfOk result (λ row. IsAmong lists.now i (row_listed row.now)) }
-    ensures ended { IfOk result (λ row. ended_listed row.now.ended
-        ≡ ended_shown (row_listed row.now).shows) }
-    ensures behind { IfErr result (IsBehind lists.now i) }
-{
-    let mut left = i;
-    for rows in lists {
-        match rows.get(left) {
-            Some(row) => return Ok(row),
-            None => left -= rows.len(),
-        }
-    }
-    Err(left)
-}
-
-// Over so many lists the compiler walks by itself. A walk over all it leaves as a loop, for each call.
-const HALF: usize = 28;
-
-/// Row `i`, by a walk over the lists, half by half: for a number that the compiler knows, since it walks then.
 fn row_in_lists(i: usize) -> Option<&'static FurtherRow>
     ensures listed { option_map (λ row. row_listed row.now) result ≡ slice_get further i }
     ensures ended { IfSome result (λ row. ended_listed row.now.ended
         ≡ ended_shown (row_listed row.now).shows) }
     ensures closed { IfSome result (λ row. IsTrue (is_row_closed (row_listed row.now))) }
 {
-    let all = lists();
-    let (first, last) = all.split_at(HALF);
-    match row_among(first, i) {
-        Ok(row) => Some(row),
-        Err(left) => row_among(last, left).ok(),
+    let Some((first, rows)) = list_of(i) else {
+        return None;
+    };
+    match rows.get(i - first) {
+        Some(row) => Some(row),
+        None => None,
     }
+}
+
+/// Row `i`.
+pub(crate) fn row_at(i: usize) -> Option<&'static FurtherRow>
+    ensures listed { option_map (λ row. row_listed row.now) result ≡ slice_get further i }
+    ensures ended { IfSome result (λ row. ended_listed row.now.ended
+        ≡ ended_shown (row_listed row.now).shows) }
+    ensures closed { IfSome result (λ row. IsTrue (is_row_closed (row_listed row.now))) }
+{
+    row_in_lists(i)
 }
 
 /// Row `ROW`, whose address the compiler computes: a function of its own, so that it does so before the row is read.
