@@ -1,11 +1,12 @@
 //! The least byte of a text, of which vectors of bytes tell most.
 ghost use Rattle.std.specs.Prelude.{◌≡◌, ◌*◌, ◌/◌, ◌≤◌, length, take};
 ghost use Rattle.infer_named.specs.Least.{IsLeast, IsLeastOf};
+ghost use Rattle.infer_named.specs.declared.least.TheConstants.{BLOCK, LANES};
 
 use std::simd::prelude::*;
 
 /// How many bytes a vector has.
-const LANES: usize = 16;
+pub(crate) const LANES: usize = 16;
 
 /// How many bytes are read without a look at how many are left.
 const BLOCK: usize = 512;
@@ -24,7 +25,7 @@ pub fn least(bytes: &[u8]) -> u8
 /// The least of bytes of which at least one vector is filled.
 #[inline(always)]
 fn least_of_many(bytes: &[u8]) -> u8
-    requires { 16 ≤ length bytes.now }
+    requires { LANES ≤ length bytes.now }
     ensures { IsLeast bytes.now result }
 {
     let blocks = least_of_blocks(u8x16::splat(u8::MAX), bytes);
@@ -36,7 +37,7 @@ fn least_of_many(bytes: &[u8]) -> u8
 
 /// The least of each lane and of the bytes of whole blocks.
 fn least_of_blocks(first: u8x16, bytes: &[u8]) -> u8x16
-    ensures { IsLeastOf result first (take (length bytes.now / 512 * 512) bytes.now) }
+    ensures { IsLeastOf result first (take (length bytes.now / BLOCK * BLOCK) bytes.now) }
 {
     let mut lanes = first;
     for k in 0..bytes.len() / BLOCK {
@@ -48,8 +49,8 @@ fn least_of_blocks(first: u8x16, bytes: &[u8]) -> u8x16
 /// The least of each lane and of the bytes of whole vectors.
 #[inline(always)]
 fn least_lanes(first: u8x16, bytes: &[u8]) -> u8x16
-    ensures least { IsLeastOf result first (take (length bytes.now / 16 * 16) bytes.now) }
-    ensures lanes { length result ≡ 16 }
+    ensures least { IsLeastOf result first (take (length bytes.now / LANES * LANES) bytes.now) }
+    ensures lanes { length result ≡ LANES }
 {
     let mut lanes = first;
     for k in 0..bytes.len() / LANES {

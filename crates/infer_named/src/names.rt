@@ -12,9 +12,11 @@ ghost use Rattle.infer_named.specs.Marks.{mark_of};
 ghost use Rattle.infer_named.specs.Parts.{ArePartsAmong, are_parts_from};
 ghost use Rattle.infer_named.specs.Names.{IsBase, IsDottedKey, IsExtensionKey, IsKey, IsLastDot, IsMakerKey, IsStemKey, IsVersioned, are_parts, copy_length, ends_copy, ends_in, entry, extension_at, is_digit, is_key, is_version, is_version_byte, makers, same_part, slot_of, small, stem_of};
 ghost use Rattle.infer_named.specs.Table.{keys};
+ghost use Rattle.infer_named.specs.declared.names.TheConstants.{FAR};
+ghost use Rattle.infer_named.specs.declared.least.TheConstants.{LANES};
 ghost use Rattle.infer_named.specs.declared.table.Part.TheVariants.{Extension, Whole};
 
-use crate::least::least;
+use crate::least::{LANES, least};
 use crate::marks::{is_marked, mark};
 use crate::table::{Key, Part, key_text, slot, whole_marks};
 use memchr::{memchr, memrchr, memrchr2};
@@ -33,9 +35,6 @@ const MAKER_FRONT: usize = 14;
 
 /// So many bytes of a long version are read at once.
 const BLOCK: usize = 64;
-
-/// How many bytes a vector has.
-const LANES: usize = 16;
 
 /// The key of the name, and `None` exactly if it has none. Most bases are short, so its last bytes are searched by themselves.
 pub fn key(name: &[u8]) -> Option<&'static Key>
@@ -77,8 +76,8 @@ fn before_plain(end: &[u8]) -> usize
 /// Whether a vector from this place on has no such byte.
 #[inline(always)]
 fn is_plain(end: &[u8], from: usize) -> bool
-    requires { from + 16 ≤ length end.now }
-    ensures { OnTrue result (Nowhere (Passes (is_byte3 0 0x2F 0x5C) end.now) from (from + 16)) }
+    requires { from + LANES ≤ length end.now }
+    ensures { OnTrue result (Nowhere (Passes (is_byte3 0 0x2F 0x5C) end.now) from (from + LANES)) }
 {
     let mut all = true;
     for i in 0..LANES {
@@ -174,8 +173,8 @@ fn settled_key(name: &[u8], near: usize, least: u8) -> Option<&'static Key>
 
 /// Whether its first bytes have no dot, so that what stands before one is longer than a maker.
 fn has_late_dots(end: &[u8]) -> bool
-    requires { 28 < length end.now }
-    ensures { OnTrue result (IsFirstByte (is_byte 0x2E) (take 16 end.now) None) }
+    requires { FAR < length end.now }
+    ensures { OnTrue result (IsFirstByte (is_byte 0x2E) (take LANES end.now) None) }
 {
     // No early exit: of a loop whose length is known the compiler makes vectors.
     let mut late = true;
