@@ -156,6 +156,7 @@ def looked_into():
         ("8192 bytes of JSON", json.dumps(items)[:8192].encode()),
         ("8192 bytes of UTF-8 with characters above 7F", ("Grüße aus München, schöne Straße. " * 400).encode()[:8192]),
         ("SVG of 8 KB", b'<?xml version="1.0"?>\n<!-- drawn by hand -->\n<svg width="10" height="10">' + b"<g/>" * 2022),
+        ('8192 bytes of settings behind "# "', b"# These are the settings.\n" + b"name = value\n" * 628),
         ("a script of Python, 34 bytes", b"#!/usr/bin/env python3\nimport sys\n"),
         ("a script of `sh`, 17 bytes", b"#!/bin/sh\nset -e\n"),
     ]
@@ -222,6 +223,8 @@ INSIDE = {
     "TIFF images": (b"II*\0\x08\0\0\0\xff\xff", [b"\0", b"\x12\xc6", b"\x12", bytes(12)]),
     "PNG images": (b"\x89PNG\r\n\x1a\n", [bytes(12), b"\0\0\0\0IHDR" + bytes(4), b"\0\0\0\1tEXt" + bytes(5)]),
     "texts": (b"", [b"a", b"\x1b", b"\x7f", "é".encode(), b"\r\n"]),
+    'texts behind "#"': (b"#", [b"\n", b"\n[", b"\nv", b"\nmsgid", b"#", b"a"]),
+    "an object before its first key": (b"{", [b" ", b"\n", b"\t", b'"']),
     "subtitles": (b"1\n", [b"1", b"00:00:01,000 --> ", b"\n", b":", b" "]),
 }
 
