@@ -116,6 +116,7 @@ names =
     ∷ (bare (codes "behind") ∷ bare (codes "an") ∷ bare (codes "ID3") ∷ bare (codes "tag") ∷ separator 0x3A ∷ [], OneText BehindId3)
     ∷ (bare (codes "entry") ∷ separator 0x3A ∷ [], OneText AnyEntry)
     ∷ (bare (codes "begins") ∷ separator 0x3A ∷ [], Takes.Begins)
+    ∷ (bare (codes "later") ∷ bare (codes "header") ∷ separator 0x3A ∷ [], Takes.Header)
     ∷ (bare (codes "program") ∷ separator 0x3A ∷ [], Program)
     ∷ (bare (codes "first") ∷ bare (codes "entry") ∷ separator 0x3A ∷ [], Entry)
     ∷ (bare (codes "first") ∷ bare (codes "key") ∷ separator 0x3A ∷ [], Takes.FirstKey)

@@ -77,6 +77,7 @@ pub enum Takes {
     ClassId,
     Root,
     Begins,
+    Header,
 }
 
 /// The relations that take a text between quotes, and nothing else.
@@ -164,6 +165,10 @@ static NAMES: &[(&[Token<'static>], Takes)] = &[
         Takes::OneText(OfText::AnyEntry),
     ),
     (&[Word(b"begins"), Separator(b':')], Takes::Begins),
+    (
+        &[Word(b"later"), Word(b"header"), Separator(b':')],
+        Takes::Header,
+    ),
     (&[Word(b"program"), Separator(b':')], Takes::Program),
     (
         &[Word(b"first"), Word(b"entry"), Separator(b':')],

@@ -6,19 +6,21 @@ use Rattle.std.proofs.lemmas.List.{append_assoc}
 use Rattle.std.proofs.lemmas.List.Splits.{slice_split-cons_yes}
 use Rattle.std.proofs.Math.Bool.{and-false}
 use Rattle.std.proofs.lemmas.Bool.{eq-eqb, not-true}
-use Rattle.infer_formats.specs.Relation.{Relation, class_id, directory_tag, first_entry_ends_in, first_entry_has_extra, first_entry_is, first_key, first_key_with, of_text, program, relation_listed, root, root_with, text_first, text_first_with, text_first_with_all}
+use Rattle.infer_formats.specs.Relation.{Relation, class_id, directory_tag, first_entry_ends_in, first_entry_has_extra, first_entry_is, first_key, first_key_with, header, of_text, program, relation_listed, root, root_with, text_first, text_first_with, text_first_with_all}
 use Rattle.infer_formats.specs.declared.relation.Relation as relations
-use Rattle.infer_notation.specs.Described.{AreBytes, Asks, AsksEach, AsksFor, Describes, IsGroup, IsName, IsNameIn, IsParted, NamesRelation, a_key, a_text, a_name, a_program, a_beginning, a_relation, a_tag, a_text_behind, a_text_within, a_value, an_element, an_end, an_extra, an_id, last, nothing, other, programs, two_texts_behind}
-use Rattle.infer_notation.specs.Relations.{alone, beginning_of, directory_of, ending_entry, entry_of, extra_field, id_of, is_word, key_of, named_entry, or_else, text_of, program_of, root_of}
-use Rattle.infer_notation.specs.Tokens.{Token, set}
+use Rattle.infer_notation.specs.Described.{AreBytes, Asks, AsksEach, AsksFor, Describes, IsGroup, IsName, IsNameIn, IsParted, IsShort, NamesRelation, WriteEach, Writes, a_key, a_later_header, a_text, a_name, a_program, a_beginning, a_relation, a_tag, a_text_behind, a_text_within, a_value, an_element, an_end, an_extra, an_id, last, nothing, one_text, other, programs, three_texts_behind, two_texts_behind}
+use Rattle.infer_notation.specs.Relations.{alone, beginning_of, beginning_with, beginning_with_all, beginning_with_two, directory_of, ending_entry, entry_of, extra_field, header_of, id_of, key_of, named_entry, number_at, or_else, short_number, text_of, program_of, root_of}
+use Rattle.infer_notation.specs.Tokens.{Token, is_word, set}
 use Rattle.infer_notation.specs.Words.{is_digit}
 use Rattle.infer_notation.proofs.GrammarLemmas as grammar
 use Rattle.infer_notation.proofs.GrammarLemmas.{is_derived}
 use Rattle.infer_notation.proofs.MadeLemmas.{is_made, is_read, not_blank}
 use Rattle.infer_formats.specs.declared.relation.OfText.{OfText}
-use Rattle.infer_formats.specs.declared.relation.Takes.TheVariants.{Begins, ClassId, Entry, FirstKey, OneText, Root, Tag}
+use Rattle.infer_formats.specs.declared.relation.Takes.TheVariants.{Begins, ClassId, Entry, FirstKey, Header, OneText, Root, Tag}
 use Rattle.infer_notation.proofs.OptionLemmas.{bind_some, cond_given, map_some}
 use Rattle.infer_notation.proofs.RelationLemmas.{begins_not}
+use Rattle.infer_notation.proofs.TextLemmas.{AreLeft, before_so, each_first, each_so, last_read, more_left, none_left, read_before, word_is, writes_so}
+use Rattle.infer_notation.specs.Texts.{text_before, text_in}
 
 -- ---- groups
 
@@ -170,10 +172,6 @@ module _ (takes : Takes) (name rest : List Token) (bs : List Alternative) (asks 
 
 -- ---- what a relation takes
 
-word_is : (w : List ℕ) (t : Token) → is_word w t ≡ true → t ≡ bare w
-word_is w (bare v) is = ap bare ((bytes_eq-Decides v w).0 is)
-word_is w t is = absurd cc
-
 alone_so : (r : relations.Relation) (ts : List Token) (a : Relation) → alone (relation_listed r) ts ≡ Some a → Asks (Nothing r) ts a
 alone_so r [] a e = let same : relation_listed r ≡ a = cc in subst (Asks (Nothing r) []) same (nothing r)
 alone_so r (t ∷ ts) a e = absurd cc
@@ -272,18 +270,72 @@ root_so (bare n ∷ t ∷ quoted s ∷ []) a e =
     subst (λ u. Asks Root (bare n ∷ u ∷ quoted s ∷ []) a) (sym (word_is (codes "with") t both.0)) (subst (Asks Root (bare n ∷ bare (codes "with") ∷ quoted s ∷ [])) both.1 (a_text_within n s))
 root_so ts a e = absurd cc
 
+-- the texts behind those that were read, and the relation with all
+record Begun (behind : Option (List Token)) (before : List (List ℕ)) (a : Relation) : Type 0 where
+  others : List (List ℕ)
+  left : AreLeft behind others
+  asks : (ts : List Token) → WriteEach ts (before ++ others) → Asks Begins ts a
+
+all_so : (t u v : List ℕ) (behind : Option (List Token)) (a : Relation) → beginning_with_all t u v behind ≡ Some a → Begun behind (t ∷ u ∷ v ∷ []) a
+all_so t u v None a e =
+    let same : text_first_with_all t u v [] ≡ a = cc in
+    record { others = []; left = refl; asks = λ ts each. subst (Asks Begins ts) same (two_texts_behind ts t u v each) }
+all_so t u v (Some us) a e =
+    let (w, is, same) = map_some (λ w. text_first_with_all t u v w) (text_in us) a e in
+    record { others = w ∷ []; left = one_text us w (writes_so us w is); asks = λ ts each. subst (Asks Begins ts) same (three_texts_behind ts t u v w each) }
+
+two_so : (t u : List ℕ) (behind : Option (List Token)) (a : Relation) → beginning_with_two t u behind ≡ Some a → Begun behind (t ∷ u ∷ []) a
+two_so t u None a e =
+    let same : text_first_with t u ≡ a = cc in
+    record { others = []; left = refl; asks = λ ts each. subst (Asks Begins ts) same (a_text_behind ts t u each) }
+two_so t u (Some us) a e =
+    let (p, is, some) = bind_some (text_before (codes "has") us) (λ p. beginning_with_all t u p.0 p.1) a e in
+    let more = all_so t u p.0 p.1 a some in
+    record { others = p.0 ∷ more.others; left = each_so us p.0 p.1 is more.others more.left; asks = more.asks }
+
+first_so : (t : List ℕ) (behind : Option (List Token)) (a : Relation) → beginning_with t behind ≡ Some a → Begun behind (t ∷ []) a
+first_so t None a e =
+    let same : text_first t ≡ a = cc in
+    record { others = []; left = refl; asks = λ ts each. subst (Asks Begins ts) same (a_beginning ts t each) }
+first_so t (Some us) a e =
+    let (p, is, some) = bind_some (text_before (codes "has") us) (λ p. beginning_with_two t p.0 p.1) a e in
+    let more = two_so t p.0 p.1 a some in
+    record { others = p.0 ∷ more.others; left = each_so us p.0 p.1 is more.others more.left; asks = more.asks }
+
 beginning_so : (ts : List Token) (a : Relation) → beginning_of ts ≡ Some a → Asks Begins ts a
-beginning_so (quoted s ∷ []) a e = let same : text_first s ≡ a = cc in subst (Asks Begins (quoted s ∷ [])) same (a_beginning s)
-beginning_so (quoted s ∷ t ∷ quoted u ∷ []) a e =
-    let both = cond_some (is_word (codes "has") t) (text_first_with s u) a e in
-    subst (λ v. Asks Begins (quoted s ∷ v ∷ quoted u ∷ []) a) (sym (word_is (codes "has") t both.0)) (subst (Asks Begins (quoted s ∷ bare (codes "has") ∷ quoted u ∷ [])) both.1 (a_text_behind s u))
-beginning_so (quoted s ∷ t ∷ quoted u ∷ v ∷ quoted w ∷ []) a e =
-    let both = cond_some (is_word (codes "has") t && is_word (codes "has") v) (text_first_with_all s u w []) a e in
-    let words = and_parts (is_word (codes "has") t) (is_word (codes "has") v) both.0 in
-    subst (λ x. Asks Begins (quoted s ∷ x ∷ quoted u ∷ v ∷ quoted w ∷ []) a) (sym (word_is (codes "has") t words.0))
-    (subst (λ x. Asks Begins (quoted s ∷ bare (codes "has") ∷ quoted u ∷ x ∷ quoted w ∷ []) a) (sym (word_is (codes "has") v words.1))
-    (subst (Asks Begins (quoted s ∷ bare (codes "has") ∷ quoted u ∷ bare (codes "has") ∷ quoted w ∷ [])) both.1 (two_texts_behind s u w)))
-beginning_so ts a e = absurd cc
+beginning_so ts a e =
+    let (p, is, some) = bind_some (text_before (codes "has") ts) (λ p. beginning_with p.0 p.1) a e in
+    let more = first_so p.0 p.1 a some in
+    more.asks ts (each_so ts p.0 p.1 is more.others more.left)
+
+short_so : (w : List ℕ) (n : ℕ) → short_number w ≡ Some n → IsShort w n
+short_so w n e =
+    let (m, is, some) = bind_some (number_of w) _ n e in
+    let both = cond_some (nat_lt m 65536) m n some in
+    subst (IsShort w) both.1 (is, ltb-true m 65536 both.0)
+
+so_short : (w : List ℕ) (n : ℕ) → IsShort w n → short_number w ≡ Some n
+so_short w n is = rw (is.0, lt-ltb n 65536 is.1) refl
+
+number_so : (front us : List Token) (t : List ℕ) (a : Relation) → Writes front t → number_at t us ≡ Some a → Asks Header (front ++ (bare (codes "with") ∷ us)) a
+number_so front (bare v ∷ y ∷ bare w ∷ z ∷ bare x ∷ []) t a writes e =
+    let (is, some) = cond_given (is_word (codes "to") y && is_word (codes "at") z) _ a e in
+    let (l, is-l, later) = bind_some (short_number v) _ a some in
+    let (h, is-h, final) = bind_some (short_number w) _ a later in
+    let (f, is-f, same) = map_some (λ f. header t f l h) (short_number x) a final in
+    let words = and_parts (is_word (codes "to") y) (is_word (codes "at") z) is in
+    subst (λ u. Asks Header (front ++ (bare (codes "with") ∷ bare v ∷ u ∷ bare w ∷ z ∷ bare x ∷ [])) a) (sym (word_is (codes "to") y words.0))
+    (subst (λ u. Asks Header (front ++ (bare (codes "with") ∷ bare v ∷ bare (codes "to") ∷ bare w ∷ u ∷ bare x ∷ [])) a) (sym (word_is (codes "at") z words.1))
+    (subst (Asks Header (front ++ (bare (codes "with") ∷ bare v ∷ bare (codes "to") ∷ bare w ∷ bare (codes "at") ∷ bare x ∷ []))) same
+    (a_later_header front t v w x l h f writes (short_so v l is-l) (short_so w h is-h) (short_so x f is-f))))
+number_so front us t a writes e = absurd cc
+
+header_so : (ts : List Token) (a : Relation) → header_of ts ≡ Some a → Asks Header ts a
+header_so ts a e =
+    let (p, is, some) = bind_some (text_before (codes "with") ts) (λ p. p.1 >>= number_at p.0) a e in
+    let (us, behind, found) = bind_some p.1 (number_at p.0) a some in
+    let b = before_so (codes "with") ts p.0 (Some us) (is ∙ ap (λ (o : Option (List Token)). Some (p.0, o)) behind) in
+    subst (λ vs. Asks Header vs a) (sym b.cut) (number_so b.front us p.0 a b.writes found)
 
 key_so : (ts : List Token) (a : Relation) → key_of ts ≡ Some a → Asks FirstKey ts a
 key_so (quoted k ∷ []) a e = let same : first_key k ≡ a = cc in subst (Asks FirstKey (quoted k ∷ [])) same (a_key k)
@@ -302,11 +354,51 @@ asked_so FirstKey ts a e = key_so ts a e
 asked_so ClassId ts a e = id_so ts a e
 asked_so Root ts a e = root_so ts a e
 asked_so Begins ts a e = beginning_so ts a e
+asked_so Header ts a e = header_so ts a e
+
+abbrev one_of : Relation → List Alternative
+one_of r = related r ∷ []
+
+-- each text that is read leaves those behind it
+first_read : (ts : List Token) (t : List ℕ) → WriteEach ts (t ∷ []) → beginning_of ts ≡ Some (text_first t)
+first_read ts t each =
+    let (o, is, left) = each_first ts t [] each in
+    rw is (ap (beginning_with t) (none_left o left))
+
+second_read : (ts : List Token) (t u : List ℕ) (others : List (List ℕ)) → WriteEach ts (t ∷ u ∷ others)
+    → (behind : Option (List Token)) × (beginning_of ts ≡ beginning_with_two t u behind) × AreLeft behind others
+second_read ts t u others each =
+    let (o, is, left) = each_first ts t (u ∷ others) each in
+    let (us, more, later) = more_left o u others left in
+    let (p, are, rest) = each_first us u others later in
+    (p, rw is (ap (beginning_with t) more ∙ rw are refl), rest)
+
+third_read : (ts : List Token) (t u v : List ℕ) (others : List (List ℕ)) → WriteEach ts (t ∷ u ∷ v ∷ others)
+    → (behind : Option (List Token)) × (beginning_of ts ≡ beginning_with_all t u v behind) × AreLeft behind others
+third_read ts t u v others each =
+    let (o, is, left) = second_read ts t u (v ∷ others) each in
+    let (us, more, later) = more_left o v others left in
+    let (p, are, rest) = each_first us v others later in
+    (p, is ∙ ap (beginning_with_two t u) more ∙ rw are refl, rest)
+
+fourth_read : (ts : List Token) (t u v w : List ℕ) → WriteEach ts (t ∷ u ∷ v ∷ w ∷ []) → beginning_of ts ≡ Some (text_first_with_all t u v w)
+fourth_read ts t u v w each =
+    let (o, is, left) = third_read ts t u v (w ∷ []) each in
+    let (us, more, later) = more_left o w [] left in
+    is ∙ ap (beginning_with_all t u v) more ∙ ap (option_map (λ x. text_first_with_all t u v x)) (last_read us w later)
 
 asks_so : (takes : Takes) (ts : List Token) (a : Relation) → Asks takes ts a → items_of takes ts ≡ Some (related a ∷ [])
 asks_so takes ts a (a_tag w x y z high low is-high is-low) = rw (is-high, is-low) refl
 asks_so takes ts a (an_extra v w x y is-x is-y) = rw (is-x, is-y) refl
 asks_so takes ts a (an_id ws id long bytes) = rw (length-map ws bare ∙ long, so_words ws id bytes) refl
+asks_so takes ts a (a_beginning _ t each) = ap (option_map one_of) (first_read ts t each)
+asks_so takes ts a (a_text_behind _ t u each) =
+    let (o, is, left) = second_read ts t u [] each in ap (option_map one_of) (is ∙ ap (beginning_with_two t u) (none_left o left))
+asks_so takes ts a (two_texts_behind _ t u v each) =
+    let (o, is, left) = third_read ts t u v [] each in ap (option_map one_of) (is ∙ ap (beginning_with_all t u v) (none_left o left))
+asks_so takes ts a (three_texts_behind _ t u v w each) = ap (option_map one_of) (fourth_read ts t u v w each)
+asks_so takes ts a (a_later_header front t v w x l h f writes is-l is-h is-f) =
+    rw (read_before (codes "with") refl front (bare v ∷ bare (codes "to") ∷ bare w ∷ bare (codes "at") ∷ bare x ∷ []) t writes, so_short v l is-l, so_short w h is-h, so_short x f is-f) refl
 asks_so takes ts a asks = refl
 
 -- a program by each word
@@ -354,6 +446,7 @@ asked_for FirstKey ts bs e = one_so FirstKey ts bs e
 asked_for ClassId ts bs e = one_so ClassId ts bs e
 asked_for Root ts bs e = one_so Root ts bs e
 asked_for Begins ts bs e = one_so Begins ts bs e
+asked_for Header ts bs e = one_so Header ts bs e
 
 asks_for : (takes : Takes) (ts : List Token) (bs : List Alternative) → AsksFor takes ts bs → items_of takes ts ≡ Some bs
 asks_for takes ts bs (a_relation _ _ r asks) = asks_so takes ts r asks

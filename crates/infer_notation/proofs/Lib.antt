@@ -2,6 +2,7 @@ pub mod ReadLemmas
 pub mod StepLemmas
 pub mod OptionLemmas
 pub mod Common
+pub mod TextLemmas
 pub mod HexLemmas
 pub mod FixedLemmas
 pub mod SignatureLemmas

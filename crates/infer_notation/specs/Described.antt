@@ -1,7 +1,7 @@
 -- What a text describes, as relations between its bytes, its tokens and alternatives.
 use Rattle.std.specs.Prelude.{◌≡◌, ◌+◌, ◌*◌, ◌<◌, ◌≤◌, ◌⊎◌, ℕ, false, All, IsFalse, IsTrue, List, [], ◌∷◌, ◌++◌, Some, codes, length, map}
 use Rattle.std.specs.List.{list_all}
-use Rattle.infer_formats.specs.Relation.{Relation, class_id, directory_tag, first_entry_ends_in, first_entry_has_extra, first_entry_is, first_key, first_key_with, names, of_text, program, relation_listed, root, root_with, text_first, text_first_with, text_first_with_all}
+use Rattle.infer_formats.specs.Relation.{Relation, class_id, directory_tag, first_entry_ends_in, first_entry_has_extra, first_entry_is, first_key, first_key_with, header, names, of_text, program, relation_listed, root, root_with, text_first, text_first_with, text_first_with_all}
 use Rattle.infer_formats.specs.declared.relation.Relation as relations
 use Rattle.infer_notation.specs.Alternative.{Alternative, related}
 use Rattle.infer_notation.specs.Fixed.{Asked, rest_of}
@@ -9,10 +9,10 @@ use Rattle.infer_notation.specs.Grammar.{Derives, signature}
 use Rattle.infer_notation.specs.Relations.{is_or}
 use Rattle.infer_notation.specs.Signature.{described}
 use Rattle.infer_notation.specs.Tokens.{Token, bare, is_separator, is_of, separator, quoted, set}
-use Rattle.infer_notation.specs.Words.{byte_of, byte_with, first_passes, is_blank}
+use Rattle.infer_notation.specs.Words.{byte_of, byte_with, bytes_of, first_passes, is_blank, number_of}
 use Rattle.infer_formats.specs.declared.relation.OfText.{OfText}
 use Rattle.infer_formats.specs.declared.relation.Takes.{Takes}
-use Rattle.infer_formats.specs.declared.relation.Takes.TheVariants.{Begins, ClassId, Entry, FirstKey, Nothing, OneText, Program, Root, Tag}
+use Rattle.infer_formats.specs.declared.relation.Takes.TheVariants.{Begins, ClassId, Entry, FirstKey, Header, Nothing, OneText, Program, Root, Tag}
 use Rattle.infer_notation.specs.declared.tokens.Run.{Run}
 use Rattle.infer_notation.specs.declared.tokens.Run.TheVariants.{Bare, Quoted, Set}
 
@@ -47,6 +47,27 @@ AreBytes [] [] = Unit {0}
 AreBytes (w ∷ ws) (x ∷ xs) = (byte_of w ≡ Some x) × AreBytes ws xs
 AreBytes ws xs = ⊥
 
+-- the pieces are these bytes, one behind the other
+pub data Joins : List Token → List ℕ → Type 0 where
+  no_piece : Joins [] []
+  quoted_piece : (xs : List ℕ) (ts : List Token) (ys : List ℕ) → Joins ts ys → Joins (quoted xs ∷ ts) (xs ++ ys)
+  bytes_piece : (w xs : List ℕ) (ts : List Token) (ys : List ℕ) → bytes_of w ≡ Some xs → Joins ts ys → Joins (bare w ∷ ts) (xs ++ ys)
+
+-- the tokens write the text: it stands between quotes, or in pieces, at least one, and has at most 64 bytes
+pub data Writes : List Token → List ℕ → Type 0 where
+  between_quotes : (text : List ℕ) → Writes (quoted text ∷ []) text
+  in_pieces : (ts : List Token) (text : List ℕ) → 0 < length ts → Joins ts text → length text ≤ 64 → Writes ts text
+
+-- they write the texts, with a word "has" before each but the first
+pub data WriteEach : List Token → List (List ℕ) → Type 0 where
+  one_text : (ts : List Token) (text : List ℕ) → Writes ts text → WriteEach ts (text ∷ [])
+  texts : (ts us : List Token) (text : List ℕ) (others : List (List ℕ)) → Writes ts text → WriteEach us others
+      → WriteEach (ts ++ (bare (codes "has") ∷ us)) (text ∷ others)
+
+-- the word writes the number, which is below 65536
+abbrev pub IsShort : List ℕ → ℕ → Type 0
+IsShort w n = (number_of w ≡ Some n) × (n < 65536)
+
 -- with these tokens behind a name that takes this, the text asks for the relation
 pub data Asks : Takes → List Token → Relation → Type 0 where
   nothing : (r : relations.Relation) → Asks (Nothing r) [] (relation_listed r)
@@ -61,10 +82,13 @@ pub data Asks : Takes → List Token → Relation → Type 0 where
   an_id : (ws : List (List ℕ)) (id : List ℕ) → length ws ≡ 16 → AreBytes ws id → Asks ClassId (map bare ws) (class_id id)
   an_element : (name : List ℕ) → Asks Root (bare name ∷ []) (root name)
   a_text_within : (name text : List ℕ) → Asks Root (bare name ∷ bare (codes "with") ∷ quoted text ∷ []) (root_with name text)
-  a_beginning : (text : List ℕ) → Asks Begins (quoted text ∷ []) (text_first text)
-  a_text_behind : (text other : List ℕ) → Asks Begins (quoted text ∷ bare (codes "has") ∷ quoted other ∷ []) (text_first_with text other)
-  two_texts_behind : (text one two : List ℕ)
-      → Asks Begins (quoted text ∷ bare (codes "has") ∷ quoted one ∷ bare (codes "has") ∷ quoted two ∷ []) (text_first_with_all text one two [])
+  a_beginning : (ts : List Token) (text : List ℕ) → WriteEach ts (text ∷ []) → Asks Begins ts (text_first text)
+  a_text_behind : (ts : List Token) (text other : List ℕ) → WriteEach ts (text ∷ other ∷ []) → Asks Begins ts (text_first_with text other)
+  two_texts_behind : (ts : List Token) (text one two : List ℕ) → WriteEach ts (text ∷ one ∷ two ∷ []) → Asks Begins ts (text_first_with_all text one two [])
+  three_texts_behind : (ts : List Token) (text one two three : List ℕ) → WriteEach ts (text ∷ one ∷ two ∷ three ∷ [])
+      → Asks Begins ts (text_first_with_all text one two three)
+  a_later_header : (ts : List Token) (text v w x : List ℕ) (low high far : ℕ) → Writes ts text → IsShort v low → IsShort w high → IsShort x far
+      → Asks Header (ts ++ (bare (codes "with") ∷ bare v ∷ bare (codes "to") ∷ bare w ∷ bare (codes "at") ∷ bare x ∷ [])) (header text far low high)
   a_key : (key : List ℕ) → Asks FirstKey (quoted key ∷ []) (first_key key)
   a_value : (key value : List ℕ) → Asks FirstKey (quoted key ∷ bare (codes "is") ∷ quoted value ∷ []) (first_key_with key value)
 

@@ -5,6 +5,7 @@ pub mod Tokens
 pub mod Fixed
 pub mod Grammar
 pub mod Flaws
+pub mod Texts
 pub mod Relations
 pub mod Signature
 pub mod Leads

@@ -3,16 +3,17 @@ use Rattle.std.specs.Prelude.{◌≡◌, ◌+◌, ◌*◌, ◌↔◌, ◌==◌, 
 use Rattle.std.specs.List.{slice_split}
 use Rattle.std.specs.Str.{bytes_eq}
 use denote.Ref.{Bor}
-use Rattle.infer_formats.specs.Relation.{Relation, class_id, directory_tag, first_entry_ends_in, first_entry_has_extra, first_entry_is, first_key, first_key_with, names, of_text, program, relation_listed, root, root_with, text_first, text_first_with, text_first_with_all}
+use Rattle.infer_formats.specs.Relation.{Relation, class_id, directory_tag, first_entry_ends_in, first_entry_has_extra, first_entry_is, first_key, first_key_with, header, names, of_text, program, relation_listed, root, root_with, text_first, text_first_with, text_first_with_all}
 use Rattle.infer_notation.specs.Alternative.{Accepted, Alternative, related}
 use Rattle.infer_notation.specs.Grammar.{tokens_of}
-use Rattle.infer_notation.specs.Tokens.{Token, bare, separator, quoted, set, token_listed}
-use Rattle.infer_notation.specs.Words.{◌>>=◌, byte_of, byte_with}
+use Rattle.infer_notation.specs.Texts.{text_before, text_in}
+use Rattle.infer_notation.specs.Tokens.{Token, bare, is_word, separator, quoted, set, token_listed}
+use Rattle.infer_notation.specs.Words.{◌>>=◌, byte_of, byte_with, number_of}
 use Rattle.infer_notation.specs.declared.relations.Group.{Group}
 use Rattle.infer_formats.specs.declared.token.Token as declared
 use Rattle.infer_formats.specs.declared.relation.OfText.{OfText}
 use Rattle.infer_formats.specs.declared.relation.Takes.{Takes}
-use Rattle.infer_formats.specs.declared.relation.Takes.TheVariants.{Begins, ClassId, Entry, FirstKey, Nothing, OneText, Program, Root, Tag}
+use Rattle.infer_formats.specs.declared.relation.Takes.TheVariants.{Begins, ClassId, Entry, FirstKey, Header, Nothing, OneText, Program, Root, Tag}
 
 -- what stands behind a name, and the tokens there
 abbrev pub rest_listed : Takes × Bor (List declared.Token) → Takes × List Token
@@ -36,11 +37,6 @@ begins_by (t ∷ ts) (n ∷ ns) = same_token t n && begins_by ts ns
 abbrev pub named_in : List (List Token × Takes) → List Token → Option (Takes × List Token)
 named_in [] ts = None
 named_in (n ∷ others) ts = if begins_by ts n.0 then Some (n.1, drop (length n.0) ts) else named_in others ts
-
--- it is this word
-abbrev pub is_word : List ℕ → Token → Bool
-is_word w (bare v) = bytes_eq v w
-is_word w other = false
 
 abbrev pub is_or : Token → Bool
 is_or t = is_word (codes "or") t
@@ -142,13 +138,39 @@ key_of (quoted k ∷ []) = Some (first_key k)
 key_of (quoted k ∷ is ∷ quoted v ∷ []) = if is_word (codes "is") is then Some (first_key_with k v) else None
 key_of other = None
 
--- `"TEXT"`, or `"TEXT" has "OTHER"` with one or two others
+-- what three texts ask for, and what may stand behind them
+abbrev pub beginning_with_all : List ℕ → List ℕ → List ℕ → Option (List Token) → Option Relation
+beginning_with_all t u v None = Some (text_first_with_all t u v [])
+beginning_with_all t u v (Some ts) = option_map (λ w. text_first_with_all t u v w) (text_in ts)
+
+-- what two do
+abbrev pub beginning_with_two : List ℕ → List ℕ → Option (List Token) → Option Relation
+beginning_with_two t u None = Some (text_first_with t u)
+beginning_with_two t u (Some ts) = text_before (codes "has") ts >>= λ p. beginning_with_all t u p.0 p.1
+
+-- what one does
+abbrev pub beginning_with : List ℕ → Option (List Token) → Option Relation
+beginning_with t None = Some (text_first t)
+beginning_with t (Some ts) = text_before (codes "has") ts >>= λ p. beginning_with_two t p.0 p.1
+
+-- `TEXT`, or `TEXT has OTHER` with one to three others
 abbrev pub beginning_of : List Token → Option Relation
-beginning_of (quoted t ∷ []) = Some (text_first t)
-beginning_of (quoted t ∷ has ∷ quoted u ∷ []) = if is_word (codes "has") has then Some (text_first_with t u) else None
-beginning_of (quoted t ∷ has ∷ quoted u ∷ also ∷ quoted v ∷ []) =
-    if is_word (codes "has") has && is_word (codes "has") also then Some (text_first_with_all t u v []) else None
-beginning_of other = None
+beginning_of ts = text_before (codes "has") ts >>= λ p. beginning_with p.0 p.1
+
+-- a number below 65536
+abbrev pub short_number : List ℕ → Option ℕ
+short_number w = number_of w >>= λ n. if nat_lt n 65536 then Some n else None
+
+-- `LOW to HIGH at FAR`, in a header that begins with the text
+abbrev pub number_at : List ℕ → List Token → Option Relation
+number_at t (bare low ∷ to ∷ bare high ∷ at ∷ bare far ∷ []) =
+    if is_word (codes "to") to && is_word (codes "at") at
+    then (short_number low >>= λ l. short_number high >>= λ h. option_map (λ f. header t f l h) (short_number far)) else None
+number_at t other = None
+
+-- `TEXT with LOW to HIGH at FAR`
+abbrev pub header_of : List Token → Option Relation
+header_of ts = text_before (codes "with") ts >>= λ p. p.1 >>= number_at p.0
 
 -- the relation that the tokens ask for behind a name
 abbrev pub item_of : Takes → List Token → Option Relation
@@ -161,6 +183,7 @@ item_of FirstKey ts = key_of ts
 item_of ClassId ts = id_of ts
 item_of Root ts = root_of ts
 item_of Begins ts = beginning_of ts
+item_of Header ts = header_of ts
 
 -- the relations that they ask for, each by itself
 abbrev pub each_of : Takes → List Token → Option (List Alternative)

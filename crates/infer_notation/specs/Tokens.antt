@@ -1,7 +1,8 @@
 -- The tokens of a signature's text.
-use Rattle.std.specs.Prelude.{◌+◌, ◌-◌, ◌==◌, ◌&&◌, ◌||◌, ℕ, Bool, not, List, [], ◌∷◌, Option, None, Some, nat_lt, slice_index, take, if◌then◌else◌}
+use Rattle.std.specs.Prelude.{◌+◌, ◌-◌, ◌==◌, ◌&&◌, ◌||◌, ℕ, Bool, false, not, List, [], ◌∷◌, Option, None, Some, nat_lt, slice_index, take, if◌then◌else◌}
 use Rattle.std.specs.Int.{is_in_range}
 use Rattle.std.specs.List.{prefix_len}
+use Rattle.std.specs.Str.{bytes_eq}
 pub use Rattle.infer_formats.specs.Token.{Token, bare, quoted, separator, set, token_listed}
 use Rattle.infer_formats.specs.declared.token.Token as tokens
 use Rattle.infer_notation.specs.declared.tokens.Run.{Run}
@@ -49,6 +50,11 @@ token_from x xs =
 unfoldable pub token_at : List ℕ → Option (Token × ℕ)
 token_at [] = None
 token_at (x ∷ xs) = token_from x xs
+
+-- it is this word
+abbrev pub is_word : List ℕ → Token → Bool
+is_word w (bare v) = bytes_eq v w
+is_word w other = false
 
 abbrev pub pair_listed : tokens.Token × ℕ → Token × ℕ
 pair_listed t = (token_listed t.0, t.1)

@@ -1,29 +1,44 @@
 //! Relations that tokens ask for, behind a name.
-ghost use Rattle.std.specs.Prelude.{◌≡◌, map, option_map};
+ghost use Rattle.std.specs.Prelude.{◌≡◌, ◌∷◌, [], map, option_map};
 ghost use Rattle.infer_formats.specs.Relation.{relation_listed};
-ghost use Rattle.infer_notation.specs.Relations.{alone, beginning_of, directory_of, ending_entry, entry_of, extra_field, id_of, is_word, item_of, key_of, extra_entry, named_entry, program_of, root_of, text_of, token_byte};
+ghost use Rattle.infer_notation.specs.Alternative.{related};
+ghost use Rattle.infer_notation.specs.Relations.{IsSeen, alone, beginning_of, directory_of, ending_entry, entry_of, extra_field, header_of, id_of, item_of, key_of, extra_entry, named_entry, number_at, program_of, root_of, short_number, text_of, token_byte};
 ghost use Rattle.infer_notation.specs.Tokens.{token_listed};
 
 use crate::names::is_word;
-use crate::words::{byte, byte_with};
+use crate::texts::{read_text, text_before};
+use crate::words::{byte, byte_with, number};
 use infer_formats::relation::{OfText, Relation, Takes};
 use infer_formats::token::Token;
 use infer_formats::token::Token::{Quoted, Word};
 
-/// The relation that the tokens ask for behind a name that takes this, if they ask for one.
-pub fn read_relation<'a>(takes: Takes, tokens: &[Token<'a>]) -> Option<Relation<'a>>
-    ensures { option_map relation_listed result ≡ item_of takes (map token_listed tokens.now) }
+/// Whether the buffer has the relation that the tokens ask for behind a name that takes this, if they ask for one.
+pub fn has_relation(takes: Takes, tokens: &[Token<'_>], buf: &[u8]) -> Option<bool>
+    ensures { IsSeen (option_map (λ r. related r ∷ []) (item_of takes
+        (map token_listed tokens.now))) buf.now result }
 {
     match takes {
-        Takes::Nothing(relation) => alone(relation, tokens),
-        Takes::OneText(which) => text(which, tokens),
-        Takes::Tag => directory(tokens),
-        Takes::Program => program(tokens),
-        Takes::Entry => entry(tokens),
-        Takes::FirstKey => key(tokens),
-        Takes::ClassId => compound(tokens),
-        Takes::Root => markup(tokens),
-        Takes::Begins => beginning(tokens),
+        Takes::Nothing(relation) => seen(alone(relation, tokens), buf),
+        Takes::OneText(which) => seen(one_text(which, tokens), buf),
+        Takes::Tag => seen(directory(tokens), buf),
+        Takes::Program => seen(program(tokens), buf),
+        Takes::Entry => seen(entry(tokens), buf),
+        Takes::FirstKey => seen(key(tokens), buf),
+        Takes::ClassId => seen(compound(tokens), buf),
+        Takes::Root => seen(markup(tokens), buf),
+        Takes::Begins => has_beginning(tokens, buf),
+        Takes::Header => has_header(tokens, buf),
+    }
+}
+
+/// Whether the buffer has the relation, if there is one.
+fn seen(relation: Option<Relation<'_>>, buf: &[u8]) -> Option<bool>
+    ensures { IsSeen (option_map (λ r. related r ∷ []) (option_map relation_listed relation.entry))
+        buf.now result }
+{
+    match relation {
+        Some(relation) => Some(relation.fits(buf)),
+        None => None,
     }
 }
 
@@ -54,7 +69,7 @@ fn directory<'a>(tokens: &[Token<'a>]) -> Option<Relation<'a>>
 }
 
 /// A text, as in `"word/"`.
-fn text<'a>(which: OfText, tokens: &[Token<'a>]) -> Option<Relation<'a>>
+fn one_text<'a>(which: OfText, tokens: &[Token<'a>]) -> Option<Relation<'a>>
     ensures { option_map relation_listed result ≡ text_of which (map token_listed tokens.now) }
 {
     match tokens {
@@ -169,26 +184,61 @@ fn key<'a>(tokens: &[Token<'a>]) -> Option<Relation<'a>>
     }
 }
 
-/// `"TEXT"`, or `"TEXT" has "OTHER"` with one or two others.
-fn beginning<'a>(tokens: &[Token<'a>]) -> Option<Relation<'a>>
-    ensures { option_map relation_listed result ≡ beginning_of (map token_listed tokens.now) }
+/// `TEXT`, or `TEXT has OTHER` with one to three others. The texts are asked of the buffer here, where those of pieces stand.
+fn has_beginning(tokens: &[Token<'_>], buf: &[u8]) -> Option<bool>
+    ensures { IsSeen (option_map (λ r. related r ∷ []) (beginning_of
+        (map token_listed tokens.now))) buf.now result }
+{
+    let (first, behind) = text_before(b"has", tokens)?;
+    let Some(behind) = behind else {
+        return Some(Relation::TextFirst(first.read()).fits(buf));
+    };
+    let (one, behind) = text_before(b"has", behind)?;
+    let Some(behind) = behind else {
+        return Some(Relation::TextFirstWith(first.read(), one.read()).fits(buf));
+    };
+    let (two, behind) = text_before(b"has", behind)?;
+    let Some(behind) = behind else {
+        let all = Relation::TextFirstWithAll(first.read(), one.read(), two.read(), b"");
+        return Some(all.fits(buf));
+    };
+    let three = read_text(behind)?;
+    let all = Relation::TextFirstWithAll(first.read(), one.read(), two.read(), three.read());
+    Some(all.fits(buf))
+}
+
+/// `TEXT with LOW to HIGH at FAR`.
+fn has_header(tokens: &[Token<'_>], buf: &[u8]) -> Option<bool>
+    ensures { IsSeen (option_map (λ r. related r ∷ []) (header_of
+        (map token_listed tokens.now))) buf.now result }
+{
+    let (text, behind) = text_before(b"with", tokens)?;
+    seen(number_at(text.read(), behind?), buf)
+}
+
+/// `LOW to HIGH at FAR`, in a header that begins with the text.
+fn number_at<'a>(text: &'a [u8], tokens: &[Token<'_>]) -> Option<Relation<'a>>
+    ensures { option_map relation_listed result
+        ≡ number_at text.now (map token_listed tokens.now) }
 {
     match tokens {
-        [Quoted(text)] => Some(Relation::TextFirst(text)),
-        [Quoted(text), has, Quoted(other)] => {
-            if is_word(*has, b"has") {
-                Some(Relation::TextFirstWith(text, other))
-            } else {
-                None
+        [Word(low), to, Word(high), at, Word(far)] if is_word(*to, b"to") && is_word(*at, b"at") =>
+            {
+                let low = short_number(low)?;
+                let high = short_number(high)?;
+                let far = short_number(far)?;
+                Some(Relation::Header(text, far, low, high))
             }
-        }
-        [Quoted(text), has, Quoted(other), also, Quoted(last)] => {
-            if is_word(*has, b"has") && is_word(*also, b"has") {
-                Some(Relation::TextFirstWithAll(text, other, last, b""))
-            } else {
-                None
-            }
-        }
+        _ => None,
+    }
+}
+
+/// A number below 65536.
+fn short_number(digits: &[u8]) -> Option<u16>
+    ensures { result ≡ short_number digits.now }
+{
+    match number(digits) {
+        Ok(n) if n < 65536 => Some(n as u16),
         _ => None,
     }
 }

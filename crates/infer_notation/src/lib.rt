@@ -10,6 +10,7 @@ mod names;
 mod reason;
 mod relations;
 mod signature;
+mod texts;
 mod tokens;
 mod words;
 

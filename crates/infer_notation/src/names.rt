@@ -1,8 +1,8 @@
 //! What relations are called.
 ghost use Rattle.std.specs.Prelude.{◌≡◌, ◌≤◌, IsTrue, length, map, option_map};
 ghost use Rattle.infer_formats.specs.Relation.{names};
-ghost use Rattle.infer_notation.specs.Relations.{begins_by, is_word, named_in, rest_listed, same_token};
-ghost use Rattle.infer_notation.specs.Tokens.{token_listed};
+ghost use Rattle.infer_notation.specs.Relations.{begins_by, named_in, rest_listed, same_token};
+ghost use Rattle.infer_notation.specs.Tokens.{is_word, token_listed};
 
 use infer_formats::relation::{Takes, names};
 use infer_formats::token::Token;

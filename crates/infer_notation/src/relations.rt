@@ -7,7 +7,7 @@ ghost use Rattle.infer_notation.specs.Relations.{IsSeen, group_listed, groups_of
 ghost use Rattle.infer_notation.specs.Tokens.{token_listed};
 ghost use Rattle.infer_notation.specs.Words.{found_by};
 
-use crate::items::read_relation;
+use crate::items::has_relation;
 use crate::names::{is_word, named};
 use crate::reason::{Flaw, Reason};
 use crate::tokens::next_token;
@@ -132,17 +132,6 @@ fn fits(takes: Takes, tokens: &[Token<'_>], buf: &[u8]) -> Option<bool>
     match takes {
         Takes::Program => has_program(tokens, buf),
         other => has_relation(other, tokens, buf),
-    }
-}
-
-/// Whether it has the relation that the tokens ask for.
-fn has_relation(takes: Takes, tokens: &[Token<'_>], buf: &[u8]) -> Option<bool>
-    ensures { IsSeen (option_map (λ r. related r ∷ []) (item_of takes
-        (map token_listed tokens.now))) buf.now result }
-{
-    match read_relation(takes, tokens) {
-        Some(relation) => Some(relation.fits(buf)),
-        None => None,
     }
 }
 
