@@ -62,6 +62,49 @@ fn relations(rt: HostRuntime) -> Result<(), Fail> {
     Ok(())
 }
 
+const PIECES: &[u8] =
+    b"mesh image/x-mesh image - begins: \"#\" has 0A \"v \" has 0a76 6e20 has 0A\"f \"
+ask  text/x-ask   text  - begins: \"ask \" 220D0A or 0909 \"ask\" 22
+uefi app/x-uefi   app exe later header: \"PE\" 0000 with 10 to 13 at 92";
+
+#[test]
+fn pieces(rt: HostRuntime) -> Result<(), Fail> {
+    let types = Types::new(PIECES).ok().ok_or("it describes types")?;
+    for (buf, wanted) in [
+        (
+            b"# a\nv 0 0 0\nvn 0 0 1\nf 1 1 1\n".as_slice(),
+            "image/x-mesh",
+        ),
+        (b"# a\nv 0 0 0\nvn 0 0 1\nf1\n".as_slice(), "text/plain"),
+        (b"# a\nvn 0 0 1\nf 1 1 1\n".as_slice(), "text/plain"),
+        (b"ask \"\r\n".as_slice(), "text/x-ask"),
+        (b"\xEF\xBB\xBF\t\task\"".as_slice(), "text/x-ask"),
+        (b"ask \"\n".as_slice(), "text/plain"),
+    ] {
+        assert_eq!(rt; mime(&types, buf), wanted);
+    }
+    Ok(())
+}
+
+// By the format's specification the subsystem stands 92 bytes behind the signature, and 10 is an EFI application.
+#[test]
+fn later_header(rt: HostRuntime) -> Result<(), Fail> {
+    let types = Types::new(PIECES).ok().ok_or("it describes types")?;
+    let mut image = [0; 158];
+    image[..2].copy_from_slice(b"MZ");
+    image[60] = 0x40;
+    image[64..68].copy_from_slice(b"PE\0\0");
+    for (subsystem, wanted) in [
+        (10, "app/x-uefi"),
+        (13, "app/x-uefi"),
+        (3, "application/vnd.microsoft.portable-executable"),
+    ] {
+        image[156] = subsystem;
+        assert_eq!(rt; mime(&types, &image), wanted);
+    }
+    Ok(())
+}
+
 #[test]
 fn mistakes(rt: HostRuntime) {
     for (text, reason, line, column) in [
@@ -130,6 +173,24 @@ fn mistakes(rt: HostRuntime) {
             Reason::Item,
             1,
             27,
+        ),
+        (
+            b"a b/c image - begins: \"a\" or 0A has".as_slice(),
+            Reason::Item,
+            1,
+            30,
+        ),
+        (
+            b"a b/c image - begins: \"123456789012345678901234567890123456789012345678901234567890abcd\" 0A".as_slice(),
+            Reason::Item,
+            1,
+            15,
+        ),
+        (
+            b"a b/c image - later header: \"NE\" with 1 to 65536 at 0".as_slice(),
+            Reason::Item,
+            1,
+            15,
         ),
         (b"a b/c image - root: x or".as_slice(), Reason::End, 1, 25),
         (
