@@ -102,7 +102,7 @@ def check_written(row, number, parents):
     except (AttributeError, IndexError, SyntaxError, TypeError, ValueError):
         refuse(f"{label} takes what the notation cannot write: {' or '.join(row.alternatives)}")
     try:
-        notation.unwritten(line) if line.startswith("#? ") else notation.row(line.encode())
+        notation.row(line.encode())
     except notation.Mistake as mistake:
         refuse(f"{label} is wrong in the notation: {mistake.args[2]}, at column {mistake.args[1]} of: {line}")
 

@@ -5,7 +5,7 @@ from further_index import TEXT, TEXT_OF_BYTES, byte_of, bytes_of
 from texts import kept, text_of
 
 HEAD = """# The further types of the library, as a text of types, in the order in which they are asked. tools/tables writes it from
-# the rows. A remark that begins with `#?` is a row that no text of types can write: in its texts \\x0A is a byte.
+# the rows.
 """
 # What each alternative is called that takes something other than a text, and what it takes.
 NAMES = {
@@ -16,10 +16,10 @@ NAMES = {
     "ClassId": lambda it: f"class id: {spaced(it)}",
     "DirectoryTag": lambda it: f"first directory has tag {int(it, 0):04X}",
     "Program": lambda it: f"program: {bytes_of(it).decode()}",
-    "TextFirst": lambda it: f"begins: {quoted(it)}",
-    "TextFirstWith": lambda it: "begins: " + " has ".join(map(quoted, texts(it))),
-    "TextFirstWithAll": lambda it: "begins: " + " has ".join(quoted(text) for text in texts(it) if bytes_of(text)),
-    "Header": lambda it: "header: {} {} {} {}".format(quoted(texts(it)[0]), *(int(number, 0) for number in it.split(", ")[-3:])),
+    "TextFirst": lambda it: f"begins: {pieces(it)}",
+    "TextFirstWith": lambda it: "begins: " + " has ".join(map(pieces, texts(it))),
+    "TextFirstWithAll": lambda it: "begins: " + " has ".join(pieces(text) for text in texts(it) if bytes_of(text)),
+    "Header": lambda it: "later header: {0} with {2} to {3} at {1}".format(pieces(texts(it)[0]), *(int(number, 0) for number in it.split(", ")[-3:])),
     "FirstKey": lambda it: f"first key: {quoted(it)}",
     "FirstKeyWith": lambda it: "first key: {} is {}".format(*map(quoted, texts(it))),
     "Root": lambda it: f"root: {bytes_of(it).decode()}",
@@ -53,20 +53,18 @@ def spaced(literal):
 
 
 def quoted(literal):
-    """A text between quotes. Bytes that the notation cannot write there are told by their digits."""
-    said = bytes_of(literal)
-    digits = not re.fullmatch(rb"[ !#-~]*", said)
-    return '"' + "".join(f"\\x{it:02X}" if it in b'"' or not 0x20 <= it < 0x7F or digits and it in b"\\" else chr(it) for it in said) + '"'
+    """A text between quotes."""
+    return f'"{bytes_of(literal).decode()}"'
 
 
-def is_written(alternatives):
-    """Whether the notation can write the alternatives, as it can but for some bytes, more texts, and later headers."""
-    return not any(re.match(r"begins: .*\\x[0-9A-F]{2}|begins: .* has .* has .* has |header: ", it) for it in alternatives)
+def pieces(literal):
+    """A text, of which what cannot stand between quotes is told in digits."""
+    return written(bytes_of(literal), 1)
 
 
-def written(said):
-    """The bytes: a text, or its runs of three printable ones or more in quotes, and the others in digits."""
-    least = 1 if re.fullmatch(rb"[ !#-~]+", said) else 3
+def written(said, least=3):
+    """The bytes: a text, or its runs of so many printable ones or more in quotes, and the others in digits."""
+    least = 1 if re.fullmatch(rb"[ !#-~]+", said) else least
     run = rb"[ !#-~]{%d,}" % least
     runs = re.findall(rb"%s|(?:(?!%s).)+" % (run, run), said, re.DOTALL)
     return " ".join(f'"{it.decode()}"' if re.fullmatch(run, it) else " ".join(f"{byte:02X}" for byte in it) for it in runs)
@@ -108,7 +106,7 @@ def line(row, parents):
     once = "" if kind.isdigit() else kind + colon
     said = first + "".join((" " if kind == "program" else " or ") + it.removeprefix(once) for it in others)
     words = [f"{row.extension:<11}", f"{row.mime_type:<36}", f"{row.group.lower():<7}", f"{parents[row.parent] if row.parent else '-':<6}", said]
-    return ("" if is_written([first, *others]) else "#? ") + "  ".join(words) + "\n"
+    return "  ".join(words) + "\n"
 
 
 def text(rows, parents):

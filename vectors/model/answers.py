@@ -151,9 +151,9 @@ class Further:
 
     def __init__(self, line: str, number: int) -> None:
         self.number, self.ruled = number, Ruled(line)
-        row = notation.row_of(line)
+        row = notation.row(line.encode())
         self.parent = None if row.parent == "-" else EXTENSIONS.index(row.parent)
-        signature = line.removeprefix("#? ").split(maxsplit=4)[4]
+        signature = line.split(maxsplit=4)[4]
         self.fixed = [self.fixed_of(*it) for it in row.alternatives if len(it) == 3]
         self.related = [(it[0] or self.relation_of(signature), it[1]) for it in row.alternatives if len(it) == 2]
 
@@ -175,7 +175,7 @@ class Further:
 
 
 with open(os.path.join(DATA, "further/types.txt"), encoding="utf-8") as _file:
-    _lines = [it for it in _file.read().splitlines() if it and (not it.startswith("#") or it.startswith("#? "))]
+    _lines = [it for it in _file.read().splitlines() if it and not it.startswith("#")]
 FURTHER = [Further(line, len(EXTENSIONS) + at) for at, line in enumerate(_lines)]
 BUILT_IN = {row: [Fixed(least, tuple(asked.items())) for least, asked in ALTERNATIVES[it]] for row, it in enumerate(EXTENSIONS) if it in ALTERNATIVES}
 

@@ -265,6 +265,9 @@ def is_text(buf):
 # What each relation is called, what an alternative of it is, and whether a buffer fits one: by its words, of which quotes
 # are left, and None where this model does not say so.
 WORD, QUOTED = rb'[^\0"{},:@]+', rb'"[^"]*"'
+PIECES = rb"(?:%s|(?:%s)+)(?:\0(?:%s|(?:%s)+))*" % (QUOTED, HEX, QUOTED, HEX)
+NUMBER = rb"0*[0-9]{1,9}"
+MOST_JOINED, MOST_NUMBER = 64, 65535
 RELATIONS = [
     ('shared object', rb"", None),
     ('chunk "acTL" before "IDAT"', rb"", None),
@@ -279,8 +282,8 @@ RELATIONS = [
     ('package with :', QUOTED, None),
     ('behind an ID3 tag :', QUOTED, lambda buf, words: behind_tag(buf).startswith(words[0][1:-1])),
     ('entry :', QUOTED, lambda buf, words: has_entry(buf, words[0][1:-1])),
-    ('begins :', QUOTED, lambda buf, words: begins(buf, words[0][1:-1])),
-    ('begins :', QUOTED + rb"(?:\0has\0" + QUOTED + rb"){1,2}", lambda buf, words: begins(buf, words[0][1:-1]) and all(it[1:-1] in buf for it in words[2::2])),
+    ('begins :', PIECES + rb"(?:\0has\0" + PIECES + rb"){0,3}", lambda buf, words: begins(buf, texts(words)[0]) and all(it in buf for it in texts(words)[1:])),
+    ('later header :', PIECES + rb"\0with\0%s\0to\0%s\0at\0%s" % (NUMBER, NUMBER, NUMBER), lambda buf, words: has_header(buf, *texts(words[:-6]), *numbers(words))),
     ('first key :', QUOTED, lambda buf, words: is_behind(buf, b"{", words[0], b":")),
     ('first key :', QUOTED + rb"\0is\0" + QUOTED, lambda buf, words: is_behind(buf, b"{", words[0], b":", words[2])),
     ('program :', rb"%s(?:\0%s)*" % (WORD, WORD), lambda buf, words: program(buf) in words),
@@ -291,6 +294,31 @@ RELATIONS = [
     ('root :', WORD, lambda buf, words: root(buf)[0] == words[0]),
     ('root :', WORD + rb"\0with\0" + QUOTED, lambda buf, words: root(buf)[0] == words[0] and words[2][1:-1] in root(buf)[1]),
 ]
+
+
+def texts(words):
+    """The texts of pieces, with words "has" between them, or None if one has more than 64 bytes in several pieces or in digits."""
+    found, whole = [b""], [True]
+    for it in words:
+        if it == b"has":
+            found, whole = [*found, b""], [*whole, True]
+        else:
+            whole[-1] = found[-1] == b"" and it[:1] == b'"'
+            found[-1] += it[1:-1] if it[:1] == b'"' else bytes.fromhex(it.decode())
+    return found if all(is_whole or len(it) <= MOST_JOINED for it, is_whole in zip(found, whole)) else None
+
+
+def numbers(words):
+    """How far the number of a later header stands, and the least and the greatest that it may be."""
+    low, high, far = (int(words[at]) for at in (-5, -3, -1))
+    return far, low, high
+
+
+def is_taken(name, words):
+    """Whether texts and numbers are no longer and no greater than they may be."""
+    if name == "begins :":
+        return texts(words) is not None
+    return name != "later header :" or texts(words[:-6]) is not None and max(numbers(words)) <= MOST_NUMBER
 
 
 def group(reader):
@@ -324,7 +352,7 @@ def related(line, place):
     found = []
     while True:
         for other, pattern, test in RELATIONS:
-            if other == name and re.fullmatch(pattern, b"\0".join(said)):
+            if other == name and re.fullmatch(pattern, b"\0".join(said)) and is_taken(name, said):
                 found.append((test, said))
                 break
         else:
@@ -365,32 +393,6 @@ def row(line):
     class_name = word(2, "|".join(CLASSES).encode(), "unknown class")
     parent = word(3, b"|".join(re.escape(it.encode()) for it in [*PARENTS, "-"]), "no such parent")
     return Row(class_name, mime_type, extension, parent, signature(line, words[3].end()))
-
-
-def unescaped(said):
-    """The bytes of a text, in which some are told by their digits."""
-    return re.sub(rb"\\x([0-9A-F]{2})", lambda it: bytes.fromhex(it[1].decode()), said.encode())
-
-
-def unwritten(line):
-    """The row of a remark of further/types.txt that begins with `#? `, which no text of types can write."""
-    extension, mime_type, class_name, parent, said = line.removeprefix("#? ").split(maxsplit=4)
-    name, _, said = said.partition(": ")
-    found = []
-    for one in said.split(" or "):
-        texts = [unescaped(it) for it in re.findall(r'"([^"]*)"', one)]
-        if name == "header":
-            found.append((lambda buf, words: has_header(buf, *words), texts + [int(it) for it in one.split()[-3:]]))
-        elif name == "begins":
-            found.append((lambda buf, words: begins(buf, words[0]) and all(it in buf for it in words[1:]), texts))
-        else:
-            raise Mistake("unknown relation", 1)
-    return Row(class_name, mime_type, extension, parent, found)
-
-
-def row_of(line):
-    """The row of a line of further/types.txt, be it a remark or not."""
-    return unwritten(line) if line.startswith("#? ") else row(line.encode())
 
 
 def rows(text):

@@ -85,7 +85,7 @@ def name(rng):
 def relation(rng):
     """The words of a relation, a buffer that fits it, and the parent below which that is asked. Of what the model does not
     decide the buffer is none that is asked."""
-    names, kind = [rng.choice(["flow", "flows", "svg", "or", "with", "x.y", "with3"]) for _ in range(rng.choice([1, 1, 2, 3]))], rng.randrange(8)
+    names, kind = [rng.choice(["flow", "flows", "svg", "or", "with", "x.y", "with3"]) for _ in range(rng.choice([1, 1, 2, 3]))], rng.randrange(9)
     one = rng.choice(names).encode()
     if kind == 0:
         texts = [rng.choice([[], [], ["with", '"urn:a"'], ["with", '"b"']]) for _ in names]
@@ -106,8 +106,11 @@ def relation(rng):
         buf = b"PK\3\4" + bytes(rng.choice([0, 3, 30])) + rng.choice([b"", b"PK", b"PK\3\4"]) + head + one
         return ["entry", ":", *joined([[f'"{name}"'] for name in names])], buf[: len(buf) - rng.choice([0, 0, 0, 1])], "zip"
     if kind == 4:
-        said = [rng.choice([[f'"{name}"'], [f'"{name}"', "has", '"urn:a"'], [f'"{name}"', "has", '"urn:"', "has", '"a"']]) for name in names]
-        return ["begins", ":", *joined(said)], rng.choice([b"", b"\xef\xbb\xbf", b"\xef\xbb"]) + one + rng.choice([b"", b" urn:a", b" urn:"]), "-"
+        said = [pieces(rng, name.encode()) for name in names]
+        for words in said:
+            for other in rng.choice([[], [b"urn:a"], [b"urn:", b"a"], [b"\n", b"urn", b"a"], [b"\n"], [b"\n", b"u", b"r", b"a"]]):
+                words += ["has", *pieces(rng, other)]
+        return ["begins", ":", *joined(said)], rng.choice([b"", b"\xef\xbb\xbf", b"\xef\xbb"]) + one + rng.choice([b"", b" urn:a", b" urn:", b"\nurn:a"]), "-"
     if kind == 5:
         return ["text"], rng.choice([b"abc", b"a\0", b"\xff\xfe\0", b"a\x0b", b"a\x1b"]), "-"
     if kind == 6:
@@ -115,12 +118,27 @@ def relation(rng):
         parts = [rng.choice([b"{", b"{", b"{", b"["]), b'"%s"' % one, b":", rng.choice([b'"urn:a"', b'"urn:a', b"1", b""])]
         blanks = [rng.choice([b"", b"", b" ", b"\n\t", b"\r\n", b"\x0b"]) for _ in parts]
         return ["first", "key", ":", *joined(said)], rng.choice([b"", b"\xef\xbb\xbf"]) + b"".join(map(bytes.__add__, blanks, parts)), "-"
+    if kind == 7:
+        low, far = rng.choice([0, 10, 300, 65535]), rng.choice([0, 1, 92])
+        number = rng.choice([low, low, low + 1, low - 1, 13])
+        said = [[*pieces(rng, rng.choice([b"PE\0\0", b"NE"])), "with", str(low), "to", str(max(low, 13)), "at", str(far)] for _ in names]
+        head = b"MZ" + bytes(58) + rng.choice([b"\x40\0\0\0", b"\x42\0\0\0"]) + rng.choice([b"", b"ab"]) + rng.choice([b"PE\0\0", b"NE"]).ljust(far, b"\0")
+        return ["later", "header", ":", *joined(said)], head + (number % 65536).to_bytes(2, "little"), "exe"
     ids = [[pair(rng, rng.randrange(256)) for _ in range(16)] for _ in names]
     said = [
         "shared object", 'chunk "acTL" before "IDAT"', "first cue of SubRip", "dBASE header", "Java archive", "tar checksum", "JSON lines", "JSON",
         "first directory has tag C612", 'package with : "word/"', 'behind an ID3 tag : "fLaC"', "class id : " + " or ".join(" ".join(it) for it in ids),
     ]
     return rng.choice(said).split(), b"", "mp4"
+
+
+def pieces(rng, text):
+    """Words that write the text, in one piece or in several. Now and then these are more than a text may have."""
+    cuts = sorted(rng.sample(range(1, len(text)), rng.randrange(min(3, len(text)))))
+    found = [text[at:end] for at, end in zip([0, *cuts], [*cuts, len(text)])]
+    if rng.random() < 0.05:
+        found.append(b"x" * rng.choice([58, 60, 61, 62, 63, 64, 65]))
+    return [f'"{it.decode()}"' if it.isalnum() and rng.random() < 0.7 else "".join(pair(rng, byte) for byte in it) for it in found]
 
 
 def joined(said):
@@ -278,18 +296,15 @@ def decoded(tokens):
 def wrong_further(program):
     """How many buffers the text of the further rows answers otherwise than the rows do. Each type of the text has another
     extension here, which tells its answers from those of the library's own rows."""
-    names, text, unwritten = [], b"", set()
+    names, text = [], b""
     for it in lines_of("types.txt"):
-        if not it.startswith("#") or it.startswith("#? "):
-            extension, _, class_name, parent = it.removeprefix("#? ").split()[:4]
+        if not it.startswith("#"):
+            extension, _, class_name, parent = it.split()[:4]
             names.append(f"{class_name.capitalize()}/{extension}{'' if parent == '-' else f' below {parent}'}")
-            if it.startswith("#"):
-                unwritten.add(names[-1])
-            else:
-                text += b"own-" + it.encode() + b"\n"
+            text += b"own-" + it.encode() + b"\n"
     rows = ["{0}/{2}{3}".format(*it[:3], "" if it[3] == "none" else f" below {it[3]}") for it in (line.split("\t") for line in lines_of("rows.tsv"))]
     wrong = [f"its rows are others than those of rows.tsv: {[*{*rows} ^ {*names}][:3]}"] * (names != rows)
-    vectors = [it for it in (line.split("\t") for line in lines_of("vectors.tsv")) if it[2] not in unwritten]
+    vectors = [line.split("\t") for line in lines_of("vectors.tsv")]
     for (how, _, row, shown), said in zip(vectors, asked(program, [(text, decoded(it[1])) for it in vectors])):
         is_own = said[2:3] != said[6:7]
         if len(said) == 3 or is_own != (row != "-") or f"{said[1]} {said[2].removeprefix('own-')}".strip() != shown.replace("unknown", ""):

@@ -9,6 +9,7 @@ definitions. The library has to say so of 99 cuts in a hundred. Where it says so
 the same answer."""
 from __future__ import annotations
 
+import functools
 import os
 import re
 import subprocess
@@ -101,9 +102,15 @@ def never_behind_tag(buf: bytes, said: str) -> bool:
     return len(sizes) == 4 and not agrees(buf, said[1:-1].encode(), 10 + sum(byte << 7 * place for place, byte in enumerate(reversed(sizes))))
 
 
+@functools.cache
+def words_of(said: str) -> list[bytes]:
+    """The words of an alternative."""
+    return notation.group(notation.Reader(said.encode(), 0))[0]
+
+
 def never_begun(buf: bytes, said: str) -> bool:
     """It begins otherwise. What it has to have beside may always follow."""
-    text = notation.unescaped(said[1 : said.index('"', 1)])
+    text = notation.texts(words_of(said))[0]
     return not agrees(buf, text, 0) and not (agrees(buf, MARKS[0], 0) and agrees(buf, text, 3))
 
 
@@ -113,7 +120,7 @@ def never_headed(buf: bytes, said: str) -> bool:
         return True
     if len(buf) < 64:
         return False
-    text, (far, low, high) = notation.unescaped(said[1 : said.index('"', 1)]), map(int, said.split(" ")[-3:])
+    (text,), (far, low, high) = notation.texts(words_of(said)[:-6]), notation.numbers(words_of(said))
     place = little(buf, 60, 4)
     return not agrees(buf, text, place) or len(buf) >= place + far + 2 and not low <= little(buf, place + far, 2) <= high
 
@@ -184,7 +191,7 @@ def never_summed(buf: bytes, _: str) -> bool:
 # What each relation is called in the notation, and what rules an alternative of it out.
 NEVER: dict[str, Callable[[bytes, str], bool]] = {
     "shared object": never_shared, "first entry:": never_named, "package with:": never_packed, "Java archive": never_java, "first directory has tag": never_tagged,
-    'chunk "acTL" before "IDAT"': never_animated, "behind an ID3 tag:": never_behind_tag, "class id:": never_class, "entry:": lambda buf, said: False, "begins:": never_begun, "header:": never_headed, "first key:": never_keyed, "JSON lines": never_json,
+    'chunk "acTL" before "IDAT"': never_animated, "behind an ID3 tag:": never_behind_tag, "class id:": never_class, "entry:": lambda buf, said: False, "begins:": never_begun, "later header:": never_headed, "first key:": never_keyed, "JSON lines": never_json,
     "JSON": never_json, "root:": never_rooted, "program:": never_run, "text": never_text, "first cue of SubRip": never_subtitles, "dBASE header": never_dbase, "tar checksum": never_summed,
 }
 
@@ -193,9 +200,9 @@ class Further:
     """A further row, by its line of `further/types.txt`."""
 
     def __init__(self, line: str):
-        self.extension, _, _, self.parent, self.signature = line.removeprefix("#? ").split(maxsplit=4)
+        self.extension, _, _, self.parent, self.signature = line.split(maxsplit=4)
         self.relation = next((it for it in NEVER if self.signature.startswith(it)), None)
-        self.alternatives = notation.row_of(line).alternatives
+        self.alternatives = notation.row(line.encode()).alternatives
 
     def never(self, buf: bytes) -> bool:
         """Whether a rule says that no bytes after the buffer make this row accept."""
@@ -238,7 +245,7 @@ def asked(program: str, bufs: list[bytes]) -> list[tuple[bool, int]]:
 
 def main(program: str) -> int:
     with open(os.path.join(DATA, "further/types.txt"), encoding="utf-8") as file:
-        rows = [Further(line) for line in file.read().splitlines() if line and (not line.startswith("#") or line.startswith("#? "))]
+        rows = [Further(line) for line in file.read().splitlines() if line and not line.startswith("#")]
     wholes = [decode(tokens) for _, tokens, _, _ in fields_of("further/vectors.tsv")]
     cuts = [(cut, whole) for whole in wholes for cut in cuts_of(whole)]
     told, answers = asked(program, [cut for cut, _ in cuts]), dict(zip(wholes, asked(program, wholes)))
