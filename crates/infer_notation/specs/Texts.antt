@@ -45,15 +45,15 @@ abbrev pub parted_at : List ℕ → List Token → List Token × Option (List To
 parted_at w [] = ([], None)
 parted_at w (t ∷ ts) = if is_word w t then ([], Some ts) else (t ∷ (parted_at w ts).0, (parted_at w ts).1)
 
-abbrev pub rest_listed : Option (Bor (List declared.Token)) → Option (List Token)
-rest_listed o = option_map (λ ts. map token_listed ts.now) o
+abbrev pub behind_listed : Option (Bor (List declared.Token)) → Option (List Token)
+behind_listed o = option_map (λ ts. map token_listed ts.now) o
 
 abbrev pub parted_listed : Bor (List declared.Token) × Option (Bor (List declared.Token)) → List Token × Option (List Token)
-parted_listed p = (map token_listed p.0.now, rest_listed p.1)
+parted_listed p = (map token_listed p.0.now, behind_listed p.1)
 
 -- the text before the first of these words, and what stands behind it
 abbrev pub text_before : List ℕ → List Token → Option (List ℕ × Option (List Token))
 text_before w ts = option_map (λ t. (t, (parted_at w ts).1)) (text_in (parted_at w ts).0)
 
 abbrev pub before_listed : texts.Text × Option (Bor (List declared.Token)) → List ℕ × Option (List Token)
-before_listed p = (text_listed p.0, rest_listed p.1)
+before_listed p = (text_listed p.0, behind_listed p.1)
