@@ -1,5 +1,5 @@
 -- Relations: what each asks of a buffer, which a buffer keeps, what every such buffer has at fixed places, and a short one.
-use Rattle.std.specs.Prelude.{ℕ, ◌+◌, ◌/◌, ◌%◌, ◌<◌, Bool, false, true, IsTrue, List, [], ◌∷◌, codes, length, map, slice_index, take}
+use Rattle.std.specs.Prelude.{ℕ, ◌+◌, ◌/◌, ◌%◌, ◌<◌, Bool, false, true, IsTrue, List, [], ◌∷◌, codes, length, map, max, slice_index, take}
 use Rattle.infer_deep.specs.ClassId.{HasClassId, compound_header}
 use Rattle.infer_deep.specs.Office.{zip_header}
 use Rattle.memchr.specs.Find.{OccursAt}
@@ -229,7 +229,7 @@ model before (text_first_with_all t u v w) =
     at_least (length t + length u + length v + length w)
     (text 0 t ∷ text (length t) u ∷ text (length t + length u) v ∷ text (length t + length u + length v) w ∷ [])
 model before (header t far low high) =
-    at_least (66 + length t + far) (text 0 (codes "MZ") ∷ text 60 (0x40 ∷ []) ∷ text 64 t ∷ text (64 + far) (low % 256 ∷ low / 256 ∷ []) ∷ [])
+    at_least (max (64 + length t) (66 + far)) (text 0 (codes "MZ") ∷ text 60 (0x40 ∷ []) ∷ text 64 t ∷ text (64 + far) (low % 256 ∷ low / 256 ∷ []) ∷ [])
 model before (first_key k) = at_least (4 + length k) (text 0 (codes "{\"") ∷ text 2 k ∷ text (2 + length k) (codes "\":") ∷ [])
 model before (first_key_with k v) =
     at_least (6 + length k + length v)

@@ -435,7 +435,7 @@ fn program_with_header<'b>(text: &'b [u8], far: u16, low: u16) -> Model<'b>
     ensures few { result.count ≤ 5 }
 {
     four(
-        66 + text.len() + usize::from(far),
+        (64 + text.len()).max(66 + usize::from(far)),
         at(0, b"MZ"),
         at(60, b"\x40"),
         at(64, text),

@@ -7,7 +7,6 @@ ghost use Rattle.infer_deep.specs.Places.{IsFirstWithin};
 ghost use Rattle.infer_formats.specs.Runs.{IsNext};
 
 use infer_deep::places::{same_at, stands_at};
-use memchr::arch::all::packedpair::Pair;
 use memchr::arch::all::{packedpair, rabinkarp};
 use memchr::memchr;
 use std::simd::prelude::*;
@@ -109,14 +108,14 @@ pub(crate) fn find_early(buf: &[u8], text: &[u8]) -> Option<usize>
     find_from(buf, text, place + 1)
 }
 
-/// The first place from `start` on at which `text` stands.
+/// The first place from `start` on at which `text` stands, by the two of its bytes that are rarest in texts: many texts
+/// begin with the end of a line, which most buffers have often.
 fn find_from(buf: &[u8], text: &[u8], start: usize) -> Option<usize>
     requires { start ≤ length buf.now }
     ensures { IsFirstWithin OccursAt buf.now text.now start (length buf.now) result }
 {
-    let last = text.len().saturating_sub(1).min(255) as u8;
-    match Pair::with_indices(text, 0, last) {
-        Some(pair) => find_by(packedpair::Finder::with_pair(text, pair), buf, text, start),
+    match packedpair::Finder::new(text) {
+        Some(pair) => find_by(pair, buf, text, start),
         None => find_bytes(buf, text, start),
     }
 }
