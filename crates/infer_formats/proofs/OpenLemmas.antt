@@ -9,6 +9,12 @@ grown_byte b more p h bytes = elim (cases_lt p (length (b ++ more))) [
   | inr l ↦ subst (λ x. x < 256) (sym (get_or-eq_default (b ++ more) 0 l)) (omega arith)
 ]
 
+pub small_byte : (b : List ℕ) (p : ℕ) → IsTrue (are_bytes b) → get_or b p 0 < 256
+small_byte b p h = elim (cases_lt p (length b)) [
+  | inl l ↦ bytes_from_test b h p 0 l
+  | inr l ↦ subst (λ x. x < 256) (sym (get_or-eq_default b 0 l)) (omega arith)
+]
+
 -- what is told of a byte of a longer buffer is so of b as far as it goes
 pub known : (b more : List ℕ) (P : ℕ → Type 0) (p : ℕ) → P (slice_index (b ++ more) p) → MayBe P b p
 known b more P p h lt = subst P (get_or_append_left b more 0 p lt) h

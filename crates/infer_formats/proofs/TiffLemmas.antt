@@ -1,12 +1,12 @@
 -- Tags of TIFF files: what more bytes keep and may bring, and the bytes that each file has.
-use Rattle.infer_formats.proofs.Common.{[], IsTrue, ◌≡◌, inl, inr, ℕ, ◌+◌, ◌-◌, ◌*◌, ◌/◌, min, ◌<◌, ◌≤◌, Bool, true, false, List, ◌++◌, length, get_or, subst, arith, cases_lt, AgreesAt, are_bytes, MayBecome, agrees_past, grown_agrees, bytes16, number16, number32, BeginsTiff, HasTag, IsTagEntry, ◌∷◌, sym, ◌∙◌, OccursAt-append, ◌↔◌, lines, directory_tag, StandsByPlace, accepts, at_least, stands, be16, be32}
+use Rattle.infer_formats.proofs.Common.{[], IsTrue, ◌&&◌, suc, and_parts, OccursAt, ◌≡◌, inl, inr, ℕ, ◌+◌, ◌-◌, ◌*◌, ◌/◌, min, ◌<◌, ◌≤◌, Bool, true, false, List, ◌++◌, length, get_or, subst, arith, cases_lt, AgreesAt, are_bytes, MayBecome, agrees_past, grown_agrees, bytes16, number16, number32, BeginsTiff, HasTag, IsTagEntry, ◌∷◌, sym, ◌∙◌, OccursAt-append, ◌↔◌, lines, directory_tag, StandsByPlace, accepts, at_least, stands, be16, be32}
 use Rattle.infer_formats.specs.Tiff.{MayBeginTiff, MayHaveEntry, MayHaveTag}
 use Rattle.infer_sig.specs.Signature.{text}
 use Rattle.infer_formats.proofs.GrowthLemmas.{number16-append, number32-append, longer}
-use Rattle.infer_formats.proofs.OpenLemmas.{grown_byte, number16_stands}
+use Rattle.infer_formats.proofs.OpenLemmas.{grown_byte, number16_stands, small_byte}
 use Rattle.infer_formats.proofs.OutlineLemmas.{occurs, other, one}
 use Rattle.infer_sig.specs.Signature as fixed
-use Rattle.infer_sig.proofs.KnownLemmas.{Known, at_most, proved, same, takes, ◌>>=◌}
+use Rattle.infer_sig.proofs.KnownLemmas.{Known, at_most, proved, refuted_if, same, takes, ◌>>=◌, ◌>>◌}
 use Rattle.infer_sig.proofs.OccurrenceLemmas as Place
 use Rattle.infer_sig.proofs.OccurrenceLemmas.{ByPlace}
 
@@ -88,10 +88,28 @@ module _ (by_place : (place : ℕ) (t buf : List ℕ) → IsTrue (stands place t
 
 module _ (by_place : ByPlace) (b : List ℕ) where
   -- the first entry of a directory whose highest byte comes first
-  abbrev pub known_tag : (tag : ℕ) → Known (HasTag tag b)
-  known_tag tag = do
+  abbrev known_first_tag : (tag : ℕ) → Known (HasTag tag b)
+  known_first_tag tag = do
     begins ← takes (Place.occurs by_place (0x4D ∷ 0x4D ∷ 0x00 ∷ 0x2A ∷ []) b 0)
     some ← takes (at_most 1 (be16 b (be32 b 4)))
     whole ← takes (at_most (be32 b 4 + 2 + 12 * 0 + 12) (length b))
     is_it ← takes (same (be16 b (be32 b 4 + 2 + 12 * 0)) tag)
     proved (true, begins, (0, (some, whole, is_it)))
+
+  -- the two bytes of the tag stand nowhere, in either order
+  abbrev pub lacks_tag : ℕ → Bool
+  lacks_tag tag =
+      are_bytes b && (Place.lacks 0 (suc (length b)) (bytes16 true tag) b && Place.lacks 0 (suc (length b)) (bytes16 false tag) b)
+
+  stands_nowhere : (big : Bool) (tag p : ℕ) → IsTrue (lacks_tag tag) → ¬ OccursAt b (bytes16 big tag) p
+  stands_nowhere true tag p none = grind (arith, and_parts, Place.nowhere_from by_place (bytes16 true tag) b 0 p)
+  stands_nowhere false tag p none = grind (arith, and_parts, Place.nowhere_from by_place (bytes16 false tag) b 0 p)
+
+  pub untagged : (tag : ℕ) → IsTrue (lacks_tag tag) → ¬ HasTag tag b
+  untagged tag none (big, begins, (i, (lt, whole, is))) =
+      let s = number32 big b 4 in
+      stands_nowhere big tag (s + 2 + 12 * i) none (number16_stands b big (s + 2 + 12 * i) tag (λ k. small_byte b k (and_parts (are_bytes b) _ none).0) (omega arith) is)
+
+  -- a directory whose first entry has the tag, or no such bytes
+  abbrev pub known_tag : (tag : ℕ) → Known (HasTag tag b)
+  known_tag tag = ◌>>◌ (known_first_tag tag) (refuted_if (lacks_tag tag) (untagged tag))
