@@ -61,6 +61,35 @@ static const struct {
     {"<", "a", MILLION, "", "txt"},
     {"<", "a:", MILLION, "svg>", "svg"},
     {"", " ", MILLION, "<svg>", "svg"},
+    {"", " \n\t\r", MILLION, "<svg>", "svg"},
+    /* Nor has an internal subset that does not end. In one, only what stands in quotes, a comment or an instruction is passed
+     * over, and a bracket that opens is a byte as others are. */
+    {"<!DOCTYPE svg [", "[", 10 * MILLION, "", "txt"},
+    {"<!DOCTYPE svg [", "[", 10 * MILLION, "]><svg>", "svg"},
+    {"<!DOCTYPE svg [", "[]", MILLION, "]><svg>", "txt"},
+    {"<!DOCTYPE svg [", "\"]>\"", MILLION, "]><svg>", "svg"},
+    {"<!DOCTYPE svg [", "'\"]>'", MILLION, "]><svg>", "svg"},
+    {"<!DOCTYPE svg [", "<!-- ' ]> -->", MILLION, "]><svg>", "svg"},
+    {"<!DOCTYPE svg [", "<? ' ]> ?>", MILLION, "]><svg>", "svg"},
+    {"<!DOCTYPE svg [\"", "]>", MILLION, "<svg>", "txt"},
+    {"<!DOCTYPE svg [", "<!--", MILLION, "]><svg>", "txt"},
+    {"<!DOCTYPE svg [", "<", MILLION, "]><svg>", "svg"},
+    {"<!DOCTYPE svg []", " ", MILLION, "><svg>", "svg"},
+    /* The first key of an object, with white space before each of its pieces, and keys and values without end. */
+    {"", " ", MILLION, "{\"cells\":[]}", "ipynb"},
+    {"{", "\n", MILLION, "\"cells\":[]}", "ipynb"},
+    {"{\"cells\"", "\t", MILLION, ":", "ipynb"},
+    {"{\"type\":", "\r", MILLION, "\"Feature\"", "geojson"},
+    {"{\"", "cells", MILLION, "\":[]}", "json"},
+    {"{\"", "cells\\\"", MILLION, "", "txt"},
+    {"{\"type\":\"", "Feature", MILLION, "\"}", "json"},
+    {"{\"type\":\"", "Feature", MILLION, "", "txt"},
+    {"", "{\"cells\" ", MILLION, "", "txt"},
+    /* Texts that begin as a row's, and have another text last or nowhere. */
+    {"#\n", "[Desktop Entry] \n", MILLION / 4, "[Desktop Entry]\n", "desktop"},
+    {"#\n", "[Desktop Entry] \n", MILLION / 4, "", "txt"},
+    {"diff --git", "\n+++", MILLION, "", "txt"},
+    {"diff -", "\n++", MILLION, "\n+++ ", "diff"},
     /* A first line that never names a program is a shell's. */
     {"#!", " ", MILLION, "", "sh"},
     {"#!/usr/bin/env", " A=1", MILLION, " python3\n", "py"},
@@ -159,6 +188,60 @@ static void chunks(void) {
         }
 }
 
+/* Programs whose later header is at any place, with any number in it. */
+static void programs(void) {
+    for (int power = 0; power <= 32; power++)
+        for (int less = -1; less <= 1; less++)
+            for (unsigned number = 0; number <= 0xFFFF; number = 2 * number + 1) {
+                const size_t len = 4096;
+                const uint32_t at = (uint32_t)((power < 32 ? (uint64_t)1 << power : 0) + (uint64_t)(int64_t)less);
+                unsigned char *buf = zeros(len);
+                memcpy(buf, "MZ", 2);
+                little(buf + 60, at, 4);
+                /* A header over the one of DOS may say anything, and is left out. */
+                bool is_whole = at >= 64 && (uint64_t)at + 94 <= len;
+                if (is_whole) memcpy(buf + at, "PE\0\0", 4);
+                if (is_whole) little(buf + at + 92, number, 2);
+                wants("a program of DOS", buf, len, is_whole && number == 1 ? "sys" : "exe");
+            }
+}
+
+/* ID3 tags that say any length, in four bytes of seven bits. */
+static void tags(void) {
+    static const unsigned char sizes[] = {0x00, 0x01, 0x7F, 0x80, 0xFF};
+    const size_t len = 5000, many = sizeof sizes;
+    for (size_t i = 0; i < many * many * many * many; i++) {
+        unsigned char *buf = zeros(len);
+        bool is_size = true;
+        size_t size = 0, left = i;
+        memcpy(buf, "ID3\4", 4);
+        for (size_t place = 6; place < 10; place++, left /= many) {
+            buf[place] = sizes[left % many];
+            is_size = is_size && buf[place] < 0x80;
+            size = size << 7 | (buf[place] & 0x7F);
+        }
+        bool is_inside = 10 + size + 4 <= len;
+        if (is_inside) memcpy(buf + 10 + size, "fLaC", 4);
+        wants("a tag", buf, len, is_size && is_inside ? "flac" : "mp3");
+    }
+}
+
+/* A document of Word with an entry behind the first, whose name is said to be of any length. */
+static void entries(void) {
+    const unsigned whole = sizeof "word/vbaProject.bin" - 1;
+    unsigned char sample[INFER_SAMPLE_SIZE];
+    int32_t row = (int32_t)infer_row_count();
+    while (strcmp(infer_extension_text(row), "docm") != 0)
+        row++;
+    size_t len = infer_sample(row, sample, sizeof sample);
+    for (unsigned length = 0; length <= 0xFFFF; length++) {
+        unsigned char *buf = zeros(len);
+        memcpy(buf, sample, len);
+        little(buf + 48 + 26, length, 2);
+        wants("a document with an entry", buf, len, length == whole ? "docm" : "docx");
+    }
+}
+
 int main(void) {
     unsigned char *room = guarded(whole_pages(ROOM));
     if (!room) return perror("inside"), 2;
@@ -167,6 +250,9 @@ int main(void) {
     archives();
     tables();
     chunks();
+    programs();
+    tags();
+    entries();
     printf("%ld buffers with something inside, %ld answers wrong\n", asked, wrong);
     return wrong != 0;
 }

@@ -199,18 +199,46 @@ def program(buf):
     return names[0].rstrip(b"0123456789.") if names else None
 
 
+def past_subset(buf, at):
+    """Where the bracket of an internal subset closes that opens there, in neither quotes nor a comment nor an instruction."""
+    sealed = re.compile(rb"\"[^\"]*\"|'[^']*'|<\?(?s:.*?)\?>|<!--(?s:.*?)-->")
+    at += 1
+    while at < len(buf) and buf[at] != ord("]"):
+        if found := sealed.match(buf, at):
+            at = found.end()
+        elif re.compile(rb"[\"']|<\?|<!--").match(buf, at):
+            return None
+        else:
+            at += 1
+    return at + 1 if at < len(buf) else None
+
+
+def past_declaration(buf, at):
+    """Where the name of a document type begins that is declared there, and where its declaration ends."""
+    if not (found := re.compile(rb"<!DOCTYPE[\t\n\r ]+(?=([^\t\n\r ]))[^>\[]*").match(buf, at)):
+        return None
+    name, at = found.start(1), found.end()
+    if buf[at : at + 1] == b"[":
+        if (at := past_subset(buf, at)) is None:
+            return None
+        at += len(buf[at:]) - len(buf[at:].lstrip(b"\t\n\r "))
+    return (name, at + 1) if buf[at : at + 1] == b">" else None
+
+
 def root(buf):
     """The local name of the root element, and what its tag has behind that."""
     at, declared = (3 if buf.startswith(b"\xef\xbb\xbf") else 0), None
     while True:
         if found := re.compile(rb"[\t\n\r ]+|<\?(?s:.*?)\?>|<!--(?s:.*?)-->").match(buf, at):
             at = found.end()
-        elif declared is None and (found := re.compile(rb"<!DOCTYPE[\t\n\r ]+(?![\t\n\r ])(([^>\t\n\r ]*)[^>]*)>").match(buf, at)) and b"[" not in found[1]:
-            at, declared = found.end(), found[2]
+        elif declared is None and (found := past_declaration(buf, at)):
+            declared, at = found
         else:
             break
     found = re.compile(rb"<([^\t\n\r />]+)(?=[\t\n\r />])").match(buf, at)
-    if not found or found[1][:1] in b"!?" or (declared is not None and declared != found[1]):
+    if not found or found[1][:1] in b"!?":
+        return None, b""
+    if declared is not None and not re.compile(re.escape(found[1]) + rb"[\t\n\r >\[]").match(buf, declared):
         return None, b""
     local = found[1].rpartition(b":")[2]
     return (local or None), buf[found.end() :].partition(b">")[0]

@@ -206,6 +206,7 @@ def encoding(buf):
 # ---- roots. Of a prolog that XML allows expat tells the root; a tag that is cut behind its name is completed.
 
 NAMES = ["svg", "svg", "s:svg", "svgs", "SVG", "kml", "xsvg", "a:kml"]
+SUBSETS = ["", "", "[]", " [ ] ", "[<!ELEMENT g (#PCDATA)>]", " [<!ENTITY a ']>'>]\n", "[<!ENTITY a \"'\">]", "[<!-- don't ]> --><?pi \"]> ?>]"]
 TAG_ENDS = [b">", b'">', b"'>", b'="">', b'"">']
 
 
@@ -213,7 +214,7 @@ def markup_buffer(rng):
     name = rng.choice(NAMES)
     parts = [rng.choice([" ", "\n", "\t\r\n", "<!-- a > b -->", "<!---->", "<?pi a > b?>", "<?pi?>"]) for _ in range(rng.randrange(5))]
     if rng.random() < 0.3:
-        parts.insert(rng.randrange(len(parts) + 1), f"<!DOCTYPE {name}" + rng.choice(["", " ", ' SYSTEM "x.dtd"']) + ">")
+        parts.insert(rng.randrange(len(parts) + 1), f"<!DOCTYPE {name}" + rng.choice(["", " ", ' SYSTEM "x.dtd"']) + rng.choice(SUBSETS) + ">")
     if rng.random() < 0.4:
         parts.insert(0, '<?xml version="1.0"?>')
     attributes = rng.choice(["", " ", ' a="1"', "\n b='>'", ' a="1" b="2"'])

@@ -1,5 +1,5 @@
 -- What texts begin with: what more bytes keep and may bring, and what a computation says of it.
-use Rattle.infer_formats.proofs.Common.{[], IsFirstWithin, Option, None, Some, is_some, refl, ◌↔◌, ◌⊎◌, inl, inr, ℕ, ◌+◌, ◌≤◌, IsTrue, List, ◌∷◌, ◌++◌, length, suc, zero, arith, OccursAt, OccursAt-append, AgreesAt, MayBecome, grown_agrees, StandsByPlace, accepts, stands, at_least, utf8_mark}
+use Rattle.infer_formats.proofs.Common.{[], IsFirstWithin, Option, None, Some, is_some, refl, ◌↔◌, ◌⊎◌, inl, inr, ℕ, ◌+◌, IsTrue, List, ◌∷◌, ◌++◌, length, suc, arith, OccursAt, OccursAt-append, AgreesAt, MayBecome, grown_agrees, StandsByPlace, accepts, stands, at_least, utf8_mark}
 use Rattle.infer_formats.specs.Begins.{Begins, BeginsAndHas, BeginsAndHasAll}
 use Rattle.infer_formats.proofs.OutlineLemmas.{marked, marked_line, occurs, one}
 use Rattle.infer_formats.specs.Outline.{first_lines}

@@ -55,7 +55,7 @@ pub use Rattle.infer_formats.specs.JsonStates.{StartsLine, TellsAsMuch, closing,
 pub use Rattle.infer_formats.specs.JsonStates.{next_left, beginning}
 pub use Rattle.infer_formats.specs.Markup.{AgreesWithDoctype, BeginsAt, BeginsElement, ClosesDeclaration, HasInTag}
 pub use Rattle.infer_formats.specs.Markup.{HasRoot, HasRootWith, IsDoctype, IsEnclosed, IsMisc, IsNameByte, IsPart}
-pub use Rattle.infer_formats.specs.Markup.{IsRootElement, IsSpaceRun, IsTypeByte, IsXmlSpace, ReachesTag, MayStart}
+pub use Rattle.infer_formats.specs.Markup.{IsRootElement, IsSpaceRun, EndsType, IsXmlSpace, ReachesTag, MayStart}
 pub use Rattle.infer_formats.specs.Markup.{MayReachTag, StartsTag, utf8_mark}
 unfoldable pub use Rattle.infer_formats.specs.Numbers.{be16}
 pub use Rattle.infer_formats.specs.Numbers.{bytes16, low_bytes, number16, number32, number64}

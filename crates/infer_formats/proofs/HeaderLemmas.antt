@@ -1,10 +1,10 @@
 -- Later headers: what more bytes keep and may bring, and what a computation says of them.
-use Rattle.infer_formats.proofs.Common.{◌≡◌, ◌⊎◌, inl, inr, ℕ, ◌+◌, ◌<◌, ◌≤◌, List, [], ◌∷◌, ◌++◌, IsTrue, length, slice_index, codes, suc, sym, subst, arith, cases_lt, le16-append, le32-append, OccursAt, OccursAt-append, AgreesAt, MayBecome, grown_agrees, StandsByPlace, accepts, lines, stands, ◌↔◌, le16}
+use Rattle.infer_formats.proofs.Common.{◌≡◌, ◌⊎◌, inl, inr, ℕ, ◌+◌, ◌<◌, ◌≤◌, List, ◌++◌, IsTrue, length, codes, sym, subst, arith, cases_lt, le16-append, le32-append, OccursAt, OccursAt-append, AgreesAt, MayBecome, grown_agrees, StandsByPlace, accepts, lines, stands, ◌↔◌, le16}
 use Rattle.infer_formats.specs.Header.{HasLaterHeader, later_place}
 use Rattle.infer_formats.specs.Relation.{header}
 use Rattle.infer_formats.proofs.GrowthLemmas.{longer}
 use Rattle.infer_formats.proofs.OutlineLemmas.{begins}
-use Rattle.infer_sig.proofs.KnownLemmas.{Known, at_most, needs, proved, takes, ◌>>=◌}
+use Rattle.infer_sig.proofs.KnownLemmas.{Known, at_most, needs, proved, ◌>>=◌}
 use Rattle.infer_sig.proofs.OccurrenceLemmas.{ByPlace, occurs}
 
 module _ (b more : List ℕ) (long : 64 ≤ length b) where

@@ -26,6 +26,7 @@ pub mod RelationLemmas
 pub mod RootLemmas
 pub mod RunLemmas
 pub mod ScriptLemmas
+pub mod SubsetLemmas
 pub mod SubtitlesLemmas
 pub mod TarLemmas
 pub mod TestLemmas

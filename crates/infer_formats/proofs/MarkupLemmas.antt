@@ -1,22 +1,13 @@
 -- The parts of a prolog, the tag that they lead to, the name of the document type, and what more bytes may make of them.
-use Rattle.infer_formats.proofs.Common.{◌≡◌, ◌↔◌, ℕ, ◌+◌, ◌-◌, ◌<◌, ◌≤◌, ◌⊎◌, inl, inr, List, ◌++◌, Option, None, Some, length, codes, get_or, add-zero, refl, sym, subst, ap, ◌∙◌, arith, cases_lt, ext_get_or, slice_range, OccursAt, Lasts, AgreesWithDoctype, BeginsAt, BeginsElement, ClosesDeclaration, HasRoot, HasRootWith, IsDoctype, IsEnclosed, IsMisc, IsPart, IsRootElement, IsSpaceRun, IsTypeByte, IsXmlSpace, ReachesTag, StartsTag, utf8_mark, IsAfterLast, IsRun, zero, suc, drop, get_or_append_left, AgreesAt, MayBecome, grown_agrees, OccursAt-front, HasInTag, drop-append-le, IsFirstPlace-same, IsNameByte, MayReachTag, part_reads}
+use Rattle.infer_formats.proofs.Common.{◌≡◌, ◌↔◌, ℕ, ◌+◌, ◌-◌, ◌<◌, ◌≤◌, ◌⊎◌, inl, inr, List, ◌++◌, Option, None, Some, length, codes, get_or, add-zero, refl, sym, subst, ap, ◌∙◌, arith, cases_lt, slice_range, OccursAt, Lasts, AgreesWithDoctype, BeginsAt, BeginsElement, ClosesDeclaration, HasRoot, HasRootWith, IsDoctype, IsEnclosed, IsMisc, IsPart, IsRootElement, IsSpaceRun, EndsType, IsXmlSpace, ReachesTag, StartsTag, utf8_mark, IsAfterLast, IsRun, zero, suc, drop, get_or_append_left, AgreesAt, MayBecome, grown_agrees, OccursAt-front, HasInTag, drop-append-le, IsNameByte, MayReachTag}
 use Rattle.infer_formats.specs.Markup.{StartsElement, here, later}
 use Rattle.infer_formats.proofs.FrontLemmas.{SharesFront, after_last_shared, byte_shared, byte_shared_back, front_grows, front_swaps, range_shared, run_shared, text_shared}
-use Rattle.infer_formats.proofs.PartLemmas.{part_length}
 use Rattle.infer_formats.proofs.RunLemmas.{one_after_last, one_run_end}
+use Rattle.infer_formats.proofs.SubsetLemmas.{close_lasts, close_within, comment_first, enclosed_lasts, instruction_first, one_close, one_enclosed}
 
 -- what the first bytes of a part are
 pub space_first : (b : List ℕ) (p q : ℕ) → IsSpaceRun b p q → IsXmlSpace (get_or b p 0)
 space_first b p q (some, run) = run.bytes p (omega arith) some
-
-pub instruction_first : (b : List ℕ) (p q : ℕ) → IsEnclosed b (codes "<?") (codes "?>") p q
-    → (get_or b p 0 ≡ 0x3C) × (get_or b (p + 1) 0 ≡ 0x3F)
-instruction_first b p q (o, end) = (rw add-zero at (o.reads 0 (omega arith)), o.reads 1 (omega arith))
-
-pub comment_first : (b : List ℕ) (p q : ℕ) → IsEnclosed b (codes "<!--") (codes "-->") p q
-    → (get_or b p 0 ≡ 0x3C) × (get_or b (p + 1) 0 ≡ 0x21) × (get_or b (p + 2) 0 ≡ 0x2D)
-comment_first b p q (o, end) =
-    (rw add-zero at (o.reads 0 (omega arith)), o.reads 1 (omega arith), o.reads 2 (omega arith))
 
 doctype_first : (b : List ℕ) (p name close : ℕ) → IsDoctype b p name close
     → (get_or b p 0 ≡ 0x3C) × (get_or b (p + 1) 0 ≡ 0x21) × (get_or b (p + 2) 0 ≡ 0x44)
@@ -28,11 +19,6 @@ pub not_space : (x : ℕ) → x ≡ 0x3C → ¬ IsXmlSpace x
 not_space x is s = grind arith
 
 -- so one part stands at a place
-one_enclosed : (b opening closing : List ℕ) (p q r : ℕ) → IsEnclosed b opening closing p q
-    → IsEnclosed b opening closing p r → q ≡ r
-one_enclosed b opening closing p q r (o, (e, first, is)) (_, (f, other, same)) =
-    let one = IsFirstPlace-same OccursAt b closing (p + length opening) (length b) e f first other in omega arith
-
 one_misc : (b : List ℕ) (p q r : ℕ) → IsMisc b p q → IsMisc b p r → q ≡ r
 one_misc b p q r (inl s) (inl t) = one_run_end IsXmlSpace b p q r s.1 t.1
 one_misc b p q r (inr (inl i)) (inr (inl j)) = one_enclosed b (codes "<?") (codes "?>") p q r i j
@@ -58,7 +44,7 @@ one_doctype : (b : List ℕ) (p name close other end : ℕ) → IsDoctype b p na
 one_doctype b p name close other end d e =
     let same = one_run_end IsXmlSpace b (p + 9) name other d.space.1 e.space.1 in
     let moved = subst (λ n. ClosesDeclaration b n close) same d.closes in
-    (same, one_run_end (λ x. (x ≡ 0x3E → ⊥) × (x ≡ 0x5B → ⊥)) b other close end moved.0 e.closes.0)
+    (same, one_close b other close end moved e.closes)
 
 one_part : (b : List ℕ) (p : ℕ) (d : Option ℕ) (q : ℕ) (e : Option ℕ) (r : ℕ) (f : Option ℕ)
     → IsPart b p d q e → IsPart b p d r f → (q ≡ r) × (e ≡ f)
@@ -78,8 +64,7 @@ part_within b p d q e (inl (inr (inl (o, (end, first, same))), is)) = let w = fi
 part_within b p d q e (inl (inr (inr (o, (end, first, same))), is)) = let w = first.here in (omega arith, omega arith)
 part_within b p d q e (inr (name, close, doctype, none, ends, is)) =
     let space = doctype.space in
-    let order = doctype.closes.0.order in
-    let whole = doctype.closes.0.whole in (omega (arith, space.0), omega arith)
+    let within = close_within b name close doctype.closes in (omega (arith, space.0), omega arith)
 
 no_tag : (b : List ℕ) (at to p : ℕ) (d : Option ℕ) (q : ℕ) (e : Option ℕ) → IsPart b p d q e → ¬ StartsTag b at to p d
 no_tag b at to p d q e (inl (inl s, is)) tag = not_space _ tag.starts (space_first b p q s)
@@ -132,44 +117,6 @@ one_lead b at to from end p d (here _ _ t) other = elim (ways b from end p d oth
 ]
 one_lead b at to from end p d (later _ _ q e part rest) other =
     one_lead b at to from end q e rest ((past_part b from end p d q e part).0 other)
-
--- an element's name is that of the document type if it stands there, and no byte of such a name follows
-pub is_declared : (b : List ℕ) (name p q : ℕ) → IsRun IsNameByte b p q
-    → (OccursAt b (slice_range b p q) name × (name + (q - p) < length b) × (¬ IsTypeByte (get_or b (name + (q - p)) 0)))
-    ↔ AgreesWithDoctype b (Some name) p q
-is_declared b name p q run =
-    let order = run.order in
-    let whole = run.whole in
-    let long = part_length b p q order (omega arith) in (
-      λ (o, fits, ends).
-          let end = name + (q - p) in
-          let fill = part_length b name end (omega arith) (omega arith) in
-          let reads : (k : ℕ) → k < q - p → get_or b (name + k) 0 ≡ get_or b (p + k) 0 =
-          λ k lt. o.reads k (omega arith) ∙ part_reads b p q k (omega arith) in
-          let bytes : (k : ℕ) → name ≤ k → k < end → IsTypeByte (get_or b k 0) =
-          λ k low high.
-          let same : name + (k - name) ≡ k = omega arith in
-          let kind = run.bytes (p + (k - name)) (omega arith) (omega arith) in
-          subst (λ i. IsTypeByte (get_or b i 0)) same (subst IsTypeByte (sym (reads (k - name) (omega arith))) kind.0) in (
-            end,
-            record { order = omega arith; bytes = bytes; whole = fits; ends = ends },
-            ext_get_or 0 _ _ (omega arith)
-                (λ k lt.
-                part_reads b name end k (omega arith) ∙ reads k (omega arith) ∙ sym (part_reads b p q k (omega arith))),
-          ),
-      λ (end, is, same).
-          let fill = part_length b name end is.order (let w = is.whole in omega arith) in
-          let equal = ap length same in
-          let low = is.order in
-          let there : end ≡ name + (q - p) = omega arith in (
-            record {
-              fits = let w = is.whole in omega arith;
-              reads = λ k lt. sym (part_reads b name end k (omega arith)) ∙ ap (λ xs. get_or xs k 0) same;
-            },
-            let w = is.whole in omega arith,
-            subst (λ x. ¬ IsTypeByte (get_or b x 0)) there is.ends,
-          ),
-    )
 
 -- where no white space, instruction, comment or first declaration stands, no part does
 pub no_part : (b : List ℕ) (p : ℕ) (d : Option ℕ) → ((q : ℕ) → ¬ IsMisc b p q)
@@ -285,45 +232,18 @@ module _ (b c : List ℕ) (s : SharesFront (length b) b c) where
   space_lasts : (p q : ℕ) → IsSpaceRun b p q → IsSpaceRun c p q
   space_lasts p q (some, run) = (some, run_shared (length b) b c s IsXmlSpace p q run.whole run)
 
-  pub enclosed_lasts : (opening closing : List ℕ) (p q : ℕ) → IsEnclosed b opening closing p q
-      → IsEnclosed c opening closing p q
-  enclosed_lasts opening closing p q (o, (e, first, is)) =
-      let here = first.here in
-      let fits = here.high in
-      let back = front_swaps (length b) b c s in (
-        text_shared (length b) b c s opening p o.fits o,
-        (
-          e,
-          record {
-            here = record {
-              stands = text_shared (length b) b c s closing e fits here.stands;
-              low = here.low;
-              high = let long = s.second in omega arith;
-            };
-            before = λ k lt w.
-                let stands = text_shared (length b) c b back closing k (omega arith) w.stands in
-                first.before k lt (record { stands = stands; low = w.low; high = omega arith });
-          },
-          is,
-        ),
-      )
-
   pub part_lasts : (p : ℕ) (d : Option ℕ) (q : ℕ) (e : Option ℕ) → IsPart b p d q e → IsPart c p d q e
   part_lasts p d q e (inl (inl space, is)) = inl (inl (space_lasts p q space), is)
-  part_lasts p d q e (inl (inr (inl i), is)) = inl (inr (inl (enclosed_lasts (codes "<?") (codes "?>") p q i)), is)
-  part_lasts p d q e (inl (inr (inr i), is)) = inl (inr (inr (enclosed_lasts (codes "<!--") (codes "-->") p q i)), is)
+  part_lasts p d q e (inl (inr (inl i), is)) = inl (inr (inl (enclosed_lasts b c s (codes "<?") (codes "?>") p q i)), is)
+  part_lasts p d q e (inl (inr (inr i), is)) = inl (inr (inr (enclosed_lasts b c s (codes "<!--") (codes "-->") p q i)), is)
   part_lasts p d q e (inr (name, close, doctype, none, ends, is)) =
-      let (run, bracket) = doctype.closes in
       inr (
         name,
         close,
         record {
           starts = text_shared (length b) b c s (codes "<!DOCTYPE") p doctype.starts.fits doctype.starts;
           space = space_lasts (p + 9) name doctype.space;
-          closes = (
-            run_shared (length b) b c s (λ x. (x ≡ 0x3E → ⊥) × (x ≡ 0x5B → ⊥)) name close run.whole run,
-            byte_shared (length b) b c s (λ x. x ≡ 0x3E) close run.whole bracket,
-          );
+          closes = close_lasts b c s name close doctype.closes;
         },
         none,
         ends,
@@ -332,12 +252,11 @@ module _ (b c : List ℕ) (s : SharesFront (length b) b c) where
 
   pub name_lasts : (d : Option ℕ) (p q : ℕ) → p ≤ q → q ≤ length b → AgreesWithDoctype b d p q → AgreesWithDoctype c d p q
   name_lasts None p q order high is = is
-  name_lasts (Some name) p q order high (end, run, is) =
-      let whole = run.whole in
-      let declared = range_shared (length b) b c s name end run.order (omega arith) in (
-        end,
-        run_shared (length b) b c s IsTypeByte name end whole run,
-        sym declared ∙ is ∙ range_shared (length b) b c s p q order high,
+  name_lasts (Some name) p q order high (o, fits, ends) =
+      let same = range_shared (length b) b c s p q order high in (
+        subst (λ t. OccursAt c t name) same (text_shared (length b) b c s (slice_range b p q) name o.fits o),
+        (let long = s.second in omega arith),
+        byte_shared (length b) b c s EndsType (name + (q - p)) fits ends,
       )
 
   pub tag_lasts : (at to p : ℕ) (d : Option ℕ) → StartsTag b at to p d → StartsTag c at to p d

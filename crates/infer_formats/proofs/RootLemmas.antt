@@ -51,7 +51,7 @@ not_behind_space (x ∷ b) h (suc k) spaces e = elim (or_cases (not (is_space x)
 
 -- a name can have such signs
 name_sign : (x : ℕ) → IsTrue (is_sign x) → IsNameByte x
-name_sign x h = ((λ space. grind (arith, nat_tests), λ e. grind (arith, nat_tests)), λ e. grind (arith, nat_tests))
+name_sign x h = (λ space. grind (arith, nat_tests), λ e. grind (arith, nat_tests), λ e. grind (arith, nat_tests))
 
 -- no ">" stands there
 pub unclosed : (t : List ℕ) → IsTrue (not (list_any (λ x. x == 0x3E) t)) → (k : ℕ) → slice_index t k ≢ 0x3E
@@ -109,7 +109,7 @@ module _ (by_place : ByPlace) (inside : Leads) (single : Single) (b : List ℕ) 
           order = omega arith;
           bytes = λ k low high. name_sign (slice_index b k) (letters k low high);
           whole = whole;
-          ends = λ is. elim ends [ inl e ↦ is.0.1 e | inr e ↦ is.0.0 (inr (inr (inr e))) ];
+          ends = λ is. elim ends [ inl e ↦ is.1 e | inr e ↦ is.0 (inr (inr (inr e))) ];
         };
         begins = (λ e. grind (arith, nat_tests), λ e. grind (arith, nat_tests));
         local = record {

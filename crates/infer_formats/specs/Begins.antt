@@ -1,5 +1,5 @@
 -- Texts by what they begin with.
-use Rattle.std.specs.Prelude.{ℕ, List, [], ◌∷◌, ◌⊎◌}
+use Rattle.std.specs.Prelude.{ℕ, List, ◌⊎◌}
 use Rattle.memchr.specs.Find.{OccursAt}
 use Rattle.infer_formats.specs.Markup.{utf8_mark}
 

@@ -1,6 +1,6 @@
 -- Markup, by its root element: the first element, behind a prolog of white space, processing instructions, comments and
 -- at most one document type declaration.
-use Rattle.std.specs.Prelude.{◌≡◌, ◌≢◌, ◌↔◌, ℕ, ◌+◌, ◌<◌, ◌≤◌, ◌⊎◌, List, [], ◌∷◌, ◌++◌, length, codes, drop, slice_index, slice_range, Option, None, Some}
+use Rattle.std.specs.Prelude.{◌≡◌, ◌≢◌, ◌↔◌, ℕ, ◌+◌, ◌-◌, ◌<◌, ◌≤◌, ◌⊎◌, List, [], ◌∷◌, ◌++◌, length, codes, drop, slice_index, slice_range, Option, None, Some, MatchOption}
 use Rattle.memchr.specs.Find.{OccursAt}
 use Rattle.infer_deep.specs.Open.{AgreesAt}
 use Rattle.infer_deep.specs.Places.{IsFirstPlace}
@@ -10,13 +10,13 @@ use Rattle.infer_formats.specs.Runs.{IsAfterLast, IsRun}
 abbrev pub IsXmlSpace : ℕ → Type 0
 IsXmlSpace x = (x ≡ 0x09) ⊎ (x ≡ 0x0A) ⊎ (x ≡ 0x0D) ⊎ (x ≡ 0x20)
 
--- what is neither white space nor ">" is a byte of a document type's name
-abbrev pub IsTypeByte : ℕ → Type 0
-IsTypeByte x = (¬ IsXmlSpace x) × (x ≢ 0x3E)
-
--- what is not "/" either is one of an element's name
+-- what is neither white space, ">" nor "/" is a byte of an element's name
 abbrev pub IsNameByte : ℕ → Type 0
-IsNameByte x = IsTypeByte x × (x ≢ 0x2F)
+IsNameByte x = (¬ IsXmlSpace x) × (x ≢ 0x3E) × (x ≢ 0x2F)
+
+-- white space, ">" and "[" end the name of a document type
+abbrev pub EndsType : ℕ → Type 0
+EndsType x = IsXmlSpace x ⊎ (x ≡ 0x3E) ⊎ (x ≡ 0x5B)
 
 -- from p up to q stands white space, at least a byte of it, and all that stands there
 abbrev pub IsSpaceRun : List ℕ → ℕ → ℕ → Type 0
@@ -33,12 +33,52 @@ abbrev pub IsMisc : List ℕ → ℕ → ℕ → Type 0
 IsMisc b p q =
     IsSpaceRun b p q ⊎ IsEnclosed b (codes "<?") (codes "?>") p q ⊎ IsEnclosed b (codes "<!--") (codes "-->") p q
 
+-- neither ">" nor "["
+abbrev pub IsPlainByte : ℕ → Type 0
+IsPlainByte x = (x ≢ 0x3E) × (x ≢ 0x5B)
+
+-- from p up to q stands what has an end of its own: a text in quotes, a processing instruction or a comment
+abbrev pub IsSealed : List ℕ → ℕ → ℕ → Type 0
+IsSealed b p q =
+    IsEnclosed b (codes "\"") (codes "\"") p q ⊎ IsEnclosed b (codes "'") (codes "'") p q
+    ⊎ IsEnclosed b (codes "<?") (codes "?>") p q ⊎ IsEnclosed b (codes "<!--") (codes "-->") p q
+
+-- one of these begins at p
+abbrev pub OpensSeal : List ℕ → ℕ → Type 0
+OpensSeal b p = OccursAt b (codes "\"") p ⊎ OccursAt b (codes "'") p ⊎ OccursAt b (codes "<?") p ⊎ OccursAt b (codes "<!--") p
+
+-- r is what follows on the byte at p, or on what begins by it and has an end of its own; none if that does not end
+abbrev pub IsPastPiece : List ℕ → ℕ → Option ℕ → Type 0
+IsPastPiece b p r =
+    MatchOption r (OpensSeal b p × ((q : ℕ) → ¬ IsSealed b p q)) (λ q. IsSealed b p q ⊎ ((¬ OpensSeal b p) × (q ≡ p + 1)))
+
+-- an internal subset goes on from p up to the "]" at `end`, the first that stands in none of these
+pub data EndsSubset (b : List ℕ) (end : ℕ) : ℕ → Type 0 where
+  ends_here : slice_index b end ≡ 0x5D → EndsSubset b end end
+  past_sealed : (p q : ℕ) → IsSealed b p q → EndsSubset b end q → EndsSubset b end p
+  past_byte : (p : ℕ) → (¬ OpensSeal b p) → (slice_index b p ≢ 0x5D) → EndsSubset b end (p + 1) → EndsSubset b end p
+
 -- the first ">" from `from` on is at `close`, and no "[" stands before it
+abbrev pub ClosesPlain : List ℕ → ℕ → ℕ → Type 0
+ClosesPlain b from close = IsRun IsPlainByte b from close × (slice_index b close ≡ 0x3E)
+
+-- behind the "[" at `bracket` an internal subset goes on up to a "]", and behind that white space, perhaps none, up to the ">" at
+-- `close`
+abbrev pub ClosesBehind : List ℕ → ℕ → ℕ → Type 0
+ClosesBehind b bracket close =
+    (end : ℕ) × EndsSubset b end (bracket + 1) × (end < close) × ((k : ℕ) → end < k → k < close → IsXmlSpace (slice_index b k))
+    × (slice_index b close ≡ 0x3E)
+
+-- the first "[" from `from` on, no ">" before it, has such a ">"
+abbrev pub ClosesSubset : List ℕ → ℕ → ℕ → Type 0
+ClosesSubset b from close =
+    (bracket : ℕ) × IsRun IsPlainByte b from bracket × (slice_index b bracket ≡ 0x5B) × ClosesBehind b bracket close
+
 abbrev pub ClosesDeclaration : List ℕ → ℕ → ℕ → Type 0
-ClosesDeclaration b from close = IsRun (λ x. (x ≢ 0x3E) × (x ≢ 0x5B)) b from close × (slice_index b close ≡ 0x3E)
+ClosesDeclaration b from close = ClosesPlain b from close ⊎ ClosesSubset b from close
 
 -- a document type declaration stands at p: "<!DOCTYPE", white space, a name that begins at `name`, and all up to the
--- first ">" behind the white space, which is at `close`, without a "["
+-- ">" at `close`
 pub record IsDoctype (b : List ℕ) (p name close : ℕ) : Type 0 where
   pub starts : OccursAt b (codes "<!DOCTYPE") p
   pub space : IsSpaceRun b (p + 9) name
@@ -55,7 +95,7 @@ IsPart b p d q e =
 abbrev pub AgreesWithDoctype : List ℕ → Option ℕ → ℕ → ℕ → Type 0
 AgreesWithDoctype b None p q = Unit {0}
 AgreesWithDoctype b (Some name) p q =
-    (end : ℕ) × IsRun IsTypeByte b name end × (slice_range b name end ≡ slice_range b p q)
+    OccursAt b (slice_range b p q) name × (name + (q - p) < length b) × EndsType (slice_index b (name + (q - p)))
 
 -- "!" and "?" begin no element's name
 abbrev pub BeginsElement : ℕ → Type 0

@@ -31,7 +31,6 @@ use Rattle.infer_formats.specs.declared.relation.OfText.TheVariants.{AnyEntry, B
 use Rattle.infer_formats.specs.declared.relation.Relation as declared
 use Rattle.infer_formats.specs.declared.relation.Relation.TheVariants as listed
 use Rattle.infer_formats.specs.declared.relation.Takes.{Takes}
-use Rattle.infer_formats.specs.declared.relation.Takes.TheVariants as Takes
 use Rattle.infer_formats.specs.declared.relation.Takes.TheVariants.{ClassId, Entry, Nothing, OneText, Program, Root, Tag}
 use Rattle.infer_formats.specs.declared.token.Token as tokens
 use denote.Ref.{Bor}

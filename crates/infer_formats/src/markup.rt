@@ -58,9 +58,10 @@ pub fn has_root_with(buf: &[u8], name: &[u8], text: &[u8]) -> bool
 /// The root element of markup, as that of the name "svg" in `<?xml version="1.0"?><!-- --><s:svg>`.
 ///
 /// A byte order mark of UTF-8 may stand first, and then a prolog: any number of white spaces (09, 0A, 0D and 20), of
-/// "<?" up to "?>" and of "<!--" up to "-->", and once "<!DOCTYPE", white space and all up to ">", without a "[". The
-/// root element's tag follows: "<" and its name, which goes up to white space, "/" or ">", begins with neither "!" nor
-/// "?", and ends within the buffer. If a document type was declared, its name is the same.
+/// "<?" up to "?>" and of "<!--" up to "-->", and once "<!DOCTYPE", white space and all up to ">". If a "[" stands before
+/// that, all up to its "]" comes first: one in quotes, a comment or an instruction is none. The root element's tag follows:
+/// "<" and its name, which goes up to white space, "/" or ">", begins with neither "!" nor "?", and ends within the buffer.
+/// If a document type was declared, its name is the same.
 #[inline(always)]
 pub fn root_of(buf: &[u8]) -> Option<Root<'_>>
     ensures found { MatchOption result ((name rest : List ℕ) → ¬ IsRootElement name rest buf.now)

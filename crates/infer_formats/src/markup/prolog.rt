@@ -2,12 +2,12 @@
 ghost use Rattle.std.specs.Prelude.{◌≡◌, ◌↔◌, Some, ◌+◌, ◌++◌, ◌<◌, ◌≤◌, ℕ, List, Option, None, length, codes, slice_index, IsTrue, MatchOption};
 ghost use Rattle.infer_deep.specs.Places.{FindsPlace};
 ghost use Rattle.infer_formats.specs.Runs.{IsAfterLast, IsRun};
-ghost use Rattle.infer_formats.specs.Markup.{AgreesWithDoctype, BeginsAt, ClosesDeclaration, EndsProlog, IsDoctype, IsEnclosed, IsMisc, IsNameByte, IsPart, IsSpaceRun, IsXmlSpace, ReachesTag, StartsElement, StartsTag};
+ghost use Rattle.infer_formats.specs.Markup.{AgreesWithDoctype, BeginsAt, ClosesBehind, ClosesDeclaration, EndsProlog, EndsSubset, IsDoctype, IsEnclosed, IsMisc, IsNameByte, IsPart, IsPastPiece, IsPlainByte, IsSpaceRun, IsXmlSpace, ReachesTag, StartsElement, StartsTag};
 
-use super::names::{begins_element, is_name_byte, is_type_byte, is_xml_space};
-use crate::search::{find_closing, find_near};
+use super::names::{begins_element, ends_type, is_name_byte, is_xml_space};
+use crate::search::find_closing;
 use infer_deep::places::{has_at, same_at, stands_at};
-use memchr::memchr;
+use memchr::memchr2;
 
 /// How far the prolog has been read, whether the tag of an element starts there, and where the name of the document type
 /// stands that it declares.
@@ -236,16 +236,83 @@ fn doctype_at(buf: &[u8], place: usize) -> Option<Doctype>
     Some(Doctype { name, close })
 }
 
-/// Where the first ">" from that place on is, if no "[" stands before it.
+/// Where the ">" is that closes the declaration: the first from that place on, or behind an internal subset if "[" stands
+/// before it.
 fn declaration_close(buf: &[u8], from: usize) -> Option<usize>
     requires { from ≤ length buf.now }
     ensures { FindsPlace (ClosesDeclaration buf.now from) result }
 {
-    let close = find_near(buf, b'>', from)?;
-    if memchr(b'[', &buf[from..close]).is_some() {
+    let stop = plain_end(buf, from)?;
+    if buf[stop] == b'>' {
+        return Some(stop);
+    }
+    subset_close(buf, stop)
+}
+
+/// Where the first ">" or "[" from that place on is.
+fn plain_end(buf: &[u8], from: usize) -> Option<usize>
+    requires { from ≤ length buf.now }
+    ensures { FindsPlace (IsRun IsPlainByte buf.now from) result }
+{
+    Some(from + memchr2(b'>', b'[', &buf[from..])?)
+}
+
+/// Where the ">" is that stands behind the internal subset which begins behind that bracket.
+#[tactic(auto, using(crate::proofs::SubsetLemmas::subset_within))]
+fn subset_close(buf: &[u8], bracket: usize) -> Option<usize>
+    requires { bracket < length buf.now }
+    ensures { FindsPlace (ClosesBehind buf.now bracket) result }
+{
+    let end = subset_end(buf, bracket + 1)?;
+    let close = spaces_end(buf, end + 1);
+    if close == buf.len() || buf[close] != b'>' {
         return None;
     }
     Some(close)
+}
+
+/// Where the "]" is up to which an internal subset goes on from that place.
+fn subset_end(buf: &[u8], from: usize) -> Option<usize>
+    requires { from ≤ length buf.now }
+    ensures { FindsPlace (λ end. EndsSubset buf.now end from) result }
+{
+    let mut place = from;
+    while place < buf.len() {
+        if buf[place] == b']' {
+            return Some(place);
+        }
+        place = past_piece(buf, place)?;
+    }
+    None
+}
+
+/// What follows on the byte of an internal subset that stands there, or on what begins by it and has an end of its own. `None`
+/// if that does not end.
+fn past_piece(buf: &[u8], place: usize) -> Option<usize>
+    requires whole { place < length buf.now }
+    ensures { IsPastPiece buf.now place result }
+{
+    match buf[place] {
+        b'"' => enclosed_end(buf, b"\"", b"\"", place),
+        b'\'' => enclosed_end(buf, b"'", b"'", place),
+        b'<' => past_opening(buf, place),
+        _ => Some(place + 1),
+    }
+}
+
+/// [`past_piece`] of a "<".
+fn past_opening(buf: &[u8], place: usize) -> Option<usize>
+    requires whole { place < length buf.now }
+    requires opens { slice_index buf.now place ≡ 0x3C }
+    ensures { IsPastPiece buf.now place result }
+{
+    if has_at(buf, b"<?", place) {
+        return enclosed_end(buf, b"<?", b"?>", place);
+    }
+    if has_at(buf, b"<!--", place) {
+        return enclosed_end(buf, b"<!--", b"-->", place);
+    }
+    Some(place + 1)
 }
 
 /// The tag of an element that starts where the prolog ends.
@@ -313,5 +380,5 @@ fn is_doctype(buf: &[u8], name: usize, from: usize, to: usize) -> bool
         return false;
     }
     let end = name + (to - from);
-    end < buf.len() && !is_type_byte(buf[end])
+    end < buf.len() && ends_type(buf[end])
 }

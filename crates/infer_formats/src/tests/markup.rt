@@ -13,7 +13,7 @@ fn roots(rt: HostRuntime) {
         (
             b"<?xml?><!DOCTYPE svg [<!ENTITY a \"b\">]><svg>",
             b"svg",
-            false,
+            true,
         ),
         (b"<?xml?><!-- <x> --><svg>", b"svg", true),
         (b"<?xml?><!-- <svg>", b"svg", false),
@@ -65,7 +65,7 @@ fn roots_with_a_text(rt: HostRuntime) {
         ),
         (
             b"<?xml?><!DOCTYPE feed [<!ENTITY a \"b\">]><feed x=\"http://www.w3.org/2005/Atom\">",
-            false,
+            true,
         ),
         (
             b"<?xml?><!-- <feed x=\"http://www.w3.org/2005/Atom\">",
@@ -133,11 +133,51 @@ fn first_elements(rt: HostRuntime) {
     }
 }
 
+// What an XML parser passes over, and what it refuses.
+#[test]
+fn internal_subsets(rt: HostRuntime) {
+    let cases: [(&[u8], Option<&[u8]>); 18] = [
+        (b"<!DOCTYPE a[]><a>", Some(b"a")),
+        (b"<!DOCTYPE a []><a>", Some(b"a")),
+        (
+            b"<!DOCTYPE a PUBLIC 'b' \"c\" [\n<!ELEMENT a ANY>\n] \t\r\n><a>",
+            Some(b"a"),
+        ),
+        (b"<!DOCTYPE a [<!ENTITY b \"]>\">]><a>", Some(b"a")),
+        (b"<!DOCTYPE a [<!ENTITY b ']>'>]><a>", Some(b"a")),
+        (b"<!DOCTYPE a [<!ENTITY b '\"'>]><a>", Some(b"a")),
+        (b"<!DOCTYPE a [<!-- ]> \" ' -->]><a>", Some(b"a")),
+        (b"<!DOCTYPE a [<?b ]> \" ' ?>]><a>", Some(b"a")),
+        (b"<!DOCTYPE a [<!ENTITY b \"<!--\">]><a>", Some(b"a")),
+        (b"<!DOCTYPE a [%b;]><!-- --><a>", Some(b"a")),
+        (b"<!DOCTYPE a []><b>", None),
+        (b"<!DOCTYPE a [\"]><a>", None),
+        (b"<!DOCTYPE a [']><a>", None),
+        (b"<!DOCTYPE a [<?]><a>", None),
+        (b"<!DOCTYPE a [<!--]><a>", None),
+        (b"<!DOCTYPE a []", None),
+        (b"<!DOCTYPE a [] x><a>", None),
+        (b"<!DOCTYPE a [>]<a>", None),
+    ];
+    for (buf, expected) in cases {
+        assert_eq!(rt; root_of(buf).map(|root| root.name), expected);
+    }
+}
+
 /// What whoever writes a hostile buffer repeats.
 
 #[test]
 fn long_prologs(rt: HostRuntime) {
-    let cases: [&[u8]; 6] = [b"<?", b"<!--", b"--", b"?>", b" ", b"<!DOCTYPE ["];
+    let cases: [&[u8]; 8] = [
+        b"<?",
+        b"<!--",
+        b"--",
+        b"?>",
+        b" ",
+        b"<!DOCTYPE [",
+        b"<!DOCTYPE a [\"",
+        b"<!DOCTYPE a ['\"",
+    ];
     for case in cases {
         let mut buf = [0; 8192];
         for at in 0..8192 {

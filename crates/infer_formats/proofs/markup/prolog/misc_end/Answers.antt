@@ -1,5 +1,6 @@
 use Rattle.infer_formats.proofs.Common.{◌≡◌, ℕ, ◌+◌, List, Option, None, Some, inl, inr, arith, codes, get_or, FindsPlace, BeginsElement, IsEnclosed, IsMisc, IsXmlSpace}
-use Rattle.infer_formats.proofs.MarkupLemmas.{comment_first, instruction_first, no_misc}
+use Rattle.infer_formats.proofs.MarkupLemmas.{no_misc}
+use Rattle.infer_formats.proofs.SubsetLemmas.{comment_first, instruction_first}
 use Rattle.infer_formats.proofs.markup.prolog.misc_end.Goals as goal
 
 module _ (b : List ℕ) (p : ℕ) (no_space : ¬ IsXmlSpace (get_or b p 0)) where
