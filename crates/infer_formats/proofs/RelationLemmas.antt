@@ -1,6 +1,6 @@
 -- Each relation, by the lemmas of its format.
 use Rattle.infer_formats.proofs.Common.{[], ◌≡◌, ◌↔◌, IsTrue, List, ℕ, OccursAt-append, Lasts, arith, refl, StandsByPlace, stands, Stays, png_header, Fits, HasLines, Relation, animated, class_id, dbase, directory_tag, first_entry_ends_in, first_entry_has_extra, first_entry_is, is_lasting, json_lines, json_text, package_with, plain_text, program, relation_listed, root, root_with, shared_object, subrip, tar_checksum}
-use Rattle.infer_formats.specs.Relation.{behind_id3, first_key, first_key_with, has_entry, header, java_archive, text_first, text_first_with, text_first_with_all}
+use Rattle.infer_formats.specs.Relation.{behind_id3, directory_tag_and_make, first_key, first_key_with, has_entry, header, java_archive, text_first, text_first_with, text_first_with_all}
 use Rattle.infer_formats.proofs.BeginsLemmas.{begins_and_has-lasts, begins_and_has_all-lasts, begins-lasts, begins_lines, known_begins, known_begins_and_has, known_begins_and_has_all}
 use Rattle.infer_formats.proofs.DbaseLemmas.{dbase_lines, dbase-lasts, known_table}
 use Rattle.infer_formats.proofs.ElfLemmas.{object_lines, shared_object-lasts, known_object}
@@ -16,7 +16,7 @@ use Rattle.infer_formats.proofs.ScriptLemmas.{IsProgram-lasts, program_lines, kn
 use Rattle.infer_formats.proofs.SubtitlesLemmas.{subrip_lines, subrip-lasts, known_subrip}
 use Rattle.infer_formats.proofs.TarLemmas.{field_lines, tar_checksum-lasts, known_checksum}
 use Rattle.infer_formats.proofs.TextLemmas.{text_lines, known_text}
-use Rattle.infer_formats.proofs.TiffLemmas.{tag_lines, tag-lasts, known_tag}
+use Rattle.infer_formats.proofs.TiffLemmas.{known_tag, known_tag_and_make, tag_and_make-lasts, tag_lines, tag-lasts}
 use Rattle.infer_formats.proofs.ZipLemmas.{counted_for_lines, entry_lines, java_lines, named_part, package_lines, has_entry-lasts, java_archive-lasts, known_later, first_entry_ends_in-lasts, first_entry_has_extra-lasts, first_entry_is-lasts, package_with-lasts, known_ending, known_entry, known_extra, known_java, known_package}
 use Rattle.infer_formats.specs.declared.relation.Relation as declared
 use Rattle.infer_formats.specs.declared.relation.Relation.TheVariants.{JsonLines, JsonText, PlainText}
@@ -38,6 +38,7 @@ relation_lasts (has_entry name) l = λ b more. has_entry-lasts b more name
 relation_lasts (package_with folder) l = λ b more. package_with-lasts b more folder
 relation_lasts (class_id id) l = HasClassId-lasts id
 relation_lasts (directory_tag tag) l = λ b more. tag-lasts b more tag
+relation_lasts (directory_tag_and_make tag make) l = λ b more. tag_and_make-lasts b more tag make
 relation_lasts (behind_id3 t) l = λ b more. behind-lasts b more t
 relation_lasts (text_first t) l = λ b more. begins-lasts b more t
 relation_lasts (text_first_with t u) l = λ b more. begins_and_has-lasts b more t u
@@ -74,7 +75,8 @@ module _ (by_place : (place : ℕ) (t buf : List ℕ) → IsTrue (stands place t
   has_lines (has_entry name) small h = entry_lines by_place b name h
   has_lines (package_with folder) small h = package_lines by_place b folder h.0
   has_lines (class_id id) small (place, r, o) = let le = r.header.fits in begins by_place b 8 _ (omega arith) r.header
-  has_lines (directory_tag tag) small (big, starts, e) = tag_lines by_place b tag big starts
+  has_lines (directory_tag tag) small (big, starts, e) = tag_lines by_place b big starts
+  has_lines (directory_tag_and_make tag make) small (big, starts, tagged, made) = tag_lines by_place b big starts
   has_lines (behind_id3 t) small h = behind_lines by_place b t h
   has_lines (text_first t) small h = begins_lines by_place b t h
   has_lines (text_first_with t u) small h = begins_lines by_place b t h.0
@@ -106,6 +108,7 @@ module _ (by_place : ByPlace) (inside : Leads) (single : Single) (b : List ℕ) 
   known_relation (package_with folder) = known_package by_place b folder
   known_relation (class_id id) = known_class by_place b id
   known_relation (directory_tag tag) = known_tag by_place b tag
+  known_relation (directory_tag_and_make tag make) = known_tag_and_make by_place b tag make
   known_relation (behind_id3 t) = known_behind by_place b t
   known_relation (text_first t) = known_begins by_place b t
   known_relation (text_first_with t u) = known_begins_and_has by_place b t u

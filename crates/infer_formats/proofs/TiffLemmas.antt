@@ -1,6 +1,7 @@
 -- Tags of TIFF files: what more bytes keep and may bring, and the bytes that each file has.
-use Rattle.infer_formats.proofs.Common.{[], IsTrue, ◌&&◌, suc, and_parts, OccursAt, ◌≡◌, inl, inr, ℕ, ◌+◌, ◌-◌, ◌*◌, ◌/◌, min, ◌<◌, ◌≤◌, Bool, true, false, List, ◌++◌, length, get_or, subst, arith, cases_lt, AgreesAt, are_bytes, MayBecome, agrees_past, grown_agrees, bytes16, number16, number32, BeginsTiff, HasTag, IsTagEntry, ◌∷◌, sym, ◌∙◌, OccursAt-append, ◌↔◌, lines, directory_tag, StandsByPlace, accepts, at_least, stands, be16, be32}
-use Rattle.infer_formats.specs.Tiff.{MayBeginTiff, MayHaveEntry, MayHaveTag}
+use Rattle.infer_formats.proofs.Common.{[], IsTrue, ◌&&◌, suc, and_parts, OccursAt, ◌≡◌, inl, inr, ℕ, ◌+◌, ◌-◌, ◌*◌, ◌/◌, min, ◌<◌, ◌≤◌, Bool, true, false, List, ◌++◌, length, get_or, subst, arith, cases_lt, AgreesAt, are_bytes, MayBecome, agrees_past, grown_agrees, bytes16, number16, number32, BeginsTiff, HasTag, IsTagEntry, ◌∷◌, sym, ◌∙◌, OccursAt-append, ◌↔◌, StandsByPlace, accepts, at_least, stands, be16, be32}
+use Rattle.infer_formats.specs.Outline.{tiff_lines}
+use Rattle.infer_formats.specs.Tiff.{HasTagAndMake, IsMakeEntry, MayBeginTiff, MayHaveEntry, MayHaveTag, make_tag}
 use Rattle.infer_sig.specs.Signature.{text}
 use Rattle.infer_formats.proofs.GrowthLemmas.{number16-append, number32-append, longer}
 use Rattle.infer_formats.proofs.OpenLemmas.{grown_byte, number16_stands, small_byte}
@@ -17,20 +18,33 @@ module _ (b more : List ℕ) where
   begins_tiff true o = OccursAt-append b more _ 0 o
   begins_tiff false o = OccursAt-append b more _ 0 o
 
-  pub tag-lasts : (tag : ℕ) → HasTag tag b → HasTag tag (b ++ more)
-  tag-lasts tag (big, begins, (i, (lt, whole, is))) =
-      let start = number32 big b 4 in (
-        big,
-        begins_tiff big begins,
-        (
-          i,
-          subst (λ s. IsTagEntry big tag (b ++ more) s i) (sym (number32-append b more big 4 (omega arith))) (
-            subst (λ n. i < n) (sym (number16-append b more big start (omega arith))) lt,
-            longer b more _ whole,
-            number16-append b more big (start + 2 + 12 * i) (omega arith) ∙ is,
-          ),
-        ),
+  entry_lasts : (big : Bool) (tag i : ℕ) → IsTagEntry big tag b (number32 big b 4) i → IsTagEntry big tag (b ++ more) (number32 big (b ++ more) 4) i
+  entry_lasts big tag i (lt, whole, is) =
+      let start = number32 big b 4 in
+      subst (λ s. IsTagEntry big tag (b ++ more) s i) (sym (number32-append b more big 4 (omega arith))) (
+        subst (λ n. i < n) (sym (number16-append b more big start (omega arith))) lt,
+        longer b more _ whole,
+        number16-append b more big (start + 2 + 12 * i) (omega arith) ∙ is,
       )
+
+  made_lasts : (big : Bool) (make : List ℕ) (i : ℕ) → IsMakeEntry big make b (number32 big b 4) i
+      → IsMakeEntry big make (b ++ more) (number32 big (b ++ more) 4) i
+  made_lasts big make i (entry, o) =
+      let start = number32 big b 4 in
+      let whole = entry.1 in
+      let at = number32-append b more big (start + 2 + 12 * i + 8) (omega arith) in
+      let place = number32-append b more big 4 (omega arith) in (
+        entry_lasts big make_tag i entry,
+        subst (λ s. OccursAt (b ++ more) make (number32 big (b ++ more) (s + 2 + 12 * i + 8))) (sym place)
+            (subst (OccursAt (b ++ more) make) (sym at) (OccursAt-append b more make _ o)),
+      )
+
+  pub tag_and_make-lasts : (tag : ℕ) (make : List ℕ) → HasTagAndMake tag make b → HasTagAndMake tag make (b ++ more)
+  tag_and_make-lasts tag make (big, begins, (i, tagged), (j, made)) =
+      (big, begins_tiff big begins, (i, entry_lasts big tag i tagged), (j, made_lasts big make j made))
+
+  pub tag-lasts : (tag : ℕ) → HasTag tag b → HasTag tag (b ++ more)
+  tag-lasts tag (big, begins, (i, tagged)) = (big, begins_tiff big begins, (i, entry_lasts big tag i tagged))
 
 -- ---- what more bytes may bring
 
@@ -80,9 +94,9 @@ module _ (by_place : (place : ℕ) (t buf : List ℕ) → IsTrue (stands place t
   abbrev big_tiff : fixed.Alternative
   big_tiff = at_least 4 (text 0 (0x4D ∷ 0x4D ∷ 0x00 ∷ 0x2A ∷ []) ∷ [])
 
-  pub tag_lines : (tag : ℕ) (big : Bool) → BeginsTiff big b → IsTrue (accepts (lines (directory_tag tag)) b)
-  tag_lines tag false o = let le = o.fits in one by_place b 4 (text 0 (0x49 ∷ 0x49 ∷ 0x2A ∷ 0x00 ∷ [])) (big_tiff ∷ []) (omega arith) (occurs by_place b 0 _ o)
-  tag_lines tag true o = let le = o.fits in other by_place b little_tiff (big_tiff ∷ []) (one by_place b 4 (text 0 (0x4D ∷ 0x4D ∷ 0x00 ∷ 0x2A ∷ [])) [] (omega arith) (occurs by_place b 0 _ o))
+  pub tag_lines : (big : Bool) → BeginsTiff big b → IsTrue (accepts tiff_lines b)
+  tag_lines false o = let le = o.fits in one by_place b 4 (text 0 (0x49 ∷ 0x49 ∷ 0x2A ∷ 0x00 ∷ [])) (big_tiff ∷ []) (omega arith) (occurs by_place b 0 _ o)
+  tag_lines true o = let le = o.fits in other by_place b little_tiff (big_tiff ∷ []) (one by_place b 4 (text 0 (0x4D ∷ 0x4D ∷ 0x00 ∷ 0x2A ∷ [])) [] (omega arith) (occurs by_place b 0 _ o))
 
 -- ---- what a computation says of a directory of TIFF
 
@@ -113,3 +127,21 @@ module _ (by_place : ByPlace) (b : List ℕ) where
   -- a directory whose first entry has the tag, or no such bytes
   abbrev pub known_tag : (tag : ℕ) → Known (HasTag tag b)
   known_tag tag = ◌>>◌ (known_first_tag tag) (refuted_if (lacks_tag tag) (untagged tag))
+
+  -- the tag first, and the make right behind it
+  abbrev known_made_next : (tag : ℕ) (make : List ℕ) → Known (HasTagAndMake tag make b)
+  known_made_next tag make = do
+    begins ← takes (Place.occurs by_place (0x4D ∷ 0x4D ∷ 0x00 ∷ 0x2A ∷ []) b 0)
+    some ← takes (at_most 2 (be16 b (be32 b 4)))
+    whole ← takes (at_most (be32 b 4 + 2 + 12 * 1 + 12) (length b))
+    tagged ← takes (same (be16 b (be32 b 4 + 2 + 12 * 0)) tag)
+    made ← takes (same (be16 b (be32 b 4 + 2 + 12 * 1)) make_tag)
+    stands ← takes (Place.occurs by_place make b (be32 b (be32 b 4 + 2 + 12 * 1 + 8)))
+    proved (true, begins, (0, (omega arith, omega arith, tagged)), (1, ((omega arith, whole, made), stands)))
+
+  pub unmade : (tag : ℕ) (make : List ℕ) → IsTrue (Place.lacks 0 (suc (length b)) make b) → ¬ HasTagAndMake tag make b
+  unmade tag make none (big, begins, tagged, (j, (entry, o))) = Place.nowhere_from by_place make b 0 _ (omega arith) none o
+
+  -- or that make stands nowhere
+  abbrev pub known_tag_and_make : (tag : ℕ) (make : List ℕ) → Known (HasTagAndMake tag make b)
+  known_tag_and_make tag make = ◌>>◌ (known_made_next tag make) (refuted_if (Place.lacks 0 (suc (length b)) make b) (unmade tag make))

@@ -48,3 +48,7 @@ object_outline =
 -- the first entry of a ZIP archive with the text behind its header, and the low byte of its length at the place
 abbrev pub model_entry : ℕ → List ℕ → fixed.Alternative
 model_entry place t = at_least (30 + length t) (text 0 zip_header ∷ text place (length t % 256 ∷ []) ∷ text 30 t ∷ [])
+
+-- the beginning of a TIFF file, whose numbers have the lowest byte first or the highest
+abbrev pub tiff_lines : List fixed.Alternative
+tiff_lines = at_least 4 (text 0 (0x49 ∷ 0x49 ∷ 0x2A ∷ 0x00 ∷ []) ∷ []) ∷ at_least 4 (text 0 (0x4D ∷ 0x4D ∷ 0x00 ∷ 0x2A ∷ []) ∷ []) ∷ []

@@ -11,13 +11,13 @@ use Rattle.infer_formats.specs.Header.{HasLaterHeader}
 use Rattle.infer_formats.specs.Id3.{IsBehindId3}
 use Rattle.infer_formats.specs.Json.{IsJson, IsJsonLines}
 use Rattle.infer_formats.specs.Markup.{HasRoot, HasRootWith}
-use Rattle.infer_formats.specs.Outline.{counted_for, digits_behind, first_lines, json_outline, markup_lines, model_entry, named, object_outline}
+use Rattle.infer_formats.specs.Outline.{counted_for, digits_behind, first_lines, json_outline, markup_lines, model_entry, named, object_outline, tiff_lines}
 use Rattle.infer_formats.specs.Png.{IsAnimated, png_header}
 use Rattle.infer_formats.specs.Script.{IsProgram}
 use Rattle.infer_formats.specs.Subtitles.{IsSubRip}
 use Rattle.infer_formats.specs.Tar.{HasTarChecksum}
 use Rattle.infer_formats.specs.Text.{IsText}
-use Rattle.infer_formats.specs.Tiff.{HasTag}
+use Rattle.infer_formats.specs.Tiff.{HasTag, HasTagAndMake}
 use Rattle.infer_formats.specs.Token.{Token, bare, quoted, separator, token_listed}
 use Rattle.infer_formats.specs.Zip.{FirstEntryEndsIn, FirstEntryHasExtra, FirstEntryIs, HasEntry, IsJavaArchive, IsOneOf, IsPackageWith, applications, manifest, manifest_folder}
 use Rattle.infer_sig.specs.Signature as fixed
@@ -45,6 +45,7 @@ pub data Relation : Type 0 where
   package_with : List ℕ → Relation
   class_id : List ℕ → Relation
   directory_tag : ℕ → Relation
+  directory_tag_and_make : ℕ → List ℕ → Relation
   behind_id3 : List ℕ → Relation
   text_first : List ℕ → Relation
   text_first_with : List ℕ → List ℕ → Relation
@@ -74,6 +75,7 @@ relation_listed (listed.HasEntry name) = has_entry name.now
 relation_listed (listed.PackageWith folder) = package_with folder.now
 relation_listed (listed.ClassId id) = class_id id
 relation_listed (listed.DirectoryTag tag) = directory_tag tag
+relation_listed (listed.DirectoryTagAndMake tag make) = directory_tag_and_make tag make.now
 relation_listed (listed.BehindId3 t) = behind_id3 t.now
 relation_listed (listed.TextFirst t) = text_first t.now
 relation_listed (listed.TextFirstWith t u) = text_first_with t.now u.now
@@ -137,6 +139,7 @@ Fits (has_entry name) b = HasEntry name b
 Fits (package_with folder) b = IsPackageWith folder b
 Fits (class_id id) b = HasClassId id b
 Fits (directory_tag tag) b = HasTag tag b
+Fits (directory_tag_and_make tag make) b = HasTagAndMake tag make b
 Fits (behind_id3 t) b = IsBehindId3 t b
 Fits (text_first t) b = Begins t b
 Fits (text_first_with t u) b = BeginsAndHas t u b
@@ -177,7 +180,8 @@ lines java_archive = named manifest_folder ∷ []
 lines (has_entry name) = at_least 4 (text 0 zip_header ∷ []) ∷ []
 lines (package_with folder) = named (codes "[Content_Types].xml") ∷ named (codes "_rels/") ∷ named (codes "docProps/") ∷ named folder ∷ []
 lines (class_id id) = at_least 8 (text 0 compound_header ∷ []) ∷ []
-lines (directory_tag tag) = at_least 4 (text 0 (0x49 ∷ 0x49 ∷ 0x2A ∷ 0x00 ∷ []) ∷ []) ∷ at_least 4 (text 0 (0x4D ∷ 0x4D ∷ 0x00 ∷ 0x2A ∷ []) ∷ []) ∷ []
+lines (directory_tag tag) = tiff_lines
+lines (directory_tag_and_make tag make) = tiff_lines
 lines (behind_id3 t) = at_least 3 (text 0 (codes "ID3") ∷ []) ∷ []
 lines (text_first t) = first_lines t
 lines (text_first_with t u) = first_lines t
@@ -221,6 +225,10 @@ model before (class_id id) =
     at_least 640 (text 0 compound_header ∷ text 26 (0x03 ∷ 0x00 ∷ 0xFE ∷ 0xFF ∷ 0x09 ∷ []) ∷ text 578 (0x05 ∷ []) ∷ text 592 id ∷ [])
 model before (directory_tag tag) =
     at_least 20 (text 0 (0x4D ∷ 0x4D ∷ 0x00 ∷ 0x2A ∷ 0x00 ∷ 0x00 ∷ 0x00 ∷ 0x06 ∷ []) ∷ text 8 (tag / 256 ∷ tag % 256 ∷ []) ∷ [])
+model before (directory_tag_and_make tag make) =
+    at_least (32 + length make)
+    (text 0 (0x4D ∷ 0x4D ∷ 0x00 ∷ 0x2A ∷ 0x00 ∷ 0x00 ∷ 0x00 ∷ 0x06 ∷ []) ∷ text 8 (tag / 256 ∷ tag % 256 ∷ []) ∷ text 20 (0x01 ∷ 0x0F ∷ [])
+    ∷ text 31 (0x20 ∷ []) ∷ text 32 make ∷ [])
 model before (behind_id3 t) = at_least (10 + length t) (text 0 (codes "ID3") ∷ text 10 t ∷ [])
 model before (text_first t) = at_least (length t) (text 0 t ∷ [])
 model before (text_first_with t u) = at_least (length t + length u) (text 0 t ∷ text (length t) u ∷ [])

@@ -9,7 +9,11 @@ abbrev pub BeginsTiff : Bool → List ℕ → Type 0
 BeginsTiff false b = OccursAt b (0x49 ∷ 0x49 ∷ 0x2A ∷ 0x00 ∷ []) 0
 BeginsTiff true b = OccursAt b (0x4D ∷ 0x4D ∷ 0x00 ∷ 0x2A ∷ []) 0
 
--- entry i of the directory at `start` lies in b, with those before it, and has the tag
+-- entry i of the directory at `start` lies in b, with those before it
+abbrev pub IsEntry : Bool → List ℕ → ℕ → ℕ → Type 0
+IsEntry big b start i = (i < number16 big b start) × (start + 2 + 12 * i + 12 ≤ length b)
+
+-- and has the tag
 abbrev pub IsTagEntry : Bool → ℕ → List ℕ → ℕ → ℕ → Type 0
 IsTagEntry big tag b start i =
     (i < number16 big b start) × (start + 2 + 12 * i + 12 ≤ length b) × (number16 big b (start + 2 + 12 * i) ≡ tag)
@@ -17,6 +21,20 @@ IsTagEntry big tag b start i =
 -- the first directory, whose place the four bytes at 4 say, has an entry with the tag
 abbrev pub HasTag : ℕ → List ℕ → Type 0
 HasTag tag b = (big : Bool) × BeginsTiff big b × ((i : ℕ) × IsTagEntry big tag b (number32 big b 4) i)
+
+-- the tag of the text that says who made the camera
+abbrev pub make_tag : ℕ
+make_tag = 0x010F
+
+-- entry i of the directory at `start` has that tag, and the text stands at the place that its four bytes at 8 say
+abbrev pub IsMakeEntry : Bool → List ℕ → List ℕ → ℕ → ℕ → Type 0
+IsMakeEntry big make b start i = IsTagEntry big make_tag b start i × OccursAt b make (number32 big b (start + 2 + 12 * i + 8))
+
+-- the first directory has an entry with the tag, and one that says the make
+abbrev pub HasTagAndMake : ℕ → List ℕ → List ℕ → Type 0
+HasTagAndMake tag make b =
+    (big : Bool) × BeginsTiff big b × ((i : ℕ) × IsTagEntry big tag b (number32 big b 4) i)
+    × ((j : ℕ) × IsMakeEntry big make b (number32 big b 4) j)
 
 -- b agrees with the beginning of such a file
 abbrev pub MayBeginTiff : Bool → List ℕ → Type 0

@@ -3,7 +3,7 @@
 ghost use Rattle.std.specs.Prelude.{◌≡◌, ◌≤◌, ◌↔◌, [], IsTrue, length, map};
 ghost use Rattle.infer_deep.specs.Signatures.{MayBecome};
 ghost use Rattle.infer_formats.specs.Open.{Stays};
-ghost use Rattle.infer_formats.specs.Relation.{Fits, IsSound, class_id, dbase, directory_tag, has_entry, header, least_of, model, model_listed, name_listed, names, of_text, package_with, program, relation_listed, root, root_with, shared_object};
+ghost use Rattle.infer_formats.specs.Relation.{Fits, IsSound, class_id, dbase, directory_tag, directory_tag_and_make, has_entry, header, least_of, model, model_listed, name_listed, names, of_text, package_with, program, relation_listed, root, root_with, shared_object};
 
 use crate::begins::{begins, begins_and_has, begins_and_has_all, may_begin};
 use crate::dbase::{is_dbase, may_become_dbase};
@@ -22,7 +22,10 @@ use crate::script::{is_program, may_become_program};
 use crate::subtitles::{is_subrip, may_become_subrip};
 use crate::tar::{has_tar_checksum, may_have_tar_checksum};
 use crate::text::{is_text, may_become_text, stays_text};
-use crate::tiff::{first_directory_has_tag, first_directory_may_have_tag};
+use crate::tiff::{
+    first_directory_has_tag, first_directory_has_tag_and_make, first_directory_may_have_tag,
+    first_directory_may_have_tag_and_make,
+};
 use crate::token::Token;
 use crate::token::Token::{Quoted, Separator, Word};
 use crate::zip::{
@@ -45,6 +48,8 @@ pub enum Relation<'a> {
     PackageWith(&'a [u8]),
     ClassId([u8; 16]),
     DirectoryTag(u16),
+    /// And what the make of the camera begins with.
+    DirectoryTagAndMake(u16, &'a [u8]),
     BehindId3(&'a [u8]),
     TextFirst(&'a [u8]),
     TextFirstWith(&'a [u8], &'a [u8]),
@@ -210,6 +215,9 @@ impl<'a> Relation<'a> {
             Relation::PackageWith(folder) => is_package_with(buf, folder),
             Relation::ClassId(id) => has_class_id(buf, id),
             Relation::DirectoryTag(tag) => first_directory_has_tag(buf, *tag),
+            Relation::DirectoryTagAndMake(tag, make) => first_directory_has_tag_and_make(
+                buf, *tag, make,
+            ),
             Relation::BehindId3(text) => is_behind_id3(buf, text),
             Relation::TextFirst(text) => begins(buf, text),
             Relation::TextFirstWith(text, other) => begins_and_has(buf, text, other),
@@ -248,6 +256,9 @@ impl<'a> Relation<'a> {
             Relation::PackageWith(folder) => may_become_package_with(buf, folder),
             Relation::ClassId(id) => may_have_class_id(buf, id),
             Relation::DirectoryTag(tag) => first_directory_may_have_tag(buf, *tag),
+            Relation::DirectoryTagAndMake(tag, make) => {
+                first_directory_may_have_tag_and_make(buf, *tag, make)
+            }
             Relation::BehindId3(text) => may_be_behind_id3(buf, text),
             Relation::TextFirst(text) => may_begin(buf, text),
             // So may the other text.
@@ -301,6 +312,7 @@ impl<'a> Relation<'a> {
             Relation::PackageWith(folder) => package(folder),
             Relation::ClassId(id) => compound(*id),
             Relation::DirectoryTag(tag) => directory(*tag),
+            Relation::DirectoryTagAndMake(tag, make) => directory_with_make(*tag, make),
             Relation::BehindId3(text) => two(10 + text.len(), at(0, b"ID3"), at(10, text)),
             Relation::TextFirst(text) => one(text.len(), at(0, text)),
             Relation::TextFirstWith(text, other) => two(
@@ -410,6 +422,22 @@ fn directory(tag: u16) -> Model<'static>
         20,
         at(0, b"MM\0*\0\0\0\x06"),
         made(8, Text::Two(tag.to_be_bytes())),
+    )
+}
+
+/// That of a TIFF file: a directory with this tag, and the make behind it.
+fn directory_with_make<'b>(tag: u16, make: &'b [u8]) -> Model<'b>
+    requires { length make.now ≤ 65536 }
+    ensures model { model_listed result ≡ model [] (directory_tag_and_make tag make.now) }
+    ensures few { result.count ≤ 5 }
+{
+    five(
+        32 + make.len(),
+        at(0, b"MM\0*\0\0\0\x06"),
+        made(8, Text::Two(tag.to_be_bytes())),
+        at(20, b"\x01\x0F"),
+        at(31, b"\x20"),
+        at(32, make),
     )
 }
 

@@ -6,10 +6,10 @@ use Rattle.std.proofs.lemmas.List.{append_assoc}
 use Rattle.std.proofs.lemmas.List.Splits.{slice_split-cons_yes}
 use Rattle.std.proofs.Math.Bool.{and-false}
 use Rattle.std.proofs.lemmas.Bool.{eq-eqb, not-true}
-use Rattle.infer_formats.specs.Relation.{Relation, class_id, directory_tag, first_entry_ends_in, first_entry_has_extra, first_entry_is, first_key, first_key_with, header, of_text, program, relation_listed, root, root_with, text_first, text_first_with, text_first_with_all}
+use Rattle.infer_formats.specs.Relation.{Relation, class_id, directory_tag, directory_tag_and_make, first_entry_ends_in, first_entry_has_extra, first_entry_is, first_key, first_key_with, header, of_text, program, relation_listed, root, root_with, text_first, text_first_with, text_first_with_all}
 use Rattle.infer_formats.specs.declared.relation.Relation as relations
-use Rattle.infer_notation.specs.Described.{AreBytes, Asks, AsksEach, AsksFor, Describes, IsGroup, IsName, IsNameIn, IsParted, IsShort, NamesRelation, WriteEach, Writes, a_key, a_later_header, a_text, a_name, a_program, a_beginning, a_relation, a_tag, a_text_behind, a_text_within, a_value, an_element, an_end, an_extra, an_id, last, nothing, one_text, other, programs, three_texts_behind, two_texts_behind}
-use Rattle.infer_notation.specs.Relations.{alone, beginning_of, beginning_with, beginning_with_all, beginning_with_two, directory_of, ending_entry, entry_of, extra_field, header_of, id_of, key_of, named_entry, number_at, or_else, short_number, text_of, program_of, root_of}
+use Rattle.infer_notation.specs.Described.{AreBytes, Asks, AsksEach, AsksFor, Describes, IsGroup, IsName, IsNameIn, IsParted, IsShort, NamesRelation, WriteEach, Writes, a_key, a_later_header, a_text, a_name, a_program, a_beginning, a_relation, a_tag, a_tag_and_make, a_text_behind, a_text_within, a_value, an_element, an_end, an_extra, an_id, last, nothing, one_text, other, programs, three_texts_behind, two_texts_behind}
+use Rattle.infer_notation.specs.Relations.{alone, beginning_of, behind_tag, beginning_with, beginning_with_all, beginning_with_two, directory_of, ending_entry, entry_of, extra_field, header_of, id_of, key_of, named_entry, number_at, or_else, short_number, tag_of, text_of, program_of, root_of}
 use Rattle.infer_notation.specs.Tokens.{Token, is_word, set}
 use Rattle.infer_notation.specs.Words.{is_digit}
 use Rattle.infer_notation.proofs.GrammarLemmas as grammar
@@ -176,11 +176,35 @@ alone_so : (r : relations.Relation) (ts : List Token) (a : Relation) → alone (
 alone_so r [] a e = let same : relation_listed r ≡ a = cc in subst (Asks (Nothing r) []) same (nothing r)
 alone_so r (t ∷ ts) a e = absurd cc
 
+tag_so : (w : List ℕ) (n : ℕ) → tag_of w ≡ Some n → Asks Tag (bare w ∷ []) (directory_tag n)
+tag_so (w ∷ x ∷ y ∷ z ∷ []) n e =
+    let (h, is-high, some) = bind_some (byte_with w x) _ n e in
+    let (l, is-low, same) = map_some (λ l. 256 * h + l) (byte_with y z) n some in
+    subst (λ m. Asks Tag (bare (w ∷ x ∷ y ∷ z ∷ []) ∷ []) (directory_tag m)) same (a_tag w x y z h l is-high is-low)
+tag_so w n e = absurd cc
+
+tag_and_make_so : (w make : List ℕ) (n : ℕ) → tag_of w ≡ Some n
+    → Asks Tag (bare w ∷ bare (codes "and") ∷ bare (codes "make") ∷ quoted make ∷ []) (directory_tag_and_make n make)
+tag_and_make_so (w ∷ x ∷ y ∷ z ∷ []) make n e =
+    let (h, is-high, some) = bind_some (byte_with w x) _ n e in
+    let (l, is-low, same) = map_some (λ l. 256 * h + l) (byte_with y z) n some in
+    subst (λ m. Asks Tag (bare (w ∷ x ∷ y ∷ z ∷ []) ∷ bare (codes "and") ∷ bare (codes "make") ∷ quoted make ∷ []) (directory_tag_and_make m make)) same
+    (a_tag_and_make w x y z h l make is-high is-low)
+tag_and_make_so w make n e = absurd cc
+
+behind_tag_so : (w : List ℕ) (n : ℕ) → tag_of w ≡ Some n → (ts : List Token) (a : Relation) → behind_tag n ts ≡ Some a → Asks Tag (bare w ∷ ts) a
+behind_tag_so w n is [] a e = let same : directory_tag n ≡ a = cc in subst (Asks Tag (bare w ∷ [])) same (tag_so w n is)
+behind_tag_so w n is (t ∷ u ∷ quoted make ∷ []) a e =
+    let both = cond_some (is_word (codes "and") t && is_word (codes "make") u) (directory_tag_and_make n make) a e in
+    let words = and_parts (is_word (codes "and") t) (is_word (codes "make") u) both.0 in
+    subst (λ v. Asks Tag (bare w ∷ v ∷ u ∷ quoted make ∷ []) a) (sym (word_is (codes "and") t words.0))
+    (subst (λ v. Asks Tag (bare w ∷ bare (codes "and") ∷ v ∷ quoted make ∷ []) a) (sym (word_is (codes "make") u words.1))
+    (subst (Asks Tag (bare w ∷ bare (codes "and") ∷ bare (codes "make") ∷ quoted make ∷ [])) both.1 (tag_and_make_so w make n is)))
+behind_tag_so w n is ts a e = absurd cc
+
 directory_so : (ts : List Token) (a : Relation) → directory_of ts ≡ Some a → Asks Tag ts a
-directory_so (bare (w ∷ x ∷ y ∷ z ∷ []) ∷ []) a e =
-    let (h, is-high, some) = bind_some (byte_with w x) _ a e in
-    let (l, is-low, same) = map_some (λ l. directory_tag (256 * h + l)) (byte_with y z) a some in
-    subst (Asks Tag (bare (w ∷ x ∷ y ∷ z ∷ []) ∷ [])) same (a_tag w x y z h l is-high is-low)
+directory_so (bare w ∷ ts) a e =
+    let (n, is, some) = bind_some (tag_of w) _ a e in behind_tag_so w n is ts a some
 directory_so ts a e = absurd cc
 
 text_so : (which : OfText) (ts : List Token) (a : Relation) → text_of which ts ≡ Some a → Asks (OneText which) ts a
@@ -389,6 +413,7 @@ fourth_read ts t u v w each =
 
 asks_so : (takes : Takes) (ts : List Token) (a : Relation) → Asks takes ts a → items_of takes ts ≡ Some (related a ∷ [])
 asks_so takes ts a (a_tag w x y z high low is-high is-low) = rw (is-high, is-low) refl
+asks_so takes ts a (a_tag_and_make w x y z high low make is-high is-low) = rw (is-high, is-low) refl
 asks_so takes ts a (an_extra v w x y is-x is-y) = rw (is-x, is-y) refl
 asks_so takes ts a (an_id ws id long bytes) = rw (length-map ws bare ∙ long, so_words ws id bytes) refl
 asks_so takes ts a (a_beginning _ t each) = ap (option_map one_of) (first_read ts t each)

@@ -1,7 +1,7 @@
 -- What a text describes, as relations between its bytes, its tokens and alternatives.
 use Rattle.std.specs.Prelude.{◌≡◌, ◌+◌, ◌*◌, ◌<◌, ◌≤◌, ◌⊎◌, ℕ, false, All, IsFalse, IsTrue, List, [], ◌∷◌, ◌++◌, Some, codes, length, map}
 use Rattle.std.specs.List.{list_all}
-use Rattle.infer_formats.specs.Relation.{Relation, class_id, directory_tag, first_entry_ends_in, first_entry_has_extra, first_entry_is, first_key, first_key_with, header, names, of_text, program, relation_listed, root, root_with, text_first, text_first_with, text_first_with_all}
+use Rattle.infer_formats.specs.Relation.{Relation, class_id, directory_tag, directory_tag_and_make, first_entry_ends_in, first_entry_has_extra, first_entry_is, first_key, first_key_with, header, names, of_text, program, relation_listed, root, root_with, text_first, text_first_with, text_first_with_all}
 use Rattle.infer_formats.specs.declared.relation.Relation as relations
 use Rattle.infer_notation.specs.Alternative.{Alternative, related}
 use Rattle.infer_notation.specs.Fixed.{Asked, rest_of}
@@ -73,6 +73,8 @@ pub data Asks : Takes → List Token → Relation → Type 0 where
   nothing : (r : relations.Relation) → Asks (Nothing r) [] (relation_listed r)
   a_tag : (a b c d x y : ℕ) → byte_with a b ≡ Some x → byte_with c d ≡ Some y
       → Asks Tag (bare (a ∷ b ∷ c ∷ d ∷ []) ∷ []) (directory_tag (256 * x + y))
+  a_tag_and_make : (a b c d x y : ℕ) (make : List ℕ) → byte_with a b ≡ Some x → byte_with c d ≡ Some y
+      → Asks Tag (bare (a ∷ b ∷ c ∷ d ∷ []) ∷ bare (codes "and") ∷ bare (codes "make") ∷ quoted make ∷ []) (directory_tag_and_make (256 * x + y) make)
   a_text : (which : OfText) (text : List ℕ) → Asks (OneText which) (quoted text ∷ []) (of_text which text)
   a_program : (w : List ℕ) → Asks Program (bare w ∷ []) (program w)
   a_name : (name : List ℕ) → Asks Entry (bare (codes "is") ∷ quoted name ∷ []) (first_entry_is name)

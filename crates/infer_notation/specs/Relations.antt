@@ -3,7 +3,7 @@ use Rattle.std.specs.Prelude.{◌≡◌, ◌+◌, ◌*◌, ◌↔◌, ◌==◌, 
 use Rattle.std.specs.List.{slice_split}
 use Rattle.std.specs.Str.{bytes_eq}
 use denote.Ref.{Bor}
-use Rattle.infer_formats.specs.Relation.{Relation, class_id, directory_tag, first_entry_ends_in, first_entry_has_extra, first_entry_is, first_key, first_key_with, header, names, of_text, program, relation_listed, root, root_with, text_first, text_first_with, text_first_with_all}
+use Rattle.infer_formats.specs.Relation.{Relation, class_id, directory_tag, directory_tag_and_make, first_entry_ends_in, first_entry_has_extra, first_entry_is, first_key, first_key_with, header, names, of_text, program, relation_listed, root, root_with, text_first, text_first_with, text_first_with_all}
 use Rattle.infer_notation.specs.Alternative.{Accepted, Alternative, related}
 use Rattle.infer_notation.specs.Grammar.{tokens_of}
 use Rattle.infer_notation.specs.Texts.{text_before, text_in}
@@ -69,9 +69,20 @@ abbrev pub alone : Relation → List Token → Option Relation
 alone r [] = Some r
 alone r (t ∷ ts) = None
 
--- four hexadecimal digits
+-- the number that four hexadecimal digits write
+abbrev pub tag_of : List ℕ → Option ℕ
+tag_of (a ∷ b ∷ c ∷ d ∷ []) = byte_with a b >>= λ x. option_map (λ y. 256 * x + y) (byte_with c d)
+tag_of other = None
+
+-- behind that nothing, or the make of the camera
+abbrev pub behind_tag : ℕ → List Token → Option Relation
+behind_tag n [] = Some (directory_tag n)
+behind_tag n (t ∷ u ∷ quoted make ∷ []) =
+    if is_word (codes "and") t && is_word (codes "make") u then Some (directory_tag_and_make n make) else None
+behind_tag n other = None
+
 abbrev pub directory_of : List Token → Option Relation
-directory_of (bare (a ∷ b ∷ c ∷ d ∷ []) ∷ []) = byte_with a b >>= λ x. option_map (λ y. directory_tag (256 * x + y)) (byte_with c d)
+directory_of (bare w ∷ ts) = tag_of w >>= λ n. behind_tag n ts
 directory_of other = None
 
 -- a text

@@ -2,7 +2,7 @@
 ghost use Rattle.std.specs.Prelude.{◌≡◌, ◌∷◌, [], map, option_map};
 ghost use Rattle.infer_formats.specs.Relation.{relation_listed};
 ghost use Rattle.infer_notation.specs.Alternative.{related};
-ghost use Rattle.infer_notation.specs.Relations.{IsSeen, alone, beginning_of, directory_of, ending_entry, entry_of, extra_field, header_of, id_of, item_of, key_of, extra_entry, named_entry, number_at, program_of, root_of, short_number, text_of, token_byte};
+ghost use Rattle.infer_notation.specs.Relations.{IsSeen, alone, beginning_of, behind_tag, directory_of, ending_entry, entry_of, extra_field, header_of, id_of, item_of, key_of, extra_entry, named_entry, number_at, program_of, root_of, short_number, tag_of, text_of, token_byte};
 ghost use Rattle.infer_notation.specs.Tokens.{token_listed};
 
 use crate::names::is_word;
@@ -54,15 +54,38 @@ fn alone<'a>(relation: Relation<'a>, tokens: &[Token<'_>]) -> Option<Relation<'a
     }
 }
 
-/// Four hexadecimal digits, as in `C612`.
+/// A tag, as in `C612`, and perhaps `and make "MAKE"`.
 fn directory<'a>(tokens: &[Token<'a>]) -> Option<Relation<'a>>
     ensures { option_map relation_listed result ≡ directory_of (map token_listed tokens.now) }
 {
     match tokens {
-        [Word([a, b, c, d])] => {
+        [Word(digits), behind @ ..] => behind_tag(tag(digits)?, behind),
+        _ => None,
+    }
+}
+
+/// What stands behind the tag: nothing, or `and make "MAKE"`.
+fn behind_tag<'a>(tag: u16, tokens: &[Token<'a>]) -> Option<Relation<'a>>
+    ensures { option_map relation_listed result ≡ behind_tag tag (map token_listed tokens.now) }
+{
+    match tokens {
+        [] => Some(Relation::DirectoryTag(tag)),
+        [and, make, Quoted(text)] if is_word(*and, b"and") && is_word(*make, b"make") => {
+            Some(Relation::DirectoryTagAndMake(tag, text))
+        }
+        _ => None,
+    }
+}
+
+/// The number that four hexadecimal digits write.
+fn tag(digits: &[u8]) -> Option<u16>
+    ensures { result ≡ tag_of digits.now }
+{
+    match digits {
+        [a, b, c, d] => {
             let high = byte_with(*a, *b)?;
             let low = byte_with(*c, *d)?;
-            Some(Relation::DirectoryTag(256 * high as u16 + low as u16))
+            Some(256 * high as u16 + low as u16)
         }
         _ => None,
     }

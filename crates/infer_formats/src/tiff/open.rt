@@ -1,9 +1,9 @@
 //! What more bytes may bring to the first directory of a TIFF file.
 ghost use Rattle.std.specs.Prelude.{◌↔◌, IsTrue};
-ghost use Rattle.infer_formats.specs.Tiff.{HasTag, MayHaveEntry, MayHaveTag};
+ghost use Rattle.infer_formats.specs.Tiff.{HasTag, HasTagAndMake, MayHaveEntry, MayHaveTag};
 ghost use Rattle.infer_deep.specs.Signatures.{MayBecome};
 
-use super::{COUNT_SIZE, DIRECTORY, ENTRY_SIZE};
+use super::{COUNT_SIZE, DIRECTORY, ENTRY_SIZE, MAKE};
 use crate::numbers::{bytes16, number16, number32};
 use infer_deep::places::may_stand_at;
 
@@ -12,6 +12,14 @@ pub fn first_directory_may_have_tag(buf: &[u8], tag: u16) -> bool
     ensures { MayBecome (HasTag tag) buf.now → IsTrue result }
 {
     may_have_tag(buf, tag)
+}
+
+/// Whether some bytes after `buf`, or none, may give it an entry with this tag, and one that says this make. Of the second
+/// only its tag is asked.
+pub fn first_directory_may_have_tag_and_make(buf: &[u8], tag: u16, make: &[u8]) -> bool
+    ensures { MayBecome (HasTagAndMake tag make.now) buf.now → IsTrue result }
+{
+    first_directory_may_have_tag(buf, tag) && first_directory_may_have_tag(buf, MAKE)
 }
 
 fn may_have_tag(buf: &[u8], tag: u16) -> bool

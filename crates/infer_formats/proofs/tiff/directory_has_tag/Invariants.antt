@@ -3,4 +3,4 @@ use Rattle.infer_formats.proofs.Common.{ℕ, ◌<◌, IsTagEntry}
 use Rattle.infer_formats.proofs.tiff.directory_has_tag.Given as goal
 
 abbrev pub invariant-loop-i : goal.invariant-loop-i
-invariant-loop-i l = (k : ℕ) → k < l.i → ¬ IsTagEntry l.big l.tag l.buf l.start k
+invariant-loop-i l = (k : ℕ) → k < l.i → ¬ IsTagEntry l.big l.tag l.buf l.directory.start k
