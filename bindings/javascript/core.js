@@ -7,7 +7,7 @@ const FRONT = 8192;
 const FIRST = 1024;
 const PAGE = 65536;
 /** Room for the longest sample. */
-const SAMPLE = 1088;
+const SAMPLE = 4136;
 /** Room for a text that the module writes, of which two stand behind the bytes that it is asked about. */
 const TEXT = 256;
 /** Then come two numbers, what is needed to decide and room for its ranges, and a text of types. */

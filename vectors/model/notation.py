@@ -307,6 +307,7 @@ RELATIONS = [
     ('JSON', rb"", None),
     ('text', rb"", lambda buf, words: is_text(buf)),
     ('first directory has tag', HEX + HEX, None),
+    ('first directory has tag', HEX + HEX + rb"\0and\0make\0" + QUOTED, None),
     ('package with :', QUOTED, None),
     ('behind an ID3 tag :', QUOTED, lambda buf, words: behind_tag(buf).startswith(words[0][1:-1])),
     ('entry :', QUOTED, lambda buf, words: has_entry(buf, words[0][1:-1])),

@@ -127,7 +127,7 @@ def relation(rng):
     ids = [[pair(rng, rng.randrange(256)) for _ in range(16)] for _ in names]
     said = [
         "shared object", 'chunk "acTL" before "IDAT"', "first cue of SubRip", "dBASE header", "Java archive", "tar checksum", "JSON lines", "JSON",
-        "first directory has tag C612", 'package with : "word/"', 'behind an ID3 tag : "fLaC"', "class id : " + " or ".join(" ".join(it) for it in ids),
+        "first directory has tag C612", 'first directory has tag 014A and make "NIKON"', 'package with : "word/"', 'behind an ID3 tag : "fLaC"', "class id : " + " or ".join(" ".join(it) for it in ids),
     ]
     return rng.choice(said).split(), b"", "mp4"
 

@@ -82,7 +82,7 @@ def never_java(buf: bytes, _: str) -> bool:
 
 
 def never_tagged(buf: bytes, said: str) -> bool:
-    """The first directory is whole, and no entry has the tag."""
+    """The first directory is whole, and no entry has the tag. Of a make nothing is said."""
     if not agrees(buf, b"II*\0", 0) and not agrees(buf, b"MM\0*", 0):
         return True
     order = "little" if buf[:1] == b"I" else "big"
@@ -91,7 +91,7 @@ def never_tagged(buf: bytes, said: str) -> bool:
         return False
     count = int.from_bytes(buf[start : start + 2], order)
     tags = [buf[at : at + 2] for at in range(start + 2, start + 2 + 12 * count, 12)]
-    return len(buf) >= start + 2 + 12 * count and int(said, 16).to_bytes(2, order) not in tags
+    return len(buf) >= start + 2 + 12 * count and int(said.split()[0], 16).to_bytes(2, order) not in tags
 
 
 def never_behind_tag(buf: bytes, said: str) -> bool:

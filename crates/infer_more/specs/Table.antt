@@ -1,6 +1,6 @@
 -- The further rows, in order. A row whose signature has no alternative accepts nothing.
 use Rattle.std.specs.Prelude.{ℕ, List, [], ◌∷◌, ◌++◌, Option, None, Some, codes}
-use Rattle.infer_formats.specs.Relation.{animated, behind_id3, class_id, dbase, directory_tag, first_entry_ends_in, first_entry_is, first_key, first_key_with, has_entry, header, java_archive, json_lines, json_text, package_with, plain_text, program, root, root_with, shared_object, subrip, tar_checksum, text_first, text_first_with, text_first_with_all}
+use Rattle.infer_formats.specs.Relation.{animated, behind_id3, class_id, dbase, directory_tag, directory_tag_and_make, first_entry_ends_in, first_entry_is, first_key, first_key_with, has_entry, header, java_archive, json_lines, json_text, package_with, plain_text, program, root, root_with, shared_object, subrip, tar_checksum, text_first, text_first_with, text_first_with_all}
 use Rattle.infer_sig.specs.Signature as fixed
 use Rattle.infer_sig.specs.Signature.{text, byte, any_of, between}
 use Rattle.infer.specs.Triple.{triple}
@@ -990,6 +990,10 @@ mended =
     ∷ row App (codes "application/vnd.microsoft.portable-executable") (codes "dll") (Some EXE) (related (header (codes "PE" ++ 0x00 ∷ 0x00 ∷ []) 0x16 0x2000 0x3FFF) ∷ related (header (codes "PE" ++ 0x00 ∷ 0x00 ∷ []) 0x16 0xA000 0xBFFF) ∷ [])
     ∷ row App (codes "application/x-ms-ne-executable") (codes "ne") (Some EXE) (related (header (codes "NE") 0x01 0x145 0xFF45) ∷ [])
     ∷ row App (codes "application/x-lx-executable") (codes "lx") (Some EXE) (related (header (codes "LX") 0x02 0x00 0x00) ∷ related (header (codes "LE") 0x02 0x00 0x00) ∷ [])
+    ∷ row Image (codes "image/x-nikon-nef") (codes "nef") (Some TIFF) (related (directory_tag_and_make 0x014A (codes "NIKON")) ∷ [])
+    ∷ row Image (codes "image/x-sony-arw") (codes "arw") (Some TIFF) (related (directory_tag_and_make 0x014A (codes "SONY")) ∷ [])
+    ∷ row Image (codes "image/x-kodak-kdc") (codes "kdc") (Some TIFF) (at_least 263 (text 242 (codes "EASTMAN KODAK COMPANY") ∷ []) ∷ [])
+    ∷ row Image (codes "image/x-phaseone-iiq") (codes "iiq") (Some TIFF) (at_least 12 (text 8 (codes "IIII") ∷ []) ∷ [])
     ∷ []
 
 -- texts that begin with a text of their own
@@ -1153,6 +1157,10 @@ inner =
     ∷ row Audio (codes "audio/x-ptm") (codes "ptm") None (at_least 48 (text 28 (0x1A ∷ []) ∷ text 44 (codes "PTMF") ∷ []) ∷ [])
     ∷ row Audio (codes "audio/vnd.dolby.mlp") (codes "mlp") None (at_least 8 (text 4 (0xF8 ∷ [] ++ codes "ro") ∷ byte 7 (any_of (0xBA ∷ 0xBB ∷ [])) ∷ []) ∷ [])
     ∷ row Audio (codes "audio/vnd.audible") (codes "aa") None (at_least 8 (text 4 (0x57 ∷ 0x90 ∷ [] ++ codes "u6") ∷ []) ∷ [])
+    ∷ row Archive (codes "application/x-swap") (codes "swap") None (at_least 4096 (text 4086 (codes "SWAPSPACE2") ∷ []) ∷ [])
+    ∷ row Archive (codes "application/x-bcachefs") (codes "bcachefs") None (at_least 4136 (text 4120 (0xC6 ∷ 0x85 ∷ 0x73 ∷ 0xF6 ∷ 0x4E ∷ 0x1A ∷ 0x45 ∷ 0xCA ∷ 0x82 ∷ 0x65 ∷ 0xF5 ∷ 0x7F ∷ 0x48 ∷ 0xBA ∷ 0x6D ∷ 0x81 ∷ []) ∷ []) ∷ [])
+    ∷ row Archive (codes "application/x-md-raid") (codes "mdraid") None (at_least 4104 (text 4096 (0xFC ∷ 0x4E ∷ 0x2B ∷ 0xA9 ∷ 0x01 ∷ 0x00 ∷ 0x00 ∷ 0x00 ∷ []) ∷ []) ∷ [])
+    ∷ row Image (codes "image/x-photo-cd") (codes "pcdimg") None (at_least 2055 (text 2048 (codes "PCD_IPI") ∷ []) ∷ [])
     ∷ []
 
 -- more rows of bytes behind the front: films, disks and file systems

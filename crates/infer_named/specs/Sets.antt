@@ -245,2699 +245,2720 @@ rows-arrow = 66
 abbrev pub rows-arsc : ℕ
 rows-arsc = 67
 
+abbrev pub rows-arw : ℕ
+rows-arw = 68
+
 abbrev pub rows-as : ℕ
-rows-as = 68
+rows-as = 69
 
 abbrev pub rows-asar : ℕ
-rows-asar = 69
+rows-asar = 70
 
 abbrev pub rows-asc : ℕ
-rows-asc = 70
+rows-asc = 71
 
 abbrev pub rows-astc : ℕ
-rows-astc = 71
+rows-astc = 72
 
 abbrev pub rows-asx : ℕ
-rows-asx = 72
+rows-asx = 73
 
 abbrev pub rows-atom : ℕ
-rows-atom = 73
+rows-atom = 74
 
 abbrev pub rows-au : ℕ
-rows-au = 74
+rows-au = 75
 
 abbrev pub rows-aup : ℕ
-rows-aup = 75
+rows-aup = 76
 
 abbrev pub rows-aup3 : ℕ
-rows-aup3 = 76
+rows-aup3 = 77
 
 abbrev pub rows-aup3-fossil-gpkg-mbtiles-mtn : ℕ
-rows-aup3-fossil-gpkg-mbtiles-mtn = 77
+rows-aup3-fossil-gpkg-mbtiles-mtn = 78
 
 abbrev pub rows-avi : ℕ
-rows-avi = 78
+rows-avi = 79
 
 abbrev pub rows-avif : ℕ
-rows-avif = 79
+rows-avif = 80
 
 abbrev pub rows-avr : ℕ
-rows-avr = 80
+rows-avr = 81
 
 abbrev pub rows-avro : ℕ
-rows-avro = 81
+rows-avro = 82
 
 abbrev pub rows-aw : ℕ
-rows-aw = 82
+rows-aw = 83
 
 abbrev pub rows-awbm : ℕ
-rows-awbm = 83
+rows-awbm = 84
 
 abbrev pub rows-awk : ℕ
-rows-awk = 84
+rows-awk = 85
 
 abbrev pub rows-axml : ℕ
-rows-axml = 85
+rows-axml = 86
 
 abbrev pub rows-ay : ℕ
-rows-ay = 86
+rows-ay = 87
 
 abbrev pub rows-bai : ℕ
-rows-bai = 87
+rows-bai = 88
 
 abbrev pub rows-bam : ℕ
-rows-bam = 88
+rows-bam = 89
 
 abbrev pub rows-bat : ℕ
-rows-bat = 89
+rows-bat = 90
 
 abbrev pub rows-bc : ℕ
-rows-bc = 90
+rows-bc = 91
 
 abbrev pub rows-bc-bcw : ℕ
-rows-bc-bcw = 91
+rows-bc-bcw = 92
+
+abbrev pub rows-bcachefs : ℕ
+rows-bcachefs = 93
 
 abbrev pub rows-bcstm : ℕ
-rows-bcstm = 92
+rows-bcstm = 94
 
 abbrev pub rows-bcwav : ℕ
-rows-bcwav = 93
+rows-bcwav = 95
 
 abbrev pub rows-bdb : ℕ
-rows-bdb = 94
+rows-bdb = 96
 
 abbrev pub rows-bdf : ℕ
-rows-bdf = 95
+rows-bdf = 97
 
 abbrev pub rows-bdfb : ℕ
-rows-bdfb = 96
+rows-bdfb = 98
 
 abbrev pub rows-beam : ℕ
-rows-beam = 97
+rows-beam = 99
 
 abbrev pub rows-bfstm : ℕ
-rows-bfstm = 98
+rows-bfstm = 100
 
 abbrev pub rows-bgzf-karbon-kil-kpr-ksp-kwd : ℕ
-rows-bgzf-karbon-kil-kpr-ksp-kwd = 99
+rows-bgzf-karbon-kil-kpr-ksp-kwd = 101
 
 abbrev pub rows-bib : ℕ
-rows-bib = 100
+rows-bib = 102
 
 abbrev pub rows-biff-xls : ℕ
-rows-biff-xls = 101
+rows-biff-xls = 103
 
 abbrev pub rows-bik : ℕ
-rows-bik = 102
+rows-bik = 104
 
 abbrev pub rows-blb : ℕ
-rows-blb = 103
+rows-blb = 105
 
 abbrev pub rows-blend : ℕ
-rows-blend = 104
+rows-blend = 106
 
 abbrev pub rows-blp : ℕ
-rows-blp = 105
+rows-blp = 107
 
 abbrev pub rows-bmp : ℕ
-rows-bmp = 106
+rows-bmp = 108
 
 abbrev pub rows-bmp-dib : ℕ
-rows-bmp-dib = 107
+rows-bmp-dib = 109
 
 abbrev pub rows-bookmarks : ℕ
-rows-bookmarks = 108
+rows-bookmarks = 110
 
 abbrev pub rows-bootimg : ℕ
-rows-bootimg = 109
+rows-bootimg = 111
 
 abbrev pub rows-bpg : ℕ
-rows-bpg = 110
+rows-bpg = 112
 
 abbrev pub rows-bplist : ℕ
-rows-bplist = 111
+rows-bplist = 113
 
 abbrev pub rows-bps : ℕ
-rows-bps = 112
+rows-bps = 114
 
 abbrev pub rows-brstm : ℕ
-rows-brstm = 113
+rows-brstm = 115
 
 abbrev pub rows-bsdiff : ℕ
-rows-bsdiff = 114
+rows-bsdiff = 116
 
 abbrev pub rows-bsp : ℕ
-rows-bsp = 115
+rows-bsp = 117
 
 abbrev pub rows-btf-tif : ℕ
-rows-btf-tif = 116
+rows-btf-tif = 118
 
 abbrev pub rows-bufr : ℕ
-rows-bufr = 117
+rows-bufr = 119
 
 abbrev pub rows-bz1-bz2 : ℕ
-rows-bz1-bz2 = 118
+rows-bz1-bz2 = 120
 
 abbrev pub rows-bz2 : ℕ
-rows-bz2 = 119
+rows-bz2 = 121
 
 abbrev pub rows-bz2-gz-xz : ℕ
-rows-bz2-gz-xz = 120
+rows-bz2-gz-xz = 122
 
 abbrev pub rows-bz3 : ℕ
-rows-bz3 = 121
+rows-bz3 = 123
 
 abbrev pub rows-bzimage : ℕ
-rows-bzimage = 122
+rows-bzimage = 124
 
 abbrev pub rows-cab : ℕ
-rows-cab = 123
+rows-cab = 125
 
 abbrev pub rows-caf : ℕ
-rows-caf = 124
+rows-caf = 126
 
 abbrev pub rows-cbor : ℕ
-rows-cbor = 125
+rows-cbor = 127
 
 abbrev pub rows-cci : ℕ
-rows-cci = 126
+rows-cci = 128
 
 abbrev pub rows-ccmx : ℕ
-rows-ccmx = 127
+rows-ccmx = 129
 
 abbrev pub rows-cdf : ℕ
-rows-cdf = 128
+rows-cdf = 130
 
 abbrev pub rows-cdr : ℕ
-rows-cdr = 129
+rows-cdr = 131
 
 abbrev pub rows-cdx : ℕ
-rows-cdx = 130
+rows-cdx = 132
 
 abbrev pub rows-cdxa : ℕ
-rows-cdxa = 131
+rows-cdxa = 133
 
 abbrev pub rows-cer : ℕ
-rows-cer = 132
+rows-cer = 134
 
 abbrev pub rows-cer-crl : ℕ
-rows-cer-crl = 133
+rows-cer-crl = 135
 
 abbrev pub rows-cer-p10-p8-pkipath : ℕ
-rows-cer-p10-p8-pkipath = 134
+rows-cer-p10-p8-pkipath = 136
 
 abbrev pub rows-chd : ℕ
-rows-chd = 135
+rows-chd = 137
 
 abbrev pub rows-chm : ℕ
-rows-chm = 136
+rows-chm = 138
 
 abbrev pub rows-chrt : ℕ
-rows-chrt = 137
+rows-chrt = 139
 
 abbrev pub rows-cin : ℕ
-rows-cin = 138
+rows-cin = 140
 
 abbrev pub rows-class : ℕ
-rows-class = 139
+rows-class = 141
 
 abbrev pub rows-clj : ℕ
-rows-clj = 140
+rows-clj = 142
 
 abbrev pub rows-cloudcfg : ℕ
-rows-cloudcfg = 141
+rows-cloudcfg = 143
 
 abbrev pub rows-cma : ℕ
-rows-cma = 142
+rows-cma = 144
 
 abbrev pub rows-cmap-eps-pfa-t2t : ℕ
-rows-cmap-eps-pfa-t2t = 143
+rows-cmap-eps-pfa-t2t = 145
 
 abbrev pub rows-cmi : ℕ
-rows-cmi = 144
+rows-cmi = 146
 
 abbrev pub rows-cml : ℕ
-rows-cml = 145
+rows-cml = 147
 
 abbrev pub rows-cmo : ℕ
-rows-cmo = 146
+rows-cmo = 148
 
 abbrev pub rows-cmt : ℕ
-rows-cmt = 147
+rows-cmt = 149
 
 abbrev pub rows-cmx : ℕ
-rows-cmx = 148
+rows-cmx = 150
 
 abbrev pub rows-cmxa : ℕ
-rows-cmxa = 149
+rows-cmxa = 151
 
 abbrev pub rows-cmxr : ℕ
-rows-cmxr = 150
+rows-cmxr = 152
 
 abbrev pub rows-core : ℕ
-rows-core = 151
+rows-core = 153
 
 abbrev pub rows-cpi : ℕ
-rows-cpi = 152
+rows-cpi = 154
 
 abbrev pub rows-cpio : ℕ
-rows-cpio = 153
+rows-cpio = 155
 
 abbrev pub rows-cpt : ℕ
-rows-cpt = 154
+rows-cpt = 156
 
 abbrev pub rows-cr2 : ℕ
-rows-cr2 = 155
+rows-cr2 = 157
 
 abbrev pub rows-cr2-dng : ℕ
-rows-cr2-dng = 156
+rows-cr2-dng = 158
 
 abbrev pub rows-cr3 : ℕ
-rows-cr3 = 157
+rows-cr3 = 159
 
 abbrev pub rows-cram : ℕ
-rows-cram = 158
+rows-cram = 160
 
 abbrev pub rows-cramfs : ℕ
-rows-cramfs = 159
+rows-cramfs = 161
 
 abbrev pub rows-crl : ℕ
-rows-crl = 160
+rows-crl = 162
 
 abbrev pub rows-crw : ℕ
-rows-crw = 161
+rows-crw = 163
 
 abbrev pub rows-crx : ℕ
-rows-crx = 162
+rows-crx = 164
 
 abbrev pub rows-csh : ℕ
-rows-csh = 163
+rows-csh = 165
 
 abbrev pub rows-csi : ℕ
-rows-csi = 164
+rows-csi = 166
 
 abbrev pub rows-cso : ℕ
-rows-cso = 165
+rows-cso = 167
 
 abbrev pub rows-csr-p10 : ℕ
-rows-csr-p10 = 166
+rows-csr-p10 = 168
 
 abbrev pub rows-cubin : ℕ
-rows-cubin = 167
+rows-cubin = 169
 
 abbrev pub rows-cue : ℕ
-rows-cue = 168
+rows-cue = 170
 
 abbrev pub rows-cupsraster : ℕ
-rows-cupsraster = 169
+rows-cupsraster = 171
 
 abbrev pub rows-cur : ℕ
-rows-cur = 170
+rows-cur = 172
 
 abbrev pub rows-cwk : ℕ
-rows-cwk = 171
+rows-cwk = 173
 
 abbrev pub rows-czi : ℕ
-rows-czi = 172
+rows-czi = 174
 
 abbrev pub rows-dae : ℕ
-rows-dae = 173
+rows-dae = 175
 
 abbrev pub rows-dar : ℕ
-rows-dar = 174
+rows-dar = 176
 
 abbrev pub rows-dart : ℕ
-rows-dart = 175
+rows-dart = 177
 
 abbrev pub rows-dbf : ℕ
-rows-dbf = 176
+rows-dbf = 178
 
 abbrev pub rows-dbk : ℕ
-rows-dbk = 177
+rows-dbk = 179
 
 abbrev pub rows-dbm : ℕ
-rows-dbm = 178
+rows-dbm = 180
 
 abbrev pub rows-dbpf : ℕ
-rows-dbpf = 179
+rows-dbpf = 181
 
 abbrev pub rows-dbusservice : ℕ
-rows-dbusservice = 180
+rows-dbusservice = 182
 
 abbrev pub rows-dc-gcm-saturn-segacd : ℕ
-rows-dc-gcm-saturn-segacd = 181
+rows-dc-gcm-saturn-segacd = 183
 
 abbrev pub rows-dcm : ℕ
-rows-dcm = 182
+rows-dcm = 184
 
 abbrev pub rows-dcr : ℕ
-rows-dcr = 183
+rows-dcr = 185
 
 abbrev pub rows-dcx : ℕ
-rows-dcx = 184
+rows-dcx = 186
 
 abbrev pub rows-dds : ℕ
-rows-dds = 185
+rows-dds = 187
 
 abbrev pub rows-deb : ℕ
-rows-deb = 186
+rows-deb = 188
 
 abbrev pub rows-deb-goa : ℕ
-rows-deb-goa = 187
+rows-deb-goa = 189
 
 abbrev pub rows-der : ℕ
-rows-der = 188
+rows-der = 190
 
 abbrev pub rows-der-application-x-pem-key-pem : ℕ
-rows-der-application-x-pem-key-pem = 189
+rows-der-application-x-pem-key-pem = 191
 
 abbrev pub rows-der-p7b-pem : ℕ
-rows-der-p7b-pem = 190
+rows-der-p7b-pem = 192
 
 abbrev pub rows-der-pem : ℕ
-rows-der-pem = 191
+rows-der-pem = 193
 
 abbrev pub rows-der-pem-txt : ℕ
-rows-der-pem-txt = 192
+rows-der-pem-txt = 194
 
 abbrev pub rows-desktop : ℕ
-rows-desktop = 193
+rows-desktop = 195
 
 abbrev pub rows-dex : ℕ
-rows-dex = 194
+rows-dex = 196
 
 abbrev pub rows-dey : ℕ
-rows-dey = 195
+rows-dey = 197
 
 abbrev pub rows-dff : ℕ
-rows-dff = 196
+rows-dff = 198
 
 abbrev pub rows-dfont : ℕ
-rows-dfont = 197
+rows-dfont = 199
 
 abbrev pub rows-dgn : ℕ
-rows-dgn = 198
+rows-dgn = 200
 
 abbrev pub rows-dia : ℕ
-rows-dia = 199
+rows-dia = 201
 
 abbrev pub rows-diashape : ℕ
-rows-diashape = 200
+rows-diashape = 202
 
 abbrev pub rows-dif : ℕ
-rows-dif = 201
+rows-dif = 203
 
 abbrev pub rows-diff : ℕ
-rows-diff = 202
+rows-diff = 204
 
 abbrev pub rows-djvm : ℕ
-rows-djvm = 203
+rows-djvm = 205
 
 abbrev pub rows-djvu : ℕ
-rows-djvu = 204
+rows-djvu = 206
 
 abbrev pub rows-dmp : ℕ
-rows-dmp = 205
+rows-dmp = 207
 
 abbrev pub rows-dng : ℕ
-rows-dng = 206
+rows-dng = 208
 
 abbrev pub rows-doc-doc2 : ℕ
-rows-doc-doc2 = 207
+rows-doc-doc2 = 209
 
 abbrev pub rows-docker : ℕ
-rows-docker = 208
+rows-docker = 210
 
 abbrev pub rows-docm : ℕ
-rows-docm = 209
+rows-docm = 211
 
 abbrev pub rows-docm-docx-application-x-ole-storage-zip : ℕ
-rows-docm-docx-application-x-ole-storage-zip = 210
+rows-docm-docx-application-x-ole-storage-zip = 212
 
 abbrev pub rows-docx : ℕ
-rows-docx = 211
+rows-docx = 213
 
 abbrev pub rows-docx-application-x-ole-storage-zip : ℕ
-rows-docx-application-x-ole-storage-zip = 212
+rows-docx-application-x-ole-storage-zip = 214
 
 abbrev pub rows-dpx : ℕ
-rows-dpx = 213
+rows-dpx = 215
 
 abbrev pub rows-drc : ℕ
-rows-drc = 214
+rows-drc = 216
 
 abbrev pub rows-drdoscpi : ℕ
-rows-drdoscpi = 215
+rows-drdoscpi = 217
 
 abbrev pub rows-dsc : ℕ
-rows-dsc = 216
+rows-dsc = 218
 
 abbrev pub rows-dsf : ℕ
-rows-dsf = 217
+rows-dsf = 219
 
 abbrev pub rows-dss : ℕ
-rows-dss = 218
+rows-dss = 220
 
 abbrev pub rows-dtb : ℕ
-rows-dtb = 219
+rows-dtb = 221
 
 abbrev pub rows-dts : ℕ
-rows-dts = 220
+rows-dts = 222
 
 abbrev pub rows-dtsi : ℕ
-rows-dtsi = 221
+rows-dtsi = 223
 
 abbrev pub rows-dv : ℕ
-rows-dv = 222
+rows-dv = 224
 
 abbrev pub rows-dvb : ℕ
-rows-dvb = 223
+rows-dvb = 225
 
 abbrev pub rows-dvi : ℕ
-rows-dvi = 224
+rows-dvi = 226
 
 abbrev pub rows-dwg : ℕ
-rows-dwg = 225
+rows-dwg = 227
 
 abbrev pub rows-dxf : ℕ
-rows-dxf = 226
+rows-dxf = 228
 
 abbrev pub rows-e57 : ℕ
-rows-e57 = 227
+rows-e57 = 229
 
 abbrev pub rows-eac3 : ℕ
-rows-eac3 = 228
+rows-eac3 = 230
 
 abbrev pub rows-edf : ℕ
-rows-edf = 229
+rows-edf = 231
 
 abbrev pub rows-edid : ℕ
-rows-edid = 230
+rows-edid = 232
 
 abbrev pub rows-eet : ℕ
-rows-eet = 231
+rows-eet = 233
 
 abbrev pub rows-egg : ℕ
-rows-egg = 232
+rows-egg = 234
 
 abbrev pub rows-elc : ℕ
-rows-elc = 233
+rows-elc = 235
 
 abbrev pub rows-elf : ℕ
-rows-elf = 234
+rows-elf = 236
 
 abbrev pub rows-elf-so : ℕ
-rows-elf-so = 235
+rows-elf-so = 237
 
 abbrev pub rows-elisp : ℕ
-rows-elisp = 236
+rows-elisp = 238
 
 abbrev pub rows-emf : ℕ
-rows-emf = 237
+rows-emf = 239
 
 abbrev pub rows-eml : ℕ
-rows-eml = 238
+rows-eml = 240
 
 abbrev pub rows-eot : ℕ
-rows-eot = 239
+rows-eot = 241
 
 abbrev pub rows-eps : ℕ
-rows-eps = 240
+rows-eps = 242
 
 abbrev pub rows-eps-pdf-ps : ℕ
-rows-eps-pdf-ps = 241
+rows-eps-pdf-ps = 243
 
 abbrev pub rows-epub : ℕ
-rows-epub = 242
+rows-epub = 244
 
 abbrev pub rows-escript : ℕ
-rows-escript = 243
+rows-escript = 245
 
 abbrev pub rows-evtx : ℕ
-rows-evtx = 244
+rows-evtx = 246
 
 abbrev pub rows-exe : ℕ
-rows-exe = 245
+rows-exe = 247
 
 abbrev pub rows-exe-dll-efi-lx-ne-sys : ℕ
-rows-exe-dll-efi-lx-ne-sys = 246
+rows-exe-dll-efi-lx-ne-sys = 248
 
 abbrev pub rows-exr : ℕ
-rows-exr = 247
+rows-exr = 249
 
 abbrev pub rows-exs : ℕ
-rows-exs = 248
+rows-exs = 250
 
 abbrev pub rows-ext2 : ℕ
-rows-ext2 = 249
+rows-ext2 = 251
 
 abbrev pub rows-f4a : ℕ
-rows-f4a = 250
+rows-f4a = 252
 
 abbrev pub rows-f4v : ℕ
-rows-f4v = 251
+rows-f4v = 253
 
 abbrev pub rows-fb2 : ℕ
-rows-fb2 = 252
+rows-fb2 = 254
 
 abbrev pub rows-fbx-fbxtext : ℕ
-rows-fbx-fbxtext = 253
+rows-fbx-fbxtext = 255
 
 abbrev pub rows-fbz : ℕ
-rows-fbz = 254
+rows-fbz = 256
 
 abbrev pub rows-fccache : ℕ
-rows-fccache = 255
+rows-fccache = 257
 
 abbrev pub rows-fcstd : ℕ
-rows-fcstd = 256
+rows-fcstd = 258
 
 abbrev pub rows-fdf : ℕ
-rows-fdf = 257
+rows-fdf = 259
 
 abbrev pub rows-fds : ℕ
-rows-fds = 258
+rows-fds = 260
 
 abbrev pub rows-ff : ℕ
-rows-ff = 259
+rows-ff = 261
 
 abbrev pub rows-fig : ℕ
-rows-fig = 260
+rows-fig = 262
 
 abbrev pub rows-fish : ℕ
-rows-fish = 261
+rows-fish = 263
 
 abbrev pub rows-fits : ℕ
-rows-fits = 262
+rows-fits = 264
 
 abbrev pub rows-fl : ℕ
-rows-fl = 263
+rows-fl = 265
 
 abbrev pub rows-flac : ℕ
-rows-flac = 264
+rows-flac = 266
 
 abbrev pub rows-flac-ogg-opus : ℕ
-rows-flac-ogg-opus = 265
+rows-flac-ogg-opus = 267
 
 abbrev pub rows-flatpak : ℕ
-rows-flatpak = 266
+rows-flatpak = 268
 
 abbrev pub rows-flatpakref : ℕ
-rows-flatpakref = 267
+rows-flatpakref = 269
 
 abbrev pub rows-flatpakrepo : ℕ
-rows-flatpakrepo = 268
+rows-flatpakrepo = 270
 
 abbrev pub rows-fli : ℕ
-rows-fli = 269
+rows-fli = 271
 
 abbrev pub rows-flif : ℕ
-rows-flif = 270
+rows-flif = 272
 
 abbrev pub rows-flv : ℕ
-rows-flv = 271
+rows-flv = 273
 
 abbrev pub rows-flw : ℕ
-rows-flw = 272
+rows-flw = 274
 
 abbrev pub rows-fm : ℕ
-rows-fm = 273
+rows-fm = 275
 
 abbrev pub rows-fodg : ℕ
-rows-fodg = 274
+rows-fodg = 276
 
 abbrev pub rows-fodp : ℕ
-rows-fodp = 275
+rows-fodp = 277
 
 abbrev pub rows-fods : ℕ
-rows-fods = 276
+rows-fods = 278
 
 abbrev pub rows-fodt : ℕ
-rows-fodt = 277
+rows-fodt = 279
 
 abbrev pub rows-fpx : ℕ
-rows-fpx = 278
+rows-fpx = 280
 
 abbrev pub rows-g64 : ℕ
-rows-g64 = 279
+rows-g64 = 281
 
 abbrev pub rows-gb-gbc : ℕ
-rows-gb-gbc = 280
+rows-gb-gbc = 282
 
 abbrev pub rows-gba : ℕ
-rows-gba = 281
+rows-gba = 283
 
 abbrev pub rows-gbr : ℕ
-rows-gbr = 282
+rows-gbr = 284
 
 abbrev pub rows-gbs : ℕ
-rows-gbs = 283
+rows-gbs = 285
 
 abbrev pub rows-gcda : ℕ
-rows-gcda = 284
+rows-gcda = 286
 
 abbrev pub rows-gcda-gcno : ℕ
-rows-gcda-gcno = 285
+rows-gcda-gcno = 287
 
 abbrev pub rows-gch : ℕ
-rows-gch = 286
+rows-gch = 288
 
 abbrev pub rows-gcm : ℕ
-rows-gcm = 287
+rows-gcm = 289
 
 abbrev pub rows-gconv : ℕ
-rows-gconv = 288
+rows-gconv = 290
 
 abbrev pub rows-gd2 : ℕ
-rows-gd2 = 289
+rows-gd2 = 291
 
 abbrev pub rows-gdbm : ℕ
-rows-gdbm = 290
+rows-gdbm = 292
 
 abbrev pub rows-gdf : ℕ
-rows-gdf = 291
+rows-gdf = 293
 
 abbrev pub rows-ged : ℕ
-rows-ged = 292
+rows-ged = 294
 
 abbrev pub rows-gem : ℕ
-rows-gem = 293
+rows-gem = 295
 
 abbrev pub rows-geojson : ℕ
-rows-geojson = 294
+rows-geojson = 296
 
 abbrev pub rows-gff3 : ℕ
-rows-gff3 = 295
+rows-gff3 = 297
 
 abbrev pub rows-ggr : ℕ
-rows-ggr = 296
+rows-ggr = 298
 
 abbrev pub rows-gguf : ℕ
-rows-gguf = 297
+rows-gguf = 299
 
 abbrev pub rows-gif : ℕ
-rows-gif = 298
+rows-gif = 300
 
 abbrev pub rows-gitbundle : ℕ
-rows-gitbundle = 299
+rows-gitbundle = 301
 
 abbrev pub rows-gitidx : ℕ
-rows-gitidx = 300
+rows-gitidx = 302
 
 abbrev pub rows-gitindex : ℕ
-rows-gitindex = 301
+rows-gitindex = 303
 
 abbrev pub rows-gitpatch : ℕ
-rows-gitpatch = 302
+rows-gitpatch = 304
 
 abbrev pub rows-gjs-js : ℕ
-rows-gjs-js = 303
+rows-gjs-js = 305
 
 abbrev pub rows-glade : ℕ
-rows-glade = 304
+rows-glade = 306
 
 abbrev pub rows-glb : ℕ
-rows-glb = 305
+rows-glb = 307
 
 abbrev pub rows-gltf : ℕ
-rows-gltf = 306
+rows-gltf = 308
 
 abbrev pub rows-gml : ℕ
-rows-gml = 307
+rows-gml = 309
 
 abbrev pub rows-gnd : ℕ
-rows-gnd = 308
+rows-gnd = 310
 
 abbrev pub rows-gnucash : ℕ
-rows-gnucash = 309
+rows-gnucash = 311
 
 abbrev pub rows-gnumeric : ℕ
-rows-gnumeric = 310
+rows-gnumeric = 312
 
 abbrev pub rows-gnuplot : ℕ
-rows-gnuplot = 311
+rows-gnuplot = 313
 
 abbrev pub rows-goobj : ℕ
-rows-goobj = 312
+rows-goobj = 314
 
 abbrev pub rows-gpg-gpgold : ℕ
-rows-gpg-gpgold = 313
+rows-gpg-gpgold = 315
 
 abbrev pub rows-gpgsec : ℕ
-rows-gpgsec = 314
+rows-gpgsec = 316
 
 abbrev pub rows-gpkg : ℕ
-rows-gpkg = 315
+rows-gpkg = 317
 
 abbrev pub rows-gpl : ℕ
-rows-gpl = 316
+rows-gpl = 318
 
 abbrev pub rows-gpx : ℕ
-rows-gpx = 317
+rows-gpx = 319
 
 abbrev pub rows-grib : ℕ
-rows-grib = 318
+rows-grib = 320
 
 abbrev pub rows-grib-grib2 : ℕ
-rows-grib-grib2 = 319
+rows-grib-grib2 = 321
 
 abbrev pub rows-groovy : ℕ
-rows-groovy = 320
+rows-groovy = 322
 
 abbrev pub rows-grp : ℕ
-rows-grp = 321
+rows-grp = 323
 
 abbrev pub rows-grubkbd : ℕ
-rows-grubkbd = 322
+rows-grubkbd = 324
 
 abbrev pub rows-gschema : ℕ
-rows-gschema = 323
+rows-gschema = 325
 
 abbrev pub rows-gtkbuilder : ℕ
-rows-gtkbuilder = 324
+rows-gtkbuilder = 326
 
 abbrev pub rows-gtp : ℕ
-rows-gtp = 325
+rows-gtp = 327
 
 abbrev pub rows-gv : ℕ
-rows-gv = 326
+rows-gv = 328
 
 abbrev pub rows-gvdb : ℕ
-rows-gvdb = 327
+rows-gvdb = 329
 
 abbrev pub rows-gx : ℕ
-rows-gx = 328
+rows-gx = 330
 
 abbrev pub rows-gz : ℕ
-rows-gz = 329
+rows-gz = 331
 
 abbrev pub rows-gz-html-txt-xhtml-xml : ℕ
-rows-gz-html-txt-xhtml-xml = 330
+rows-gz-html-txt-xhtml-xml = 332
 
 abbrev pub rows-gz-kspcrypt-zip : ℕ
-rows-gz-kspcrypt-zip = 331
+rows-gz-kspcrypt-zip = 333
 
 abbrev pub rows-gz-kwdcrypt-zip : ℕ
-rows-gz-kwdcrypt-zip = 332
+rows-gz-kwdcrypt-zip = 334
 
 abbrev pub rows-gz-sqlite-xml : ℕ
-rows-gz-sqlite-xml = 333
+rows-gz-sqlite-xml = 335
 
 abbrev pub rows-gz-txt-xml : ℕ
-rows-gz-txt-xml = 334
+rows-gz-txt-xml = 336
 
 abbrev pub rows-gz-xml : ℕ
-rows-gz-xml = 335
+rows-gz-xml = 337
 
 abbrev pub rows-gz-zip : ℕ
-rows-gz-zip = 336
+rows-gz-zip = 338
 
 abbrev pub rows-gz-zst : ℕ
-rows-gz-zst = 337
+rows-gz-zst = 339
 
 abbrev pub rows-h264 : ℕ
-rows-h264 = 338
+rows-h264 = 340
 
 abbrev pub rows-h265 : ℕ
-rows-h265 = 339
+rows-h265 = 341
 
 abbrev pub rows-hdd : ℕ
-rows-hdd = 340
+rows-hdd = 342
 
 abbrev pub rows-hdf4 : ℕ
-rows-hdf4 = 341
+rows-hdf4 = 343
 
 abbrev pub rows-hdf5 : ℕ
-rows-hdf5 = 342
+rows-hdf5 = 344
 
 abbrev pub rows-hdr : ℕ
-rows-hdr = 343
+rows-hdr = 345
 
 abbrev pub rows-hdt : ℕ
-rows-hdt = 344
+rows-hdt = 346
 
 abbrev pub rows-heic : ℕ
-rows-heic = 345
+rows-heic = 347
 
 abbrev pub rows-heics : ℕ
-rows-heics = 346
+rows-heics = 348
 
 abbrev pub rows-heics-heif : ℕ
-rows-heics-heif = 347
+rows-heics-heif = 349
 
 abbrev pub rows-heif : ℕ
-rows-heif = 348
+rows-heif = 350
 
 abbrev pub rows-heifs : ℕ
-rows-heifs = 349
+rows-heifs = 351
 
 abbrev pub rows-hfe : ℕ
-rows-hfe = 350
+rows-hfe = 352
 
 abbrev pub rows-hgbundle : ℕ
-rows-hgbundle = 351
+rows-hgbundle = 353
 
 abbrev pub rows-hi : ℕ
-rows-hi = 352
+rows-hi = 354
 
 abbrev pub rows-hlp : ℕ
-rows-hlp = 353
+rows-hlp = 355
 
 abbrev pub rows-hprof : ℕ
-rows-hprof = 354
+rows-hprof = 356
 
 abbrev pub rows-hqx : ℕ
-rows-hqx = 355
+rows-hqx = 357
 
 abbrev pub rows-hs : ℕ
-rows-hs = 356
+rows-hs = 358
 
 abbrev pub rows-hsi : ℕ
-rows-hsi = 357
+rows-hsi = 359
 
 abbrev pub rows-html : ℕ
-rows-html = 358
+rows-html = 360
 
 abbrev pub rows-html-json-php-svg-txt-xhtml-xml : ℕ
-rows-html-json-php-svg-txt-xhtml-xml = 359
+rows-html-json-php-svg-txt-xhtml-xml = 361
 
 abbrev pub rows-html-rss-txt-xml : ℕ
-rows-html-rss-txt-xml = 360
+rows-html-rss-txt-xml = 362
 
 abbrev pub rows-html-sh-svg-txt-xhtml-xml : ℕ
-rows-html-sh-svg-txt-xhtml-xml = 361
+rows-html-sh-svg-txt-xhtml-xml = 363
 
 abbrev pub rows-html-txt : ℕ
-rows-html-txt = 362
+rows-html-txt = 364
 
 abbrev pub rows-html-txt-xhtml-xml : ℕ
-rows-html-txt-xhtml-xml = 363
+rows-html-txt-xhtml-xml = 365
 
 abbrev pub rows-html-txt-xml : ℕ
-rows-html-txt-xml = 364
+rows-html-txt-xml = 366
 
 abbrev pub rows-http : ℕ
-rows-http = 365
+rows-http = 367
 
 abbrev pub rows-hwp : ℕ
-rows-hwp = 366
+rows-hwp = 368
 
 abbrev pub rows-iaarc : ℕ
-rows-iaarc = 367
+rows-iaarc = 369
 
 abbrev pub rows-icc : ℕ
-rows-icc = 368
+rows-icc = 370
 
 abbrev pub rows-icns : ℕ
-rows-icns = 369
+rows-icns = 371
 
 abbrev pub rows-ico : ℕ
-rows-ico = 370
+rows-ico = 372
 
 abbrev pub rows-icontheme : ℕ
-rows-icontheme = 371
+rows-icontheme = 373
 
 abbrev pub rows-ics : ℕ
-rows-ics = 372
+rows-ics = 374
 
 abbrev pub rows-icures : ℕ
-rows-icures = 373
+rows-icures = 375
 
 abbrev pub rows-iff : ℕ
-rows-iff = 374
+rows-iff = 376
 
 abbrev pub rows-ifo : ℕ
-rows-ifo = 375
+rows-ifo = 377
 
 abbrev pub rows-igs : ℕ
-rows-igs = 376
+rows-igs = 378
 
 abbrev pub rows-iiq : ℕ
-rows-iiq = 377
+rows-iiq = 379
 
 abbrev pub rows-ilbm : ℕ
-rows-ilbm = 378
+rows-ilbm = 380
 
 abbrev pub rows-imy : ℕ
-rows-imy = 379
+rows-imy = 381
 
 abbrev pub rows-indd : ℕ
-rows-indd = 380
+rows-indd = 382
 
 abbrev pub rows-inf : ℕ
-rows-inf = 381
+rows-inf = 383
 
 abbrev pub rows-info : ℕ
-rows-info = 382
+rows-info = 384
 
 abbrev pub rows-innolog : ℕ
-rows-innolog = 383
+rows-innolog = 385
 
 abbrev pub rows-ips : ℕ
-rows-ips = 384
+rows-ips = 386
 
 abbrev pub rows-ipynb : ℕ
-rows-ipynb = 385
+rows-ipynb = 387
 
 abbrev pub rows-ircam : ℕ
-rows-ircam = 386
+rows-ircam = 388
 
 abbrev pub rows-it : ℕ
-rows-it = 387
+rows-it = 389
 
 abbrev pub rows-it87 : ℕ
-rows-it87 = 388
+rows-it87 = 390
 
 abbrev pub rows-itc : ℕ
-rows-itc = 389
+rows-itc = 391
 
 abbrev pub rows-ivf : ℕ
-rows-ivf = 390
+rows-ivf = 392
 
 abbrev pub rows-j2c : ℕ
-rows-j2c = 391
+rows-j2c = 393
 
 abbrev pub rows-jad : ℕ
-rows-jad = 392
+rows-jad = 394
 
 abbrev pub rows-jar : ℕ
-rows-jar = 393
+rows-jar = 395
 
 abbrev pub rows-jar-zip : ℕ
-rows-jar-zip = 394
+rows-jar-zip = 396
 
 abbrev pub rows-jarmf : ℕ
-rows-jarmf = 395
+rows-jarmf = 397
 
 abbrev pub rows-jbig2 : ℕ
-rows-jbig2 = 396
+rows-jbig2 = 398
 
 abbrev pub rows-jceks : ℕ
-rows-jceks = 397
+rows-jceks = 399
 
 abbrev pub rows-jffs2 : ℕ
-rows-jffs2 = 398
+rows-jffs2 = 400
 
 abbrev pub rows-jfr : ℕ
-rows-jfr = 399
+rows-jfr = 401
 
 abbrev pub rows-jimage : ℕ
-rows-jimage = 400
+rows-jimage = 402
 
 abbrev pub rows-jks : ℕ
-rows-jks = 401
+rows-jks = 403
 
 abbrev pub rows-jl : ℕ
-rows-jl = 402
+rows-jl = 404
 
 abbrev pub rows-jls : ℕ
-rows-jls = 403
+rows-jls = 405
 
 abbrev pub rows-jmod : ℕ
-rows-jmod = 404
+rows-jmod = 406
 
 abbrev pub rows-jng : ℕ
-rows-jng = 405
+rows-jng = 407
 
 abbrev pub rows-jnlp : ℕ
-rows-jnlp = 406
+rows-jnlp = 408
 
 abbrev pub rows-journal : ℕ
-rows-journal = 407
+rows-journal = 409
 
 abbrev pub rows-jp2 : ℕ
-rows-jp2 = 408
+rows-jp2 = 410
 
 abbrev pub rows-jpg : ℕ
-rows-jpg = 409
+rows-jpg = 411
 
 abbrev pub rows-jph : ℕ
-rows-jph = 410
+rows-jph = 412
 
 abbrev pub rows-jph-jpm-jpx-mj2 : ℕ
-rows-jph-jpm-jpx-mj2 = 411
+rows-jph-jpm-jpx-mj2 = 413
 
 abbrev pub rows-jpm : ℕ
-rows-jpm = 412
+rows-jpm = 414
 
 abbrev pub rows-jpx : ℕ
-rows-jpx = 413
+rows-jpx = 415
 
 abbrev pub rows-json : ℕ
-rows-json = 414
+rows-json = 416
 
 abbrev pub rows-json-ndjson-txt : ℕ
-rows-json-ndjson-txt = 415
+rows-json-ndjson-txt = 417
 
 abbrev pub rows-json-plist-txt-xml : ℕ
-rows-json-plist-txt-xml = 416
+rows-json-plist-txt-xml = 418
 
 abbrev pub rows-json-sh-txt : ℕ
-rows-json-sh-txt = 417
+rows-json-sh-txt = 419
 
 abbrev pub rows-json-txt : ℕ
-rows-json-txt = 418
+rows-json-txt = 420
 
 abbrev pub rows-jsonlz4 : ℕ
-rows-jsonlz4 = 419
+rows-jsonlz4 = 421
 
 abbrev pub rows-jxl : ℕ
-rows-jxl = 420
+rows-jxl = 422
 
 abbrev pub rows-jxr : ℕ
-rows-jxr = 421
+rows-jxr = 423
 
 abbrev pub rows-karbon : ℕ
-rows-karbon = 422
+rows-karbon = 424
 
 abbrev pub rows-kate-oga-ogm-ogv-ogx-opus-spx-vorbis : ℕ
-rows-kate-oga-ogm-ogv-ogx-opus-spx-vorbis = 423
+rows-kate-oga-ogm-ogv-ogx-opus-spx-vorbis = 425
 
 abbrev pub rows-kbx : ℕ
-rows-kbx = 424
+rows-kbx = 426
 
 abbrev pub rows-kdb : ℕ
-rows-kdb = 425
+rows-kdb = 427
 
 abbrev pub rows-kdbx : ℕ
-rows-kdbx = 426
+rows-kdbx = 428
+
+abbrev pub rows-kdc : ℕ
+rows-kdc = 429
 
 abbrev pub rows-kdump : ℕ
-rows-kdump = 427
+rows-kdump = 430
 
 abbrev pub rows-kfo : ℕ
-rows-kfo = 428
+rows-kfo = 431
 
 abbrev pub rows-kil : ℕ
-rows-kil = 429
+rows-kil = 432
 
 abbrev pub rows-kml : ℕ
-rows-kml = 430
+rows-kml = 433
 
 abbrev pub rows-kmz : ℕ
-rows-kmz = 431
+rows-kmz = 434
 
 abbrev pub rows-kon : ℕ
-rows-kon = 432
+rows-kon = 435
 
 abbrev pub rows-kpr : ℕ
-rows-kpr = 433
+rows-kpr = 436
 
 abbrev pub rows-kra : ℕ
-rows-kra = 434
+rows-kra = 437
 
 abbrev pub rows-ksp : ℕ
-rows-ksp = 435
+rows-ksp = 438
 
 abbrev pub rows-ktx : ℕ
-rows-ktx = 436
+rows-ktx = 439
 
 abbrev pub rows-ktx2 : ℕ
-rows-ktx2 = 437
+rows-ktx2 = 440
 
 abbrev pub rows-kwaj : ℕ
-rows-kwaj = 438
+rows-kwaj = 441
 
 abbrev pub rows-kwd : ℕ
-rows-kwd = 439
+rows-kwd = 442
 
 abbrev pub rows-la : ℕ
-rows-la = 440
+rows-la = 443
 
 abbrev pub rows-las : ℕ
-rows-las = 441
+rows-las = 444
 
 abbrev pub rows-laz : ℕ
-rows-laz = 442
+rows-laz = 445
 
 abbrev pub rows-ldcache : ℕ
-rows-ldcache = 443
+rows-ldcache = 446
 
 abbrev pub rows-ldif : ℕ
-rows-ldif = 444
+rows-ldif = 447
 
 abbrev pub rows-ldml : ℕ
-rows-ldml = 445
+rows-ldml = 448
 
 abbrev pub rows-lfp : ℕ
-rows-lfp = 446
+rows-lfp = 449
 
 abbrev pub rows-lingts : ℕ
-rows-lingts = 447
+rows-lingts = 450
 
 abbrev pub rows-lisp : ℕ
-rows-lisp = 448
+rows-lisp = 451
 
 abbrev pub rows-lit : ℕ
-rows-lit = 449
+rows-lit = 452
 
 abbrev pub rows-ll : ℕ
-rows-ll = 450
+rows-ll = 453
 
 abbrev pub rows-lmdb : ℕ
-rows-lmdb = 451
+rows-lmdb = 454
 
 abbrev pub rows-lnk : ℕ
-rows-lnk = 452
+rows-lnk = 455
 
 abbrev pub rows-lnx : ℕ
-rows-lnx = 453
+rows-lnx = 456
 
 abbrev pub rows-locarch : ℕ
-rows-locarch = 454
+rows-locarch = 457
 
 abbrev pub rows-locate : ℕ
-rows-locate = 455
+rows-locate = 458
 
 abbrev pub rows-lrf : ℕ
-rows-lrf = 456
+rows-lrf = 459
 
 abbrev pub rows-lrz : ℕ
-rows-lrz = 457
+rows-lrz = 460
 
 abbrev pub rows-lss : ℕ
-rows-lss = 458
+rows-lss = 461
 
 abbrev pub rows-lua : ℕ
-rows-lua = 459
+rows-lua = 462
 
 abbrev pub rows-lua-sh-txt : ℕ
-rows-lua-sh-txt = 460
+rows-lua-sh-txt = 463
 
 abbrev pub rows-luac : ℕ
-rows-luac = 461
+rows-luac = 464
 
 abbrev pub rows-luks : ℕ
-rows-luks = 462
+rows-luks = 465
 
 abbrev pub rows-lwo : ℕ
-rows-lwo = 463
+rows-lwo = 466
 
 abbrev pub rows-lwp : ℕ
-rows-lwp = 464
+rows-lwp = 467
 
 abbrev pub rows-ly : ℕ
-rows-ly = 465
+rows-ly = 468
 
 abbrev pub rows-lyx : ℕ
-rows-lyx = 466
+rows-lyx = 469
 
 abbrev pub rows-lz : ℕ
-rows-lz = 467
+rows-lz = 470
 
 abbrev pub rows-lz4 : ℕ
-rows-lz4 = 468
+rows-lz4 = 471
 
 abbrev pub rows-lzfse : ℕ
-rows-lzfse = 469
+rows-lzfse = 472
 
 abbrev pub rows-lzh : ℕ
-rows-lzh = 470
+rows-lzh = 473
 
 abbrev pub rows-lzma : ℕ
-rows-lzma = 471
+rows-lzma = 474
 
 abbrev pub rows-lzo : ℕ
-rows-lzo = 472
+rows-lzo = 475
 
 abbrev pub rows-m : ℕ
-rows-m = 473
+rows-m = 476
 
 abbrev pub rows-m3u8 : ℕ
-rows-m3u8 = 474
+rows-m3u8 = 477
 
 abbrev pub rows-m4 : ℕ
-rows-m4 = 475
+rows-m4 = 478
 
 abbrev pub rows-m4a : ℕ
-rows-m4a = 476
+rows-m4a = 479
 
 abbrev pub rows-m4a-mp4 : ℕ
-rows-m4a-mp4 = 477
+rows-m4a-mp4 = 480
 
 abbrev pub rows-m4b : ℕ
-rows-m4b = 478
+rows-m4b = 481
 
 abbrev pub rows-m4b-m4v-mp4 : ℕ
-rows-m4b-m4v-mp4 = 479
+rows-m4b-m4v-mp4 = 482
 
 abbrev pub rows-m4u : ℕ
-rows-m4u = 480
+rows-m4u = 483
 
 abbrev pub rows-m4v : ℕ
-rows-m4v = 481
+rows-m4v = 484
 
 abbrev pub rows-macbin : ℕ
-rows-macbin = 482
+rows-macbin = 485
 
 abbrev pub rows-mach : ℕ
-rows-mach = 483
+rows-mach = 486
 
 abbrev pub rows-mat : ℕ
-rows-mat = 484
+rows-mat = 487
 
 abbrev pub rows-maud : ℕ
-rows-maud = 485
+rows-maud = 488
 
 abbrev pub rows-mbm : ℕ
-rows-mbm = 486
+rows-mbm = 489
 
 abbrev pub rows-mbox : ℕ
-rows-mbox = 487
+rows-mbox = 490
 
 abbrev pub rows-mbtiles : ℕ
-rows-mbtiles = 488
+rows-mbtiles = 491
 
 abbrev pub rows-md : ℕ
-rows-md = 489
+rows-md = 492
 
 abbrev pub rows-mdb : ℕ
-rows-mdb = 490
+rows-mdb = 493
 
 abbrev pub rows-mdi : ℕ
-rows-mdi = 491
+rows-mdi = 494
 
 abbrev pub rows-mdl : ℕ
-rows-mdl = 492
+rows-mdl = 495
+
+abbrev pub rows-mdraid : ℕ
+rows-mdraid = 496
 
 abbrev pub rows-med : ℕ
-rows-med = 493
+rows-med = 497
 
 abbrev pub rows-memdmp : ℕ
-rows-memdmp = 494
+rows-memdmp = 498
 
 abbrev pub rows-meta4 : ℕ
-rows-meta4 = 495
+rows-meta4 = 499
 
 abbrev pub rows-metalink : ℕ
-rows-metalink = 496
+rows-metalink = 500
 
 abbrev pub rows-mf : ℕ
-rows-mf = 497
+rows-mf = 501
 
 abbrev pub rows-midi : ℕ
-rows-midi = 498
+rows-midi = 502
 
 abbrev pub rows-mids : ℕ
-rows-mids = 499
+rows-mids = 503
 
 abbrev pub rows-mif : ℕ
-rows-mif = 500
+rows-mif = 504
 
 abbrev pub rows-miff : ℕ
-rows-miff = 501
+rows-miff = 505
 
 abbrev pub rows-minisig : ℕ
-rows-minisig = 502
+rows-minisig = 506
 
 abbrev pub rows-mj2 : ℕ
-rows-mj2 = 503
+rows-mj2 = 507
 
 abbrev pub rows-mk : ℕ
-rows-mk = 504
+rows-mk = 508
 
 abbrev pub rows-mkv : ℕ
-rows-mkv = 505
+rows-mkv = 509
 
 abbrev pub rows-ml : ℕ
-rows-ml = 506
+rows-ml = 510
 
 abbrev pub rows-mlp : ℕ
-rows-mlp = 507
+rows-mlp = 511
 
 abbrev pub rows-mm : ℕ
-rows-mm = 508
+rows-mm = 512
 
 abbrev pub rows-mmf : ℕ
-rows-mmf = 509
+rows-mmf = 513
 
 abbrev pub rows-mml : ℕ
-rows-mml = 510
+rows-mml = 514
 
 abbrev pub rows-mmm : ℕ
-rows-mmm = 511
+rows-mmm = 515
 
 abbrev pub rows-mng : ℕ
-rows-mng = 512
+rows-mng = 516
 
 abbrev pub rows-mo : ℕ
-rows-mo = 513
+rows-mo = 517
 
 abbrev pub rows-mo3 : ℕ
-rows-mo3 = 514
+rows-mo3 = 518
 
 abbrev pub rows-mobi : ℕ
-rows-mobi = 515
+rows-mobi = 519
 
 abbrev pub rows-mod : ℕ
-rows-mod = 516
+rows-mod = 520
 
 abbrev pub rows-model-obj : ℕ
-rows-model-obj = 517
+rows-model-obj = 521
 
 abbrev pub rows-model-step : ℕ
-rows-model-step = 518
+rows-model-step = 522
 
 abbrev pub rows-mol2 : ℕ
-rows-mol2 = 519
+rows-mol2 = 523
 
 abbrev pub rows-mov : ℕ
-rows-mov = 520
+rows-mov = 524
 
 abbrev pub rows-movie : ℕ
-rows-movie = 521
+rows-movie = 525
 
 abbrev pub rows-mp3 : ℕ
-rows-mp3 = 522
+rows-mp3 = 526
 
 abbrev pub rows-mp3-mp3old : ℕ
-rows-mp3-mp3old = 523
+rows-mp3-mp3old = 527
 
 abbrev pub rows-mp4 : ℕ
-rows-mp4 = 524
+rows-mp4 = 528
 
 abbrev pub rows-mpc : ℕ
-rows-mpc = 525
+rows-mpc = 529
 
 abbrev pub rows-mpd : ℕ
-rows-mpd = 526
+rows-mpd = 530
 
 abbrev pub rows-mpg : ℕ
-rows-mpg = 527
+rows-mpg = 531
 
 abbrev pub rows-mpp : ℕ
-rows-mpp = 528
+rows-mpp = 532
 
 abbrev pub rows-mpq : ℕ
-rows-mpq = 529
+rows-mpq = 533
 
 abbrev pub rows-mpsub : ℕ
-rows-mpsub = 530
+rows-mpsub = 534
 
 abbrev pub rows-mqv : ℕ
-rows-mqv = 531
+rows-mqv = 535
 
 abbrev pub rows-mrc : ℕ
-rows-mrc = 532
+rows-mrc = 536
 
 abbrev pub rows-mrw : ℕ
-rows-mrw = 533
+rows-mrw = 537
 
 abbrev pub rows-ms3d : ℕ
-rows-ms3d = 534
+rows-ms3d = 538
 
 abbrev pub rows-msa : ℕ
-rows-msa = 535
+rows-msa = 539
 
 abbrev pub rows-msbuild : ℕ
-rows-msbuild = 536
+rows-msbuild = 540
 
 abbrev pub rows-mscx : ℕ
-rows-mscx = 537
+rows-mscx = 541
 
 abbrev pub rows-mscz : ℕ
-rows-mscz = 538
+rows-mscz = 542
 
 abbrev pub rows-msg : ℕ
-rows-msg = 539
+rows-msg = 543
 
 abbrev pub rows-mtl : ℕ
-rows-mtl = 540
+rows-mtl = 544
 
 abbrev pub rows-mtm : ℕ
-rows-mtm = 541
+rows-mtm = 545
 
 abbrev pub rows-mtn : ℕ
-rows-mtn = 542
+rows-mtn = 546
 
 abbrev pub rows-mup : ℕ
-rows-mup = 543
+rows-mup = 547
 
 abbrev pub rows-musicxml : ℕ
-rows-musicxml = 544
+rows-musicxml = 548
 
 abbrev pub rows-mve : ℕ
-rows-mve = 545
+rows-mve = 549
 
 abbrev pub rows-mvg : ℕ
-rows-mvg = 546
+rows-mvg = 550
 
 abbrev pub rows-mxf : ℕ
-rows-mxf = 547
+rows-mxf = 551
 
 abbrev pub rows-myi : ℕ
-rows-myi = 548
+rows-myi = 552
 
 abbrev pub rows-n64 : ℕ
-rows-n64 = 549
+rows-n64 = 553
 
 abbrev pub rows-nbold : ℕ
-rows-nbold = 550
+rows-nbold = 554
 
 abbrev pub rows-nc : ℕ
-rows-nc = 551
+rows-nc = 555
 
 abbrev pub rows-ncch : ℕ
-rows-ncch = 552
+rows-ncch = 556
 
 abbrev pub rows-ncx : ℕ
-rows-ncx = 553
+rows-ncx = 557
 
 abbrev pub rows-ndjson : ℕ
-rows-ndjson = 554
+rows-ndjson = 558
 
 abbrev pub rows-nds : ℕ
-rows-nds = 555
+rows-nds = 559
+
+abbrev pub rows-nef : ℕ
+rows-nef = 560
 
 abbrev pub rows-neko : ℕ
-rows-neko = 556
+rows-neko = 561
 
 abbrev pub rows-nes : ℕ
-rows-nes = 557
+rows-nes = 562
 
 abbrev pub rows-netmon : ℕ
-rows-netmon = 558
+rows-netmon = 563
 
 abbrev pub rows-news : ℕ
-rows-news = 559
+rows-news = 564
 
 abbrev pub rows-nex : ℕ
-rows-nex = 560
+rows-nex = 565
 
 abbrev pub rows-nft : ℕ
-rows-nft = 561
+rows-nft = 566
 
 abbrev pub rows-ngc : ℕ
-rows-ngc = 562
+rows-ngc = 567
 
 abbrev pub rows-ngp : ℕ
-rows-ngp = 563
+rows-ngp = 568
 
 abbrev pub rows-niff : ℕ
-rows-niff = 564
+rows-niff = 569
 
 abbrev pub rows-nii : ℕ
-rows-nii = 565
+rows-nii = 570
 
 abbrev pub rows-npy : ℕ
-rows-npy = 566
+rows-npy = 571
 
 abbrev pub rows-nsc : ℕ
-rows-nsc = 567
+rows-nsc = 572
 
 abbrev pub rows-nsf : ℕ
-rows-nsf = 568
+rows-nsf = 573
 
 abbrev pub rows-nso : ℕ
-rows-nso = 569
+rows-nso = 574
 
 abbrev pub rows-nsv : ℕ
-rows-nsv = 570
+rows-nsv = 575
 
 abbrev pub rows-nut : ℕ
-rows-nut = 571
+rows-nut = 576
 
 abbrev pub rows-nzb : ℕ
-rows-nzb = 572
+rows-nzb = 577
 
 abbrev pub rows-o : ℕ
-rows-o = 573
+rows-o = 578
 
 abbrev pub rows-obj : ℕ
-rows-obj = 574
+rows-obj = 579
 
 abbrev pub rows-odb : ℕ
-rows-odb = 575
+rows-odb = 580
 
 abbrev pub rows-odc : ℕ
-rows-odc = 576
+rows-odc = 581
 
 abbrev pub rows-odf : ℕ
-rows-odf = 577
+rows-odf = 582
 
 abbrev pub rows-odg : ℕ
-rows-odg = 578
+rows-odg = 583
 
 abbrev pub rows-odg-zip : ℕ
-rows-odg-zip = 579
+rows-odg-zip = 584
 
 abbrev pub rows-odi : ℕ
-rows-odi = 580
+rows-odi = 585
 
 abbrev pub rows-odm : ℕ
-rows-odm = 581
+rows-odm = 586
 
 abbrev pub rows-odm-ott : ℕ
-rows-odm-ott = 582
+rows-odm-ott = 587
 
 abbrev pub rows-odp : ℕ
-rows-odp = 583
+rows-odp = 588
 
 abbrev pub rows-odp-zip : ℕ
-rows-odp-zip = 584
+rows-odp-zip = 589
 
 abbrev pub rows-ods : ℕ
-rows-ods = 585
+rows-ods = 590
 
 abbrev pub rows-ods-zip : ℕ
-rows-ods-zip = 586
+rows-ods-zip = 591
 
 abbrev pub rows-odt : ℕ
-rows-odt = 587
+rows-odt = 592
 
 abbrev pub rows-odt-zip : ℕ
-rows-odt-zip = 588
+rows-odt-zip = 593
 
 abbrev pub rows-oga : ℕ
-rows-oga = 589
+rows-oga = 594
 
 abbrev pub rows-ogg : ℕ
-rows-ogg = 590
+rows-ogg = 595
 
 abbrev pub rows-ogg-ogv : ℕ
-rows-ogg-ogv = 591
+rows-ogg-ogv = 596
 
 abbrev pub rows-ogm : ℕ
-rows-ogm = 592
+rows-ogm = 597
 
 abbrev pub rows-ogv : ℕ
-rows-ogv = 593
+rows-ogv = 598
 
 abbrev pub rows-okt : ℕ
-rows-okt = 594
+rows-okt = 599
 
 abbrev pub rows-omni : ℕ
-rows-omni = 595
+rows-omni = 600
 
 abbrev pub rows-openssh : ℕ
-rows-openssh = 596
+rows-openssh = 601
 
 abbrev pub rows-openssl : ℕ
-rows-openssl = 597
+rows-openssl = 602
 
 abbrev pub rows-opf : ℕ
-rows-opf = 598
+rows-opf = 603
 
 abbrev pub rows-opml : ℕ
-rows-opml = 599
+rows-opml = 604
 
 abbrev pub rows-opus : ℕ
-rows-opus = 600
+rows-opus = 605
 
 abbrev pub rows-ora : ℕ
-rows-ora = 601
+rows-ora = 606
 
 abbrev pub rows-orc : ℕ
-rows-orc = 602
+rows-orc = 607
 
 abbrev pub rows-orf : ℕ
-rows-orf = 603
+rows-orf = 608
 
 abbrev pub rows-os2hlp : ℕ
-rows-os2hlp = 604
+rows-os2hlp = 609
 
 abbrev pub rows-os2inf : ℕ
-rows-os2inf = 605
+rows-os2inf = 610
 
 abbrev pub rows-os2msg : ℕ
-rows-os2msg = 606
+rows-os2msg = 611
 
 abbrev pub rows-osm : ℕ
-rows-osm = 607
+rows-osm = 612
 
 abbrev pub rows-otf : ℕ
-rows-otf = 608
+rows-otf = 613
 
 abbrev pub rows-otg : ℕ
-rows-otg = 609
+rows-otg = 614
 
 abbrev pub rows-otp : ℕ
-rows-otp = 610
+rows-otp = 615
 
 abbrev pub rows-ots : ℕ
-rows-ots = 611
+rows-ots = 616
 
 abbrev pub rows-ott : ℕ
-rows-ott = 612
+rows-ott = 617
 
 abbrev pub rows-owx : ℕ
-rows-owx = 613
+rows-owx = 618
 
 abbrev pub rows-p12 : ℕ
-rows-p12 = 614
+rows-p12 = 619
 
 abbrev pub rows-p7b-p7c : ℕ
-rows-p7b-p7c = 615
+rows-p7b-p7c = 620
 
 abbrev pub rows-p8 : ℕ
-rows-p8 = 616
+rows-p8 = 621
 
 abbrev pub rows-pack : ℕ
-rows-pack = 617
+rows-pack = 622
 
 abbrev pub rows-pack200 : ℕ
-rows-pack200 = 618
+rows-pack200 = 623
 
 abbrev pub rows-paf : ℕ
-rows-paf = 619
+rows-paf = 624
 
 abbrev pub rows-pak : ℕ
-rows-pak = 620
+rows-pak = 625
 
 abbrev pub rows-pam : ℕ
-rows-pam = 621
+rows-pam = 626
 
 abbrev pub rows-par : ℕ
-rows-par = 622
+rows-par = 627
 
 abbrev pub rows-par2 : ℕ
-rows-par2 = 623
+rows-par2 = 628
 
 abbrev pub rows-parquet : ℕ
-rows-parquet = 624
+rows-parquet = 629
 
 abbrev pub rows-pat : ℕ
-rows-pat = 625
+rows-pat = 630
 
 abbrev pub rows-pc : ℕ
-rows-pc = 626
+rows-pc = 631
 
 abbrev pub rows-pcap : ℕ
-rows-pcap = 627
+rows-pcap = 632
 
 abbrev pub rows-pcapng : ℕ
-rows-pcapng = 628
+rows-pcapng = 633
 
 abbrev pub rows-pcd : ℕ
-rows-pcd = 629
+rows-pcd = 634
+
+abbrev pub rows-pcdimg : ℕ
+rows-pcdimg = 635
 
 abbrev pub rows-pcf : ℕ
-rows-pcf = 630
+rows-pcf = 636
 
 abbrev pub rows-pch : ℕ
-rows-pch = 631
+rows-pch = 637
 
 abbrev pub rows-pcl : ℕ
-rows-pcl = 632
+rows-pcl = 638
 
 abbrev pub rows-pcx : ℕ
-rows-pcx = 633
+rows-pcx = 639
 
 abbrev pub rows-pdb : ℕ
-rows-pdb = 634
+rows-pdb = 640
 
 abbrev pub rows-pdbmol : ℕ
-rows-pdbmol = 635
+rows-pdbmol = 641
 
 abbrev pub rows-pdf : ℕ
-rows-pdf = 636
+rows-pdf = 642
 
 abbrev pub rows-pdn : ℕ
-rows-pdn = 637
+rows-pdn = 643
 
 abbrev pub rows-pef : ℕ
-rows-pef = 638
+rows-pef = 644
 
 abbrev pub rows-pem : ℕ
-rows-pem = 639
+rows-pem = 645
 
 abbrev pub rows-pf2 : ℕ
-rows-pf2 = 640
+rows-pf2 = 646
 
 abbrev pub rows-pfa-pfb : ℕ
-rows-pfa-pfb = 641
+rows-pfa-pfb = 647
 
 abbrev pub rows-pfb : ℕ
-rows-pfb = 642
+rows-pfb = 648
 
 abbrev pub rows-pfmap : ℕ
-rows-pfmap = 643
+rows-pfmap = 649
 
 abbrev pub rows-pgdump : ℕ
-rows-pgdump = 644
+rows-pgdump = 650
 
 abbrev pub rows-pgf : ℕ
-rows-pgf = 645
+rows-pgf = 651
 
 abbrev pub rows-pgn : ℕ
-rows-pgn = 646
+rows-pgn = 652
 
 abbrev pub rows-pgp : ℕ
-rows-pgp = 647
+rows-pgp = 653
 
 abbrev pub rows-pgp-pgpmsg : ℕ
-rows-pgp-pgpmsg = 648
+rows-pgp-pgpmsg = 654
 
 abbrev pub rows-pgpsig-sig : ℕ
-rows-pgpsig-sig = 649
+rows-pgpsig-sig = 655
 
 abbrev pub rows-php : ℕ
-rows-php = 650
+rows-php = 656
 
 abbrev pub rows-php-svg-txt-xhtml-xml : ℕ
-rows-php-svg-txt-xhtml-xml = 651
+rows-php-svg-txt-xhtml-xml = 657
 
 abbrev pub rows-pic : ℕ
-rows-pic = 652
+rows-pic = 658
 
 abbrev pub rows-pict : ℕ
-rows-pict = 653
+rows-pict = 659
 
 abbrev pub rows-pjl : ℕ
-rows-pjl = 654
+rows-pjl = 660
 
 abbrev pub rows-pkgstream : ℕ
-rows-pkgstream = 655
+rows-pkgstream = 661
 
 abbrev pub rows-pkl : ℕ
-rows-pkl = 656
+rows-pkl = 662
 
 abbrev pub rows-pkpass : ℕ
-rows-pkpass = 657
+rows-pkpass = 663
 
 abbrev pub rows-pl : ℕ
-rows-pl = 658
+rows-pl = 664
 
 abbrev pub rows-pla : ℕ
-rows-pla = 659
+rows-pla = 665
 
 abbrev pub rows-plist : ℕ
-rows-plist = 660
+rows-plist = 666
 
 abbrev pub rows-plist-txt-xml : ℕ
-rows-plist-txt-xml = 661
+rows-plist-txt-xml = 667
 
 abbrev pub rows-pls : ℕ
-rows-pls = 662
+rows-pls = 668
 
 abbrev pub rows-ply : ℕ
-rows-ply = 663
+rows-ply = 669
 
 abbrev pub rows-png : ℕ
-rows-png = 664
+rows-png = 670
 
 abbrev pub rows-pnm : ℕ
-rows-pnm = 665
+rows-pnm = 671
 
 abbrev pub rows-po : ℕ
-rows-po = 666
+rows-po = 672
 
 abbrev pub rows-pom : ℕ
-rows-pom = 667
+rows-pom = 673
 
 abbrev pub rows-por : ℕ
-rows-por = 668
+rows-por = 674
 
 abbrev pub rows-ppd : ℕ
-rows-ppd = 669
+rows-ppd = 675
 
 abbrev pub rows-ppf : ℕ
-rows-ppf = 670
+rows-ppf = 676
 
 abbrev pub rows-ppk : ℕ
-rows-ppk = 671
+rows-ppk = 677
 
 abbrev pub rows-ppt : ℕ
-rows-ppt = 672
+rows-ppt = 678
 
 abbrev pub rows-pptm : ℕ
-rows-pptm = 673
+rows-pptm = 679
 
 abbrev pub rows-pptx : ℕ
-rows-pptx = 674
+rows-pptx = 680
 
 abbrev pub rows-ppu : ℕ
-rows-ppu = 675
+rows-ppu = 681
 
 abbrev pub rows-profdata : ℕ
-rows-profdata = 676
+rows-profdata = 682
 
 abbrev pub rows-profraw : ℕ
-rows-profraw = 677
+rows-profraw = 683
 
 abbrev pub rows-ps : ℕ
-rows-ps = 678
+rows-ps = 684
 
 abbrev pub rows-ps-sh-txt : ℕ
-rows-ps-sh-txt = 679
+rows-ps-sh-txt = 685
 
 abbrev pub rows-ps-txt : ℕ
-rows-ps-txt = 680
+rows-ps-txt = 686
 
 abbrev pub rows-ps1 : ℕ
-rows-ps1 = 681
+rows-ps1 = 687
 
 abbrev pub rows-psd : ℕ
-rows-psd = 682
+rows-psd = 688
 
 abbrev pub rows-psf : ℕ
-rows-psf = 683
+rows-psf = 689
 
 abbrev pub rows-psf1-psf2 : ℕ
-rows-psf1-psf2 = 684
+rows-psf1-psf2 = 690
 
 abbrev pub rows-psp : ℕ
-rows-psp = 685
+rows-psp = 691
 
 abbrev pub rows-pst : ℕ
-rows-pst = 686
+rows-pst = 692
 
 abbrev pub rows-psw : ℕ
-rows-psw = 687
+rows-psw = 693
 
 abbrev pub rows-psx : ℕ
-rows-psx = 688
+rows-psx = 694
 
 abbrev pub rows-ptm : ℕ
-rows-ptm = 689
+rows-ptm = 695
 
 abbrev pub rows-pub : ℕ
-rows-pub = 690
+rows-pub = 696
 
 abbrev pub rows-puml : ℕ
-rows-puml = 691
+rows-puml = 697
 
 abbrev pub rows-pvf : ℕ
-rows-pvf = 692
+rows-pvf = 698
 
 abbrev pub rows-pvr : ℕ
-rows-pvr = 693
+rows-pvr = 699
 
 abbrev pub rows-pwg : ℕ
-rows-pwg = 694
+rows-pwg = 700
 
 abbrev pub rows-py : ℕ
-rows-py = 695
+rows-py = 701
 
 abbrev pub rows-py-sh-zip : ℕ
-rows-py-sh-zip = 696
+rows-py-sh-zip = 702
 
 abbrev pub rows-pyc : ℕ
-rows-pyc = 697
+rows-pyc = 703
 
 abbrev pub rows-pysu : ℕ
-rows-pysu = 698
+rows-pysu = 704
 
 abbrev pub rows-qcow2 : ℕ
-rows-qcow2 = 699
+rows-qcow2 = 705
 
 abbrev pub rows-qed : ℕ
-rows-qed = 700
+rows-qed = 706
 
 abbrev pub rows-qgz : ℕ
-rows-qgz = 701
+rows-qgz = 707
 
 abbrev pub rows-qml : ℕ
-rows-qml = 702
+rows-qml = 708
 
 abbrev pub rows-qoi : ℕ
-rows-qoi = 703
+rows-qoi = 709
 
 abbrev pub rows-qp : ℕ
-rows-qp = 704
+rows-qp = 710
 
 abbrev pub rows-qrc : ℕ
-rows-qrc = 705
+rows-qrc = 711
 
 abbrev pub rows-qti : ℕ
-rows-qti = 706
+rows-qti = 712
 
 abbrev pub rows-qtif : ℕ
-rows-qtif = 707
+rows-qtif = 713
 
 abbrev pub rows-qtl : ℕ
-rows-qtl = 708
+rows-qtl = 714
 
 abbrev pub rows-r : ℕ
-rows-r = 709
+rows-r = 715
 
 abbrev pub rows-r3d : ℕ
-rows-r3d = 710
+rows-r3d = 716
 
 abbrev pub rows-ra : ℕ
-rows-ra = 711
+rows-ra = 717
 
 abbrev pub rows-raf : ℕ
-rows-raf = 712
+rows-raf = 718
 
 abbrev pub rows-raku : ℕ
-rows-raku = 713
+rows-raku = 719
 
 abbrev pub rows-raml : ℕ
-rows-raml = 714
+rows-raml = 720
 
 abbrev pub rows-rar : ℕ
-rows-rar = 715
+rows-rar = 721
 
 abbrev pub rows-ras : ℕ
-rows-ras = 716
+rows-ras = 722
 
 abbrev pub rows-rb : ℕ
-rows-rb = 717
+rows-rb = 723
 
 abbrev pub rows-rdata : ℕ
-rows-rdata = 718
+rows-rdata = 724
 
 abbrev pub rows-rdb : ℕ
-rows-rdb = 719
+rows-rdb = 725
 
 abbrev pub rows-rdf : ℕ
-rows-rdf = 720
+rows-rdf = 726
 
 abbrev pub rows-reg : ℕ
-rows-reg = 721
+rows-reg = 727
 
 abbrev pub rows-regf : ℕ
-rows-regf = 722
+rows-regf = 728
 
 abbrev pub rows-res : ℕ
-rows-res = 723
+rows-res = 729
 
 abbrev pub rows-rf64 : ℕ
-rows-rf64 = 724
+rows-rf64 = 730
 
 abbrev pub rows-rifx-wav : ℕ
-rows-rifx-wav = 725
+rows-rifx-wav = 731
 
 abbrev pub rows-rkt : ℕ
-rows-rkt = 726
+rows-rkt = 732
 
 abbrev pub rows-rm : ℕ
-rows-rm = 727
+rows-rm = 733
 
 abbrev pub rows-rmeta : ℕ
-rows-rmeta = 728
+rows-rmeta = 734
 
 abbrev pub rows-rmi : ℕ
-rows-rmi = 729
+rows-rmi = 735
 
 abbrev pub rows-rng : ℕ
-rows-rng = 730
+rows-rng = 736
 
 abbrev pub rows-roff : ℕ
-rows-roff = 731
+rows-roff = 737
 
 abbrev pub rows-romfs : ℕ
-rows-romfs = 732
+rows-romfs = 738
 
 abbrev pub rows-root : ℕ
-rows-root = 733
+rows-root = 739
 
 abbrev pub rows-roq : ℕ
-rows-roq = 734
+rows-roq = 740
 
 abbrev pub rows-rpm : ℕ
-rows-rpm = 735
+rows-rpm = 741
 
 abbrev pub rows-rq : ℕ
-rows-rq = 736
+rows-rq = 742
 
 abbrev pub rows-rrd : ℕ
-rows-rrd = 737
+rows-rrd = 743
 
 abbrev pub rows-rss : ℕ
-rows-rss = 738
+rows-rss = 744
 
 abbrev pub rows-rtf : ℕ
-rows-rtf = 739
+rows-rtf = 745
 
 abbrev pub rows-rvz : ℕ
-rows-rvz = 740
+rows-rvz = 746
 
 abbrev pub rows-rw2 : ℕ
-rows-rw2 = 741
+rows-rw2 = 747
 
 abbrev pub rows-rz : ℕ
-rows-rz = 742
+rows-rz = 748
 
 abbrev pub rows-s3m : ℕ
-rows-s3m = 743
+rows-s3m = 749
 
 abbrev pub rows-safetensors : ℕ
-rows-safetensors = 744
+rows-safetensors = 750
 
 abbrev pub rows-sam : ℕ
-rows-sam = 745
+rows-sam = 751
 
 abbrev pub rows-sami : ℕ
-rows-sami = 746
+rows-sami = 752
 
 abbrev pub rows-sap : ℕ
-rows-sap = 747
+rows-sap = 753
 
 abbrev pub rows-sar : ℕ
-rows-sar = 748
+rows-sar = 754
 
 abbrev pub rows-sav : ℕ
-rows-sav = 749
+rows-sav = 755
 
 abbrev pub rows-sbml : ℕ
-rows-sbml = 750
+rows-sbml = 756
 
 abbrev pub rows-scala : ℕ
-rows-scala = 751
+rows-scala = 757
 
 abbrev pub rows-scc : ℕ
-rows-scc = 752
+rows-scc = 758
 
 abbrev pub rows-scf : ℕ
-rows-scf = 753
+rows-scf = 759
 
 abbrev pub rows-sch : ℕ
-rows-sch = 754
+rows-sch = 760
 
 abbrev pub rows-scm : ℕ
-rows-scm = 755
+rows-scm = 761
 
 abbrev pub rows-scsyn : ℕ
-rows-scsyn = 756
+rows-scsyn = 762
 
 abbrev pub rows-sdb : ℕ
-rows-sdb = 757
+rows-sdb = 763
 
 abbrev pub rows-sdi : ℕ
-rows-sdi = 758
+rows-sdi = 764
 
 abbrev pub rows-sdp : ℕ
-rows-sdp = 759
+rows-sdp = 765
 
 abbrev pub rows-sds : ℕ
-rows-sds = 760
+rows-sds = 766
 
 abbrev pub rows-sdw : ℕ
-rows-sdw = 761
+rows-sdw = 767
 
 abbrev pub rows-sed : ℕ
-rows-sed = 762
+rows-sed = 768
 
 abbrev pub rows-sereal : ℕ
-rows-sereal = 763
+rows-sereal = 769
 
 abbrev pub rows-sf2 : ℕ
-rows-sf2 = 764
+rows-sf2 = 770
 
 abbrev pub rows-sfd : ℕ
-rows-sfd = 765
+rows-sfd = 771
 
 abbrev pub rows-sgf : ℕ
-rows-sgf = 766
+rows-sgf = 772
 
 abbrev pub rows-sgi : ℕ
-rows-sgi = 767
+rows-sgi = 773
 
 abbrev pub rows-sh : ℕ
-rows-sh = 768
+rows-sh = 774
 
 abbrev pub rows-sh-txt : ℕ
-rows-sh-txt = 769
+rows-sh-txt = 775
 
 abbrev pub rows-shn : ℕ
-rows-shn = 770
+rows-shn = 776
 
 abbrev pub rows-shp : ℕ
-rows-shp = 771
+rows-shp = 777
 
 abbrev pub rows-shw : ℕ
-rows-shw = 772
+rows-shw = 778
 
 abbrev pub rows-shx : ℕ
-rows-shx = 773
+rows-shx = 779
 
 abbrev pub rows-sid : ℕ
-rows-sid = 774
+rows-sid = 780
 
 abbrev pub rows-sig : ℕ
-rows-sig = 775
+rows-sig = 781
 
 abbrev pub rows-simg : ℕ
-rows-simg = 776
+rows-simg = 782
 
 abbrev pub rows-sis : ℕ
-rows-sis = 777
+rows-sis = 783
 
 abbrev pub rows-sisx : ℕ
-rows-sisx = 778
+rows-sisx = 784
 
 abbrev pub rows-sit : ℕ
-rows-sit = 779
+rows-sit = 785
 
 abbrev pub rows-sk : ℕ
-rows-sk = 780
+rows-sk = 786
 
 abbrev pub rows-sla : ℕ
-rows-sla = 781
+rows-sla = 787
 
 abbrev pub rows-slk : ℕ
-rows-slk = 782
+rows-slk = 788
 
 abbrev pub rows-smil : ℕ
-rows-smil = 783
+rows-smil = 789
 
 abbrev pub rows-smk : ℕ
-rows-smk = 784
+rows-smk = 790
 
 abbrev pub rows-smp : ℕ
-rows-smp = 785
+rows-smp = 791
 
 abbrev pub rows-snoop : ℕ
-rows-snoop = 786
+rows-snoop = 792
 
 abbrev pub rows-so : ℕ
-rows-so = 787
+rows-so = 793
 
 abbrev pub rows-spc : ℕ
-rows-spc = 788
+rows-spc = 794
 
 abbrev pub rows-spd : ℕ
-rows-spd = 789
+rows-spd = 795
 
 abbrev pub rows-spec : ℕ
-rows-spec = 790
+rows-spec = 796
 
 abbrev pub rows-sph : ℕ
-rows-sph = 791
+rows-sph = 797
 
 abbrev pub rows-spv : ℕ
-rows-spv = 792
+rows-spv = 798
 
 abbrev pub rows-spx : ℕ
-rows-spx = 793
+rows-spx = 799
 
 abbrev pub rows-sqlite : ℕ
-rows-sqlite = 794
+rows-sqlite = 800
 
 abbrev pub rows-sqlite2 : ℕ
-rows-sqlite2 = 795
+rows-sqlite2 = 801
 
 abbrev pub rows-squashfs : ℕ
-rows-squashfs = 796
+rows-squashfs = 802
 
 abbrev pub rows-srpm : ℕ
-rows-srpm = 797
+rows-srpm = 803
 
 abbrev pub rows-srt : ℕ
-rows-srt = 798
+rows-srt = 804
 
 abbrev pub rows-srx : ℕ
-rows-srx = 799
+rows-srx = 805
 
 abbrev pub rows-ssa : ℕ
-rows-ssa = 800
+rows-ssa = 806
 
 abbrev pub rows-ssh1 : ℕ
-rows-ssh1 = 801
+rows-ssh1 = 807
 
 abbrev pub rows-ssh2pub-sshpub : ℕ
-rows-ssh2pub-sshpub = 802
+rows-ssh2pub-sshpub = 808
 
 abbrev pub rows-stex : ℕ
-rows-stex = 803
+rows-stex = 809
 
 abbrev pub rows-stl : ℕ
-rows-stl = 804
+rows-stl = 810
 
 abbrev pub rows-stm : ℕ
-rows-stm = 805
+rows-stm = 811
 
 abbrev pub rows-subviewer : ℕ
-rows-subviewer = 806
+rows-subviewer = 812
 
 abbrev pub rows-svg : ℕ
-rows-svg = 807
+rows-svg = 813
 
 abbrev pub rows-svm : ℕ
-rows-svm = 808
+rows-svm = 814
 
 abbrev pub rows-svndump : ℕ
-rows-svndump = 809
+rows-svndump = 815
+
+abbrev pub rows-swap : ℕ
+rows-swap = 816
 
 abbrev pub rows-swf : ℕ
-rows-swf = 810
+rows-swf = 817
 
 abbrev pub rows-swf-swfz : ℕ
-rows-swf-swfz = 811
+rows-swf-swfz = 818
 
 abbrev pub rows-sxc : ℕ
-rows-sxc = 812
+rows-sxc = 819
 
 abbrev pub rows-sxd : ℕ
-rows-sxd = 813
+rows-sxd = 820
 
 abbrev pub rows-sxi : ℕ
-rows-sxi = 814
+rows-sxi = 821
 
 abbrev pub rows-sxm : ℕ
-rows-sxm = 815
+rows-sxm = 822
 
 abbrev pub rows-sxw : ℕ
-rows-sxw = 816
+rows-sxw = 823
 
 abbrev pub rows-syzygy : ℕ
-rows-syzygy = 817
+rows-syzygy = 824
 
 abbrev pub rows-sz : ℕ
-rows-sz = 818
+rows-sz = 825
 
 abbrev pub rows-szdd : ℕ
-rows-szdd = 819
+rows-szdd = 826
 
 abbrev pub rows-szx : ℕ
-rows-szx = 820
+rows-szx = 827
 
 abbrev pub rows-t2t : ℕ
-rows-t2t = 821
+rows-t2t = 828
 
 abbrev pub rows-t602 : ℕ
-rows-t602 = 822
+rows-t602 = 829
 
 abbrev pub rows-tar : ℕ
-rows-tar = 823
+rows-tar = 830
 
 abbrev pub rows-tbi : ℕ
-rows-tbi = 824
+rows-tbi = 831
 
 abbrev pub rows-tcb : ℕ
-rows-tcb = 825
+rows-tcb = 832
 
 abbrev pub rows-tcf : ℕ
-rows-tcf = 826
+rows-tcf = 833
 
 abbrev pub rows-tch : ℕ
-rows-tch = 827
+rows-tch = 834
 
 abbrev pub rows-tcl : ℕ
-rows-tcl = 828
+rows-tcl = 835
 
 abbrev pub rows-tct : ℕ
-rows-tct = 829
+rows-tct = 836
 
 abbrev pub rows-tdb : ℕ
-rows-tdb = 830
+rows-tdb = 837
 
 abbrev pub rows-tei : ℕ
-rows-tei = 831
+rows-tei = 838
 
 abbrev pub rows-terminfo : ℕ
-rows-terminfo = 832
+rows-terminfo = 839
 
 abbrev pub rows-tex : ℕ
-rows-tex = 833
+rows-tex = 840
 
 abbrev pub rows-texi : ℕ
-rows-texi = 834
+rows-texi = 841
 
 abbrev pub rows-texlua : ℕ
-rows-texlua = 835
+rows-texlua = 842
 
 abbrev pub rows-tga : ℕ
-rows-tga = 836
+rows-tga = 843
 
 abbrev pub rows-tgif : ℕ
-rows-tgif = 837
+rows-tgif = 844
 
 abbrev pub rows-thomsap : ℕ
-rows-thomsap = 838
+rows-thomsap = 845
 
 abbrev pub rows-tib : ℕ
-rows-tib = 839
+rows-tib = 846
 
 abbrev pub rows-tif : ℕ
-rows-tif = 840
+rows-tif = 847
 
 abbrev pub rows-tnef : ℕ
-rows-tnef = 841
+rows-tnef = 848
 
 abbrev pub rows-toc : ℕ
-rows-toc = 842
+rows-toc = 849
 
 abbrev pub rows-torrent : ℕ
-rows-torrent = 843
+rows-torrent = 850
 
 abbrev pub rows-trd : ℕ
-rows-trd = 844
+rows-trd = 851
 
 abbrev pub rows-tres : ℕ
-rows-tres = 845
+rows-tres = 852
 
 abbrev pub rows-trustdb : ℕ
-rows-trustdb = 846
+rows-trustdb = 853
 
 abbrev pub rows-ts : ℕ
-rows-ts = 847
+rows-ts = 854
 
 abbrev pub rows-tscn : ℕ
-rows-tscn = 848
+rows-tscn = 855
 
 abbrev pub rows-tta : ℕ
-rows-tta = 849
+rows-tta = 856
 
 abbrev pub rows-ttc : ℕ
-rows-ttc = 850
+rows-ttc = 857
 
 abbrev pub rows-ttf : ℕ
-rows-ttf = 851
+rows-ttf = 858
 
 abbrev pub rows-ttl : ℕ
-rows-ttl = 852
+rows-ttl = 859
 
 abbrev pub rows-ttml : ℕ
-rows-ttml = 853
+rows-ttml = 860
 
 abbrev pub rows-ttx : ℕ
-rows-ttx = 854
+rows-ttx = 861
 
 abbrev pub rows-txt : ℕ
-rows-txt = 855
+rows-txt = 862
 
 abbrev pub rows-txt-xml : ℕ
-rows-txt-xml = 856
+rows-txt-xml = 863
 
 abbrev pub rows-txt-yaml : ℕ
-rows-txt-yaml = 857
+rows-txt-yaml = 864
 
 abbrev pub rows-txw : ℕ
-rows-txw = 858
+rows-txw = 865
 
 abbrev pub rows-typelib : ℕ
-rows-typelib = 859
+rows-typelib = 866
 
 abbrev pub rows-tzif : ℕ
-rows-tzif = 860
+rows-tzif = 867
 
 abbrev pub rows-tzx : ℕ
-rows-tzx = 861
+rows-tzx = 868
 
 abbrev pub rows-ubi : ℕ
-rows-ubi = 862
+rows-ubi = 869
 
 abbrev pub rows-ubifs : ℕ
-rows-ubifs = 863
+rows-ubifs = 870
 
 abbrev pub rows-uf2 : ℕ
-rows-uf2 = 864
+rows-uf2 = 871
 
 abbrev pub rows-ui : ℕ
-rows-ui = 865
+rows-ui = 872
 
 abbrev pub rows-uimage : ℕ
-rows-uimage = 866
+rows-uimage = 873
 
 abbrev pub rows-ult : ℕ
-rows-ult = 867
+rows-ult = 874
 
 abbrev pub rows-ulx : ℕ
-rows-ulx = 868
+rows-ulx = 875
 
 abbrev pub rows-umx : ℕ
-rows-umx = 869
+rows-umx = 876
 
 abbrev pub rows-unit : ℕ
-rows-unit = 870
+rows-unit = 877
 
 abbrev pub rows-ups : ℕ
-rows-ups = 871
+rows-ups = 878
 
 abbrev pub rows-url : ℕ
-rows-url = 872
+rows-url = 879
 
 abbrev pub rows-usda : ℕ
-rows-usda = 873
+rows-usda = 880
 
 abbrev pub rows-usdc : ℕ
-rows-usdc = 874
+rows-usdc = 881
 
 abbrev pub rows-uu : ℕ
-rows-uu = 875
+rows-uu = 882
 
 abbrev pub rows-vcdiff : ℕ
-rows-vcdiff = 876
+rows-vcdiff = 883
 
 abbrev pub rows-vcf : ℕ
-rows-vcf = 877
+rows-vcf = 884
 
 abbrev pub rows-vcfg : ℕ
-rows-vcfg = 878
+rows-vcfg = 885
 
 abbrev pub rows-vdex : ℕ
-rows-vdex = 879
+rows-vdex = 886
 
 abbrev pub rows-vdi : ℕ
-rows-vdi = 880
+rows-vdi = 887
 
 abbrev pub rows-vdr : ℕ
-rows-vdr = 881
+rows-vdr = 888
 
 abbrev pub rows-vgm : ℕ
-rows-vgm = 882
+rows-vgm = 889
 
 abbrev pub rows-vhd : ℕ
-rows-vhd = 883
+rows-vhd = 890
 
 abbrev pub rows-vhdx : ℕ
-rows-vhdx = 884
+rows-vhdx = 891
 
 abbrev pub rows-vips : ℕ
-rows-vips = 885
+rows-vips = 892
 
 abbrev pub rows-vmdk-vmdkcow : ℕ
-rows-vmdk-vmdkcow = 886
+rows-vmdk-vmdkcow = 893
 
 abbrev pub rows-vnt : ℕ
-rows-vnt = 887
+rows-vnt = 894
 
 abbrev pub rows-voc : ℕ
-rows-voc = 888
+rows-voc = 895
 
 abbrev pub rows-vpk : ℕ
-rows-vpk = 889
+rows-vpk = 896
 
 abbrev pub rows-vpnpcf : ℕ
-rows-vpnpcf = 890
+rows-vpnpcf = 897
 
 abbrev pub rows-vsd : ℕ
-rows-vsd = 891
+rows-vsd = 898
 
 abbrev pub rows-vsdx : ℕ
-rows-vsdx = 892
+rows-vsdx = 899
 
 abbrev pub rows-vsdx-zip : ℕ
-rows-vsdx-zip = 893
+rows-vsdx-zip = 900
 
 abbrev pub rows-vtf : ℕ
-rows-vtf = 894
+rows-vtf = 901
 
 abbrev pub rows-vtt : ℕ
-rows-vtt = 895
+rows-vtt = 902
 
 abbrev pub rows-w64 : ℕ
-rows-w64 = 896
+rows-w64 = 903
 
 abbrev pub rows-wad : ℕ
-rows-wad = 897
+rows-wad = 904
 
 abbrev pub rows-warc : ℕ
-rows-warc = 898
+rows-warc = 905
 
 abbrev pub rows-wasm-wasmc : ℕ
-rows-wasm-wasmc = 899
+rows-wasm-wasmc = 906
 
 abbrev pub rows-wav : ℕ
-rows-wav = 900
+rows-wav = 907
 
 abbrev pub rows-wbfs : ℕ
-rows-wbfs = 901
+rows-wbfs = 908
 
 abbrev pub rows-webm : ℕ
-rows-webm = 902
+rows-webm = 909
 
 abbrev pub rows-webp : ℕ
-rows-webp = 903
+rows-webp = 910
 
 abbrev pub rows-wiiwad : ℕ
-rows-wiiwad = 904
+rows-wiiwad = 911
 
 abbrev pub rows-wim : ℕ
-rows-wim = 905
+rows-wim = 912
 
 abbrev pub rows-wk1 : ℕ
-rows-wk1 = 906
+rows-wk1 = 913
 
 abbrev pub rows-wmf : ℕ
-rows-wmf = 907
+rows-wmf = 914
 
 abbrev pub rows-wmv : ℕ
-rows-wmv = 908
+rows-wmv = 915
 
 abbrev pub rows-woff : ℕ
-rows-woff = 909
+rows-woff = 916
 
 abbrev pub rows-woff2 : ℕ
-rows-woff2 = 910
+rows-woff2 = 917
 
 abbrev pub rows-wpd : ℕ
-rows-wpd = 911
+rows-wpd = 918
 
 abbrev pub rows-wpg : ℕ
-rows-wpg = 912
+rows-wpg = 919
 
 abbrev pub rows-wpl : ℕ
-rows-wpl = 913
+rows-wpl = 920
 
 abbrev pub rows-wpm : ℕ
-rows-wpm = 914
+rows-wpm = 921
 
 abbrev pub rows-wps : ℕ
-rows-wps = 915
+rows-wps = 922
 
 abbrev pub rows-wreg : ℕ
-rows-wreg = 916
+rows-wreg = 923
 
 abbrev pub rows-wri : ℕ
-rows-wri = 917
+rows-wri = 924
 
 abbrev pub rows-wrl : ℕ
-rows-wrl = 918
+rows-wrl = 925
 
 abbrev pub rows-wsdl : ℕ
-rows-wsdl = 919
+rows-wsdl = 926
 
 abbrev pub rows-wtv : ℕ
-rows-wtv = 920
+rows-wtv = 927
 
 abbrev pub rows-wv : ℕ
-rows-wv = 921
+rows-wv = 928
 
 abbrev pub rows-wve : ℕ
-rows-wve = 922
+rows-wve = 929
 
 abbrev pub rows-x3d : ℕ
-rows-x3d = 923
+rows-x3d = 930
 
 abbrev pub rows-x3dv : ℕ
-rows-x3dv = 924
+rows-x3dv = 931
 
 abbrev pub rows-x3f : ℕ
-rows-x3f = 925
+rows-x3f = 932
 
 abbrev pub rows-xap : ℕ
-rows-xap = 926
+rows-xap = 933
 
 abbrev pub rows-xar : ℕ
-rows-xar = 927
+rows-xar = 934
 
 abbrev pub rows-xbe : ℕ
-rows-xbe = 928
+rows-xbe = 935
 
 abbrev pub rows-xbel : ℕ
-rows-xbel = 929
+rows-xbel = 936
 
 abbrev pub rows-xbm : ℕ
-rows-xbm = 930
+rows-xbm = 937
 
 abbrev pub rows-xbt : ℕ
-rows-xbt = 931
+rows-xbt = 938
 
 abbrev pub rows-xcf : ℕ
-rows-xcf = 932
+rows-xcf = 939
 
 abbrev pub rows-xex : ℕ
-rows-xex = 933
+rows-xex = 940
 
 abbrev pub rows-xhtml : ℕ
-rows-xhtml = 934
+rows-xhtml = 941
 
 abbrev pub rows-xi : ℕ
-rows-xi = 935
+rows-xi = 942
 
 abbrev pub rows-xib : ℕ
-rows-xib = 936
+rows-xib = 943
 
 abbrev pub rows-xisf : ℕ
-rows-xisf = 937
+rows-xisf = 944
 
 abbrev pub rows-xliff : ℕ
-rows-xliff = 938
+rows-xliff = 945
 
 abbrev pub rows-xls : ℕ
-rows-xls = 939
+rows-xls = 946
 
 abbrev pub rows-xlsb : ℕ
-rows-xlsb = 940
+rows-xlsb = 947
 
 abbrev pub rows-xlsm : ℕ
-rows-xlsm = 941
+rows-xlsm = 948
 
 abbrev pub rows-xlsx : ℕ
-rows-xlsx = 942
+rows-xlsx = 949
 
 abbrev pub rows-xm : ℕ
-rows-xm = 943
+rows-xm = 950
 
 abbrev pub rows-xmcd : ℕ
-rows-xmcd = 944
+rows-xmcd = 951
 
 abbrev pub rows-xmf : ℕ
-rows-xmf = 945
+rows-xmf = 952
 
 abbrev pub rows-xmi : ℕ
-rows-xmi = 946
+rows-xmi = 953
 
 abbrev pub rows-xml : ℕ
-rows-xml = 947
+rows-xml = 954
 
 abbrev pub rows-xmp : ℕ
-rows-xmp = 948
+rows-xmp = 955
 
 abbrev pub rows-xpm : ℕ
-rows-xpm = 949
+rows-xpm = 956
 
 abbrev pub rows-xpm-xpm2 : ℕ
-rows-xpm-xpm2 = 950
+rows-xpm-xpm2 = 957
 
 abbrev pub rows-xsd : ℕ
-rows-xsd = 951
+rows-xsd = 958
 
 abbrev pub rows-xslt : ℕ
-rows-xslt = 952
+rows-xslt = 959
 
 abbrev pub rows-xspf : ℕ
-rows-xspf = 953
+rows-xspf = 960
 
 abbrev pub rows-xwd : ℕ
-rows-xwd = 954
+rows-xwd = 961
 
 abbrev pub rows-xz : ℕ
-rows-xz = 955
+rows-xz = 962
 
 abbrev pub rows-y4m : ℕ
-rows-y4m = 956
+rows-y4m = 963
 
 abbrev pub rows-yaml : ℕ
-rows-yaml = 957
+rows-yaml = 964
 
 abbrev pub rows-zck : ℕ
-rows-zck = 958
+rows-zck = 965
 
 abbrev pub rows-zim : ℕ
-rows-zim = 959
+rows-zim = 966
 
 abbrev pub rows-zimage : ℕ
-rows-zimage = 960
+rows-zimage = 967
 
 abbrev pub rows-zip : ℕ
-rows-zip = 961
+rows-zip = 968
 
 abbrev pub rows-zoo : ℕ
-rows-zoo = 962
+rows-zoo = 969
 
 abbrev pub rows-zpaq : ℕ
-rows-zpaq = 963
+rows-zpaq = 970
 
 abbrev pub rows-zst : ℕ
-rows-zst = 964
+rows-zst = 971
 
 abbrev pub rows-zst-zstold : ℕ
-rows-zst-zstold = 965
+rows-zst-zstold = 972
 
 unfoldable pub lead_lists : List (List (List ℕ))
 lead_lists =
@@ -3026,6 +3047,7 @@ sets_0 =
     ∷ (codes "arj" ∷ [])
     ∷ (codes "arrow" ∷ [])
     ∷ (codes "arsc" ∷ [])
+    ∷ (codes "arw" ∷ [])
     ∷ (codes "as" ∷ [])
     ∷ (codes "asar" ∷ [])
     ∷ (codes "asc" ∷ [])
@@ -3050,6 +3072,7 @@ sets_0 =
     ∷ (codes "bat" ∷ [])
     ∷ (codes "bc" ∷ [])
     ∷ (codes "bc" ∷ codes "bcw" ∷ [])
+    ∷ (codes "bcachefs" ∷ [])
     ∷ (codes "bcstm" ∷ [])
     ∷ (codes "bcwav" ∷ [])
     ∷ (codes "bdb" ∷ [])
@@ -3084,13 +3107,13 @@ sets_0 =
     ∷ (codes "cab" ∷ [])
     ∷ (codes "caf" ∷ [])
     ∷ (codes "cbor" ∷ [])
-    ∷ (codes "cci" ∷ [])
-    ∷ (codes "ccmx" ∷ [])
     ∷ []
 
 unfoldable pub sets_1 : List (List (List ℕ))
 sets_1 =
-    (codes "cdf" ∷ [])
+    (codes "cci" ∷ [])
+    ∷ (codes "ccmx" ∷ [])
+    ∷ (codes "cdf" ∷ [])
     ∷ (codes "cdr" ∷ [])
     ∷ (codes "cdx" ∷ [])
     ∷ (codes "cdxa" ∷ [])
@@ -3216,13 +3239,13 @@ sets_1 =
     ∷ (codes "f4v" ∷ [])
     ∷ (codes "fb2" ∷ [])
     ∷ (codes "fbx" ∷ codes "fbxtext" ∷ [])
-    ∷ (codes "fbz" ∷ [])
-    ∷ (codes "fccache" ∷ [])
     ∷ []
 
 unfoldable pub sets_2 : List (List (List ℕ))
 sets_2 =
-    (codes "fcstd" ∷ [])
+    (codes "fbz" ∷ [])
+    ∷ (codes "fccache" ∷ [])
+    ∷ (codes "fcstd" ∷ [])
     ∷ (codes "fdf" ∷ [])
     ∷ (codes "fds" ∷ [])
     ∷ (codes "ff" ∷ [])
@@ -3348,13 +3371,13 @@ sets_2 =
     ∷ (codes "imy" ∷ [])
     ∷ (codes "indd" ∷ [])
     ∷ (codes "inf" ∷ [])
-    ∷ (codes "info" ∷ [])
-    ∷ (codes "innolog" ∷ [])
     ∷ []
 
 unfoldable pub sets_3 : List (List (List ℕ))
 sets_3 =
-    (codes "ips" ∷ [])
+    (codes "info" ∷ [])
+    ∷ (codes "innolog" ∷ [])
+    ∷ (codes "ips" ∷ [])
     ∷ (codes "ipynb" ∷ [])
     ∷ (codes "ircam" ∷ [])
     ∷ (codes "it" ∷ [])
@@ -3397,6 +3420,7 @@ sets_3 =
     ∷ (codes "kbx" ∷ [])
     ∷ (codes "kdb" ∷ [])
     ∷ (codes "kdbx" ∷ [])
+    ∷ (codes "kdc" ∷ [])
     ∷ (codes "kdump" ∷ [])
     ∷ (codes "kfo" ∷ [])
     ∷ (codes "kil" ∷ [])
@@ -3463,6 +3487,7 @@ sets_3 =
     ∷ (codes "mdb" ∷ [])
     ∷ (codes "mdi" ∷ [])
     ∷ (codes "mdl" ∷ [])
+    ∷ (codes "mdraid" ∷ [])
     ∷ (codes "med" ∷ [])
     ∷ (codes "memdmp" ∷ [])
     ∷ (codes "meta4" ∷ [])
@@ -3478,15 +3503,15 @@ sets_3 =
     ∷ (codes "mkv" ∷ [])
     ∷ (codes "ml" ∷ [])
     ∷ (codes "mlp" ∷ [])
-    ∷ (codes "mm" ∷ [])
-    ∷ (codes "mmf" ∷ [])
-    ∷ (codes "mml" ∷ [])
-    ∷ (codes "mmm" ∷ [])
     ∷ []
 
 unfoldable pub sets_4 : List (List (List ℕ))
 sets_4 =
-    (codes "mng" ∷ [])
+    (codes "mm" ∷ [])
+    ∷ (codes "mmf" ∷ [])
+    ∷ (codes "mml" ∷ [])
+    ∷ (codes "mmm" ∷ [])
+    ∷ (codes "mng" ∷ [])
     ∷ (codes "mo" ∷ [])
     ∷ (codes "mo3" ∷ [])
     ∷ (codes "mobi" ∷ [])
@@ -3530,6 +3555,7 @@ sets_4 =
     ∷ (codes "ncx" ∷ [])
     ∷ (codes "ndjson" ∷ [])
     ∷ (codes "nds" ∷ [])
+    ∷ (codes "nef" ∷ [])
     ∷ (codes "neko" ∷ [])
     ∷ (codes "nes" ∷ [])
     ∷ (codes "netmon" ∷ [])
@@ -3604,21 +3630,22 @@ sets_4 =
     ∷ (codes "pcap" ∷ [])
     ∷ (codes "pcapng" ∷ [])
     ∷ (codes "pcd" ∷ [])
+    ∷ (codes "pcdimg" ∷ [])
     ∷ (codes "pcf" ∷ [])
     ∷ (codes "pch" ∷ [])
     ∷ (codes "pcl" ∷ [])
     ∷ (codes "pcx" ∷ [])
-    ∷ (codes "pdb" ∷ [])
+    ∷ []
+
+unfoldable pub sets_5 : List (List (List ℕ))
+sets_5 =
+    (codes "pdb" ∷ [])
     ∷ (codes "pdbmol" ∷ [])
     ∷ (codes "pdf" ∷ [])
     ∷ (codes "pdn" ∷ [])
     ∷ (codes "pef" ∷ [])
     ∷ (codes "pem" ∷ [])
-    ∷ []
-
-unfoldable pub sets_5 : List (List (List ℕ))
-sets_5 =
-    (codes "pf2" ∷ [])
+    ∷ (codes "pf2" ∷ [])
     ∷ (codes "pfa" ∷ codes "pfb" ∷ [])
     ∷ (codes "pfb" ∷ [])
     ∷ (codes "pfmap" ∷ [])
@@ -3740,17 +3767,17 @@ sets_5 =
     ∷ (codes "sdp" ∷ [])
     ∷ (codes "sds" ∷ [])
     ∷ (codes "sdw" ∷ [])
-    ∷ (codes "sed" ∷ [])
+    ∷ []
+
+unfoldable pub sets_6 : List (List (List ℕ))
+sets_6 =
+    (codes "sed" ∷ [])
     ∷ (codes "sereal" ∷ [])
     ∷ (codes "sf2" ∷ [])
     ∷ (codes "sfd" ∷ [])
     ∷ (codes "sgf" ∷ [])
     ∷ (codes "sgi" ∷ [])
-    ∷ []
-
-unfoldable pub sets_6 : List (List (List ℕ))
-sets_6 =
-    (codes "sh" ∷ [])
+    ∷ (codes "sh" ∷ [])
     ∷ (codes "sh" ∷ codes "txt" ∷ [])
     ∷ (codes "shn" ∷ [])
     ∷ (codes "shp" ∷ [])
@@ -3792,6 +3819,7 @@ sets_6 =
     ∷ (codes "svg" ∷ [])
     ∷ (codes "svm" ∷ [])
     ∷ (codes "svndump" ∷ [])
+    ∷ (codes "swap" ∷ [])
     ∷ (codes "swf" ∷ [])
     ∷ (codes "swf" ∷ codes "swfz" ∷ [])
     ∷ (codes "sxc" ∷ [])
@@ -3871,18 +3899,18 @@ sets_6 =
     ∷ (codes "vmdk" ∷ codes "vmdkcow" ∷ [])
     ∷ (codes "vnt" ∷ [])
     ∷ (codes "voc" ∷ [])
-    ∷ (codes "vpk" ∷ [])
+    ∷ []
+
+unfoldable pub sets_7 : List (List (List ℕ))
+sets_7 =
+    (codes "vpk" ∷ [])
     ∷ (codes "vpnpcf" ∷ [])
     ∷ (codes "vsd" ∷ [])
     ∷ (codes "vsdx" ∷ [])
     ∷ (codes "vsdx" ∷ codes "zip" ∷ [])
     ∷ (codes "vtf" ∷ [])
     ∷ (codes "vtt" ∷ [])
-    ∷ []
-
-unfoldable pub sets_7 : List (List (List ℕ))
-sets_7 =
-    (codes "w64" ∷ [])
+    ∷ (codes "w64" ∷ [])
     ∷ (codes "wad" ∷ [])
     ∷ (codes "warc" ∷ [])
     ∷ (codes "wasm" ∷ codes "wasmc" ∷ [])

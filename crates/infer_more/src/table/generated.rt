@@ -802,9 +802,9 @@ fn widens_before_768(i: usize, parent: Option<usize>, buf: &[u8]) -> bool
     }
 }
 
-/// [`widens`] for the rows before 913.
+/// [`widens`] for the rows before 921.
 #[inline(always)]
-fn widens_before_913(i: usize, parent: Option<usize>, buf: &[u8]) -> bool
+fn widens_before_921(i: usize, parent: Option<usize>, buf: &[u8]) -> bool
     ensures { IsTrue result ↔ WidensAt parent buf.now i }
 {
     match i {
@@ -953,6 +953,14 @@ fn widens_before_913(i: usize, parent: Option<usize>, buf: &[u8]) -> bool
         910 => widens_row::<910>(parent, buf),
         911 => widens_row::<911>(parent, buf),
         912 => widens_row::<912>(parent, buf),
+        913 => widens_row::<913>(parent, buf),
+        914 => widens_row::<914>(parent, buf),
+        915 => widens_row::<915>(parent, buf),
+        916 => widens_row::<916>(parent, buf),
+        917 => widens_row::<917>(parent, buf),
+        918 => widens_row::<918>(parent, buf),
+        919 => widens_row::<919>(parent, buf),
+        920 => widens_row::<920>(parent, buf),
         _ => widens_any(i, parent, buf),
     }
 }
@@ -971,5 +979,5 @@ pub(crate) fn widens(i: usize, parent: Option<usize>, buf: &[u8]) -> bool
     if i < 768 {
         return widens_before_768(i, parent, buf);
     }
-    widens_before_913(i, parent, buf)
+    widens_before_921(i, parent, buf)
 }

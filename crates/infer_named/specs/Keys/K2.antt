@@ -2,7 +2,7 @@
 use Rattle.std.specs.Prelude.{List, [], ◌∷◌, codes, false, true}
 use Rattle.infer_named.specs.Key.{Key, key}
 use Rattle.infer_named.specs.Listed.{reading}
-use Rattle.infer_named.specs.Sets.{any-lead, leads-10, leads-5, leads-7, leads-9, no-rows, rows-3dmodel, rows-aax, rows-age, rows-agekey, rows-ani, rows-apk, rows-aportis-plucker, rows-appimage-core-cubin-o-so, rows-application-x-ole-storage, rows-application-x-ole-storage-pptx-zip, rows-application-x-ole-storage-xlsm-xlsx-zip, rows-application-x-ole-storage-zip, rows-astc, rows-aup3, rows-avi, rows-avro, rows-awk, rows-bgzf-karbon-kil-kpr-ksp-kwd, rows-bib, rows-blb, rows-blp, rows-btf-tif, rows-class, rows-clj, rows-cpio, rows-cr2-dng, rows-csr-p10, rows-cue, rows-dbpf, rows-dcr, rows-der, rows-der-pem-txt, rows-desktop, rows-diff, rows-docker, rows-egg, rows-elf, rows-eps, rows-eps-pdf-ps, rows-exe-dll-efi-lx-ne-sys, rows-exs, rows-fdf, rows-fits, rows-fli, rows-flif, rows-fods, rows-fodt, rows-fpx, rows-gch, rows-gconv, rows-gdbm, rows-gguf, rows-gitbundle, rows-gitidx, rows-gitindex, rows-glade, rows-gnucash, rows-gnuplot, rows-gpgsec, rows-grib, rows-groovy, rows-gtkbuilder, rows-gz, rows-gz-sqlite-xml, rows-gz-zip, rows-hdf5, rows-hprof, rows-html-json-php-svg-txt-xhtml-xml, rows-html-rss-txt-xml, rows-html-sh-svg-txt-xhtml-xml, rows-html-txt-xhtml-xml, rows-html-txt-xml, rows-ico, rows-icontheme, rows-ics, rows-igs, rows-it, rows-it87, rows-jar-zip, rows-jarmf, rows-jls, rows-jng, rows-jp2, rows-jpg, rows-jph-jpm-jpx-mj2, rows-jpx, rows-json, rows-json-sh-txt, rows-json-txt, rows-karbon, rows-kate-oga-ogm-ogv-ogx-opus-spx-vorbis, rows-kdump, rows-ldcache, rows-lisp, rows-ll, rows-lrf, rows-luac, rows-lyx, rows-mdl, rows-mk, rows-mkv, rows-ml, rows-mobi, rows-mrc, rows-msbuild, rows-n64, rows-ndjson, rows-nii, rows-npy, rows-nsv, rows-ods, rows-ogg, rows-ots, rows-owx, rows-p7b-p7c, rows-par, rows-pdb, rows-pdbmol, rows-pem, rows-php, rows-pkl, rows-pkpass, rows-pl, rows-pnm, rows-ppd, rows-ppt, rows-pptx, rows-profdata, rows-ps, rows-ps-txt, rows-psd, rows-psp, rows-pst, rows-py, rows-py-sh-zip, rows-qp, rows-rb, rows-rdf, rows-rf64, rows-rkt, rows-roff, rows-rpm, rows-rq, rows-sav, rows-sbml, rows-scm, rows-scsyn, rows-sereal, rows-sh, rows-sh-txt, rows-sit, rows-smk, rows-so, rows-sqlite, rows-srpm, rows-szx, rows-tch, rows-tdb, rows-tex, rows-tib, rows-tif, rows-ttl, rows-txt, rows-unit, rows-vhdx, rows-vsdx, rows-vtf, rows-vtt, rows-wav, rows-wim, rows-wk1, rows-wmv, rows-wve, rows-xbel, rows-xhtml, rows-xls, rows-xmi, rows-xsd, rows-zip, text-rows}
+use Rattle.infer_named.specs.Sets.{any-lead, leads-10, leads-5, leads-7, leads-9, no-rows, rows-3dmodel, rows-aax, rows-age, rows-agekey, rows-ani, rows-apk, rows-aportis-plucker, rows-appimage-core-cubin-o-so, rows-application-x-ole-storage, rows-application-x-ole-storage-pptx-zip, rows-application-x-ole-storage-xlsm-xlsx-zip, rows-application-x-ole-storage-zip, rows-astc, rows-aup3, rows-avi, rows-avro, rows-awk, rows-bgzf-karbon-kil-kpr-ksp-kwd, rows-bib, rows-blb, rows-blp, rows-btf-tif, rows-class, rows-clj, rows-cpio, rows-cr2-dng, rows-csr-p10, rows-cue, rows-dbpf, rows-dcr, rows-der, rows-der-pem-txt, rows-desktop, rows-diff, rows-docker, rows-egg, rows-elf, rows-eps, rows-eps-pdf-ps, rows-exe-dll-efi-lx-ne-sys, rows-exs, rows-fdf, rows-fits, rows-fli, rows-flif, rows-fods, rows-fodt, rows-fpx, rows-gch, rows-gconv, rows-gdbm, rows-gguf, rows-gitbundle, rows-gitidx, rows-gitindex, rows-glade, rows-gnucash, rows-gnuplot, rows-gpgsec, rows-grib, rows-groovy, rows-gtkbuilder, rows-gz, rows-gz-sqlite-xml, rows-gz-zip, rows-hdf5, rows-hprof, rows-html-json-php-svg-txt-xhtml-xml, rows-html-rss-txt-xml, rows-html-sh-svg-txt-xhtml-xml, rows-html-txt-xhtml-xml, rows-html-txt-xml, rows-ico, rows-icontheme, rows-ics, rows-igs, rows-it, rows-it87, rows-jar-zip, rows-jarmf, rows-jls, rows-jng, rows-jp2, rows-jpg, rows-jph-jpm-jpx-mj2, rows-jpx, rows-json, rows-json-sh-txt, rows-json-txt, rows-karbon, rows-kate-oga-ogm-ogv-ogx-opus-spx-vorbis, rows-kdc, rows-kdump, rows-ldcache, rows-lisp, rows-ll, rows-lrf, rows-luac, rows-lyx, rows-mdl, rows-mk, rows-mkv, rows-ml, rows-mobi, rows-mrc, rows-msbuild, rows-n64, rows-ndjson, rows-nii, rows-npy, rows-nsv, rows-ods, rows-ogg, rows-ots, rows-owx, rows-p7b-p7c, rows-par, rows-pdb, rows-pdbmol, rows-pem, rows-php, rows-pkl, rows-pkpass, rows-pl, rows-pnm, rows-ppd, rows-ppt, rows-pptx, rows-profdata, rows-ps, rows-ps-txt, rows-psd, rows-psp, rows-pst, rows-py, rows-py-sh-zip, rows-qp, rows-rb, rows-rdf, rows-rf64, rows-rkt, rows-roff, rows-rpm, rows-rq, rows-sav, rows-sbml, rows-scm, rows-scsyn, rows-sereal, rows-sh, rows-sh-txt, rows-sit, rows-smk, rows-so, rows-sqlite, rows-srpm, rows-szx, rows-tch, rows-tdb, rows-tex, rows-tib, rows-tif, rows-ttl, rows-txt, rows-unit, rows-vhdx, rows-vsdx, rows-vtf, rows-vtt, rows-wav, rows-wim, rows-wk1, rows-wmv, rows-wve, rows-xbel, rows-xhtml, rows-xls, rows-xmi, rows-xsd, rows-zip, text-rows}
 use Rattle.infer_named.specs.Types.{is-application-bson, is-application-gzip, is-application-hjson, is-application-illustrator, is-application-its-xml, is-application-java, is-application-json, is-application-onenote, is-application-owl-xml, is-application-pkcs10, is-application-pkcs7-mime, is-application-rdf-xml, is-application-sbml-xml, is-application-sereal, is-application-sparql-query, is-application-sql, is-application-timestamp-query, is-application-timestamp-reply, is-application-toml, is-application-vnd-android-package-archive, is-application-vnd-apple-numbers, is-application-vnd-apple-pkpass, is-application-vnd-coffeescript, is-application-vnd-comicbook-zip, is-application-vnd-cups-ppd, is-application-vnd-fdf, is-application-vnd-lotus-1-2-3-as-row-wk1, is-application-vnd-microsoft-portable-executable, is-application-vnd-ms-excel, is-application-vnd-ms-excel-template-macroenabled-12, is-application-vnd-ms-outlook-pst, is-application-vnd-ms-package-3dmanufacturing-3dmodel-xml, is-application-vnd-ms-powerpoint, is-application-vnd-ms-visio-drawing-main-xml, is-application-vnd-oasis-opendocument-spreadsheet, is-application-vnd-oasis-opendocument-spreadsheet-flat-xml, is-application-vnd-oasis-opendocument-text-flat-xml, is-application-vnd-openxmlformats-officedocument-presentationml-presentation, is-application-vnd-openxmlformats-officedocument-presentationml-template, is-application-vnd-recordare-musicxml, is-application-vnd-wolfram-mathematica, is-application-vsix, is-application-x-ableton-live-set, is-application-x-acronis-tib, is-application-x-age-encryption, is-application-x-age-key, is-application-x-aportisdoc, is-application-x-aspx, is-application-x-audacity-project-sqlite3, is-application-x-avro, is-application-x-blorb, is-application-x-cpio, is-application-x-cue, is-application-x-desktop, is-application-x-director, is-application-x-egg, is-application-x-erb, is-application-x-executable-as-row-elf, is-application-x-gcc-pch, is-application-x-gconv-cache, is-application-x-gdbm, is-application-x-gguf, is-application-x-git-bundle, is-application-x-git-index, is-application-x-git-pack-index, is-application-x-glade, is-application-x-gnucash, is-application-x-gnupg-private-key, is-application-x-gnuplot, is-application-x-grib, is-application-x-hdf5, is-application-x-it87, is-application-x-java-hprof, is-application-x-jsonc, is-application-x-jsp, is-application-x-karbon, is-application-x-kdump, is-application-x-ld-so-cache, is-application-x-leveldb-table, is-application-x-llvm-profdata, is-application-x-lua-bytecode, is-application-x-lyx, is-application-x-maxis-dbpf, is-application-x-mobipocket-ebook, is-application-x-ms-pdb, is-application-x-ms-wim, is-application-x-msbuild-xml, is-application-x-n64-rom, is-application-x-navi-animation, is-application-x-ndjson, is-application-x-npy, is-application-x-npz, is-application-x-par, is-application-x-pascal-resource-strings-json, is-application-x-python-pickle, is-application-x-python-zipapp, is-application-x-qpress, is-application-x-quake-model, is-application-x-resx-xml, is-application-x-rpm, is-application-x-sharedlib, is-application-x-sony-bbeb, is-application-x-spectrum-szx, is-application-x-spss-sav, is-application-x-stuffit, is-application-x-supercollider-synthdef, is-application-x-tdb, is-application-x-tokyocabinet-hash, is-application-x-vhdx-disk, is-application-x-wheel-zip, is-application-x-xbel, is-application-xhtml-xml, is-application-xml, is-audio-ogg-as-row-ogg, is-audio-vnd-audible-aax, is-audio-x-it, is-audio-x-matroska, is-audio-x-psion-wve, is-audio-x-rf64, is-audio-x-wav, is-chemical-x-mdl-sdfile, is-chemical-x-pdb, is-image-astc, is-image-fits, is-image-flif, is-image-jls, is-image-jp2, is-image-jpeg, is-image-jpx, is-image-tiff, is-image-vnd-adobe-photoshop, is-image-vnd-fpx, is-image-vnd-microsoft-icon, is-image-vnd-valve-source-texture, is-image-x-blp, is-image-x-eps, is-image-x-jng, is-image-x-kodak-dcr, is-image-x-kodak-kdc, is-image-x-mamiya-mef, is-image-x-mrc, is-image-x-nifti, is-image-x-paintshoppro, is-image-x-portable-bitmap, is-image-x-portable-graymap, is-image-x-tga-as-known, is-model-iges, is-text-calendar, is-text-plain, is-text-sgml, is-text-troff, is-text-turtle, is-text-vtt, is-text-x-ampl, is-text-x-apacheconf, is-text-x-apl, is-text-x-asciidoc, is-text-x-autoit, is-text-x-awk, is-text-x-bibtex, is-text-x-bugs, is-text-x-c-hdr, is-text-x-cabal, is-text-x-cairo, is-text-x-clojure, is-text-x-cobol, is-text-x-common-lisp, is-text-x-cron, is-text-x-csharp, is-text-x-csrc, is-text-x-dockerfile, is-text-x-elixir, is-text-x-fastq, is-text-x-forth, is-text-x-fountain, is-text-x-gdb, is-text-x-gerber, is-text-x-gff, is-text-x-glsl, is-text-x-gotemplate, is-text-x-groovy, is-text-x-hcl, is-text-x-hive, is-text-x-icon-theme, is-text-x-idl, is-text-x-ini, is-text-x-irclog, is-text-x-java-manifest, is-text-x-jcl, is-text-x-kickstart, is-text-x-kotlin, is-text-x-ld-script, is-text-x-lex, is-text-x-liquid, is-text-x-llvm, is-text-x-makefile, is-text-x-mako, is-text-x-meson, is-text-x-mirc, is-text-x-nim, is-text-x-nsis, is-text-x-ocaml, is-text-x-pascal, is-text-x-patch, is-text-x-perl, is-text-x-php, is-text-x-pike, is-text-x-procfile, is-text-x-python-as-row-py, is-text-x-racket, is-text-x-rdoc, is-text-x-reason, is-text-x-red, is-text-x-rexx, is-text-x-rmarkdown, is-text-x-robotframework, is-text-x-roc, is-text-x-ruby, is-text-x-scheme, is-text-x-shell-config, is-text-x-shellscript, is-text-x-slint, is-text-x-smali, is-text-x-sml, is-text-x-snakemake, is-text-x-starlark, is-text-x-swift, is-text-x-systemd-unit, is-text-x-tex, is-text-x-vagrantfile, is-text-x-vim, is-text-x-xmi, is-text-x-yacc, is-video-vnd-radgamettools-smacker, is-video-x-flic, is-video-x-ms-wmv, is-video-x-msvideo, is-video-x-nsv}
 use Rattle.infer_named.specs.declared.table.Asks.TheVariants.{Bytes, Signature, Text}
 use Rattle.infer_named.specs.declared.table.Part.TheVariants.{Extension, Whole}
@@ -61,7 +61,7 @@ keys =
     ∷ key Extension (codes "auk") false (reading is-text-x-awk Text rows-awk rows-sh-txt no-rows any-lead ∷ [])
     ∷ key Extension (codes "irclog") false (reading is-text-x-irclog Text no-rows rows-txt no-rows any-lead ∷ [])
     ∷ key Extension (codes "elf") false (reading is-application-x-executable-as-row-elf Signature rows-elf no-rows rows-appimage-core-cubin-o-so any-lead ∷ [])
-    ∷ key Extension (codes "kdc") false (reading is-image-x-kodak-kdc Signature no-rows rows-tif no-rows any-lead ∷ [])
+    ∷ key Extension (codes "kdc") false (reading is-image-x-kodak-kdc Signature rows-kdc rows-tif no-rows any-lead ∷ [])
     ∷ key Extension (codes "cobol") false (reading is-text-x-cobol Text no-rows rows-txt no-rows any-lead ∷ [])
     ∷ key Extension (codes "cabal") false (reading is-text-x-cabal Text no-rows rows-txt no-rows any-lead ∷ [])
     ∷ key Extension (codes "acm") false (reading is-application-vnd-microsoft-portable-executable Signature rows-exe-dll-efi-lx-ne-sys no-rows no-rows any-lead ∷ [])
