@@ -62,7 +62,7 @@ module _ (k : List ℕ) where
   no_key x u left mark (inside, behind, inl e, key, colon) = let first : x ≡ 0x7B = cc in absurd (omega arith)
   no_key x u left mark (inside, behind, inr (blank, later), key, colon) = absurd (grind arith)
 
-  no_mark : (u left : List ℕ) → ¬ BeginsByKey k (0xEF ∷ u) left
+  pub no_mark : (u left : List ℕ) → ¬ BeginsByKey k (0xEF ∷ u) left
   no_mark u left = no_key 0xEF u left refl
 
   bracket_leads : (w inside : List ℕ) → StandsNext (0x7B ∷ []) w inside → BeginsBehindBlanks w

@@ -10,6 +10,7 @@ pub mod HeaderLemmas
 pub mod Id3Lemmas
 pub mod JsonLeadLemmas
 pub mod JsonLemmas
+pub mod KeyLemmas
 pub mod LeadLemmas
 pub mod LetterLemmas
 pub mod LineLemmas

@@ -10,7 +10,10 @@ mod open;
 mod reader;
 mod token;
 
-pub use key::{has_first_key, has_first_key_with, may_have_first_key, may_have_first_key_with};
+pub use key::{
+    Key, first_dark, first_key, has_first_key, has_first_key_with, may_have_first_key,
+    may_have_first_key_with,
+};
 use lines::{Line, begins_line, is_bracket, past_blanks, read_line};
 pub use open::{may_become_json, may_become_json_lines};
 use token::has_token;

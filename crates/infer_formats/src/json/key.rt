@@ -1,12 +1,60 @@
 //! JSON objects by their first key.
-ghost use Rattle.std.specs.Prelude.{◌≡◌, ◌↔◌, ◌∷◌, ◌++◌, [], ℕ, IsTrue, List, MatchOption};
+ghost use Rattle.std.specs.Prelude.{◌≡◌, ◌↔◌, ◌∷◌, ◌++◌, [], ℕ, IfSome, IsTrue, List, MatchOption};
 ghost use Rattle.infer_deep.specs.Signatures.{MayBecome};
 ghost use Rattle.infer_formats.specs.Json.{IsBlank};
-ghost use Rattle.infer_formats.specs.FirstKey.{BeginsByKey, HasFirstKey, HasFirstKeyWith, StandsNext, in_quotes};
+ghost use Rattle.infer_formats.specs.FirstKey.{BeginsByKey, EndsInQuote, HasFirstKey, HasFirstKeyWith, HasValue, IsFirstKey, StandsFirst, StandsNext, in_quotes};
 
 use super::lines::past_blanks;
 use super::open::may_reach_bracket;
 use super::past_mark;
+use memchr::memchr;
+
+/// The first key of an object.
+#[derive(Clone, Copy, Debug)]
+pub struct Key<'a> {
+    /// What stands between its quotes.
+    pub text: &'a [u8],
+    /// What stands behind its colon in the buffer.
+    pub rest: &'a [u8],
+}
+
+impl Key<'_> {
+    /// Whether its value is this text.
+    pub fn has_value(&self, value: &[u8]) -> bool
+        ensures { IsTrue result ↔ HasValue value.now self.now.rest.now }
+    {
+        past_quoted(self.rest, value).is_some()
+    }
+}
+
+/// The first key of the object that begins a buffer, up to the next quote: read once for all that ask for one.
+pub fn first_key(buf: &[u8]) -> Option<Key<'_>>
+    ensures found { MatchOption result ((k left : List ℕ) → ¬ IsFirstKey k left buf.now)
+        (λ key. IsFirstKey key.text.now key.rest.now buf.now) }
+    ensures only { IfSome result
+        (λ key. (k left : List ℕ) → IsFirstKey k left buf.now → (k ≡ key.text.now)
+        × (left ≡ key.rest.now)) }
+{
+    let inside = past_byte(past_mark(buf), b'{')?;
+    let quoted = past_byte(inside, b'"')?;
+    let key = up_to_quote(quoted)?;
+    let rest = past_byte(key.rest, b':')?;
+    Some(Key {
+        text: key.text,
+        rest,
+    })
+}
+
+/// The first byte that is no white space, as "{" of an object.
+pub fn first_dark(buf: &[u8]) -> Option<u8>
+    ensures { MatchOption result ((x : ℕ) → (¬ IsBlank x) → ¬ StandsFirst x buf.now)
+        (λ dark. (¬ IsBlank dark) × StandsFirst dark buf.now) }
+{
+    match past_blanks(buf) {
+        [dark, ..] => Some(*dark),
+        [] => None,
+    }
+}
 
 /// An object begins the buffer, whose first key is this.
 #[inline(never)]
@@ -85,4 +133,16 @@ fn past_closing<'b>(buf: &'b [u8], text: &[u8]) -> Option<&'b [u8]>
         Some(rest) => rest.strip_prefix(b"\""),
         None => None,
     }
+}
+
+/// The text up to the first quote, and what stands behind that.
+fn up_to_quote(buf: &[u8]) -> Option<Key<'_>>
+    ensures { MatchOption result ((t left : List ℕ) → ¬ EndsInQuote t left buf.now)
+        (λ key. EndsInQuote key.text.now key.rest.now buf.now) }
+{
+    let end = memchr(b'"', buf)?;
+    Some(Key {
+        text: &buf[..end],
+        rest: &buf[end + 1..],
+    })
 }
