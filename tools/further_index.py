@@ -1,7 +1,7 @@
 """Makes the index of the further rows from their signatures: which rows are tried below each built-in row, by the first
 byte and a second one, and behind a guard, a byte elsewhere in the buffer. One gate, a byte too, has guards of its own. An
-entry names a row and one more byte that it asks, so that few rows are tried whole. Rows that ask for a program, a root or a
-package are told by a name, and the texts last. The check refuses an index that leaves a row out; here only what is cheap is
+entry names a row and one more byte that it asks, so that few rows are tried whole. Rows that ask for a program, a root, the
+first key of an object or a package are told by a name, and the texts last. The check refuses an index that leaves a row out; here only what is cheap is
 chosen."""
 import ast
 import itertools
@@ -28,8 +28,8 @@ ghost use Rattle.infer_more.specs.Wider.{{IsWidened}};
 use crate::index::Below::{{ClassIds, Entries, Nothing, Packages, Programs, Roots}};
 use crate::index::asked::{{below_at, found_row_apart, is_marked}};
 use crate::index::{{
-    Begun, Below, Entry, Except, Gate, Guard, Named, Parentless, Range, Rooted, Second, Span, Spot,
-    Spots, Texts, Third,
+    Begun, Below, Entry, Except, Gate, Guard, Keyed, Named, Parentless, Range, Rooted, Second,
+    Span, Spot, Spots, Texts, Third,
 }};
 
 /// How many further rows there are.
@@ -187,28 +187,29 @@ returns-in_default c =
 # A text or a character in the code.
 TEXT = r"""(?:"(?:[^"\\]|\\.)*"|'(?:[^'\\]|\\.)*')"""
 TEXT_OF_BYTES = rf"b{TEXT}"
-# The longest line of code.
-WIDTH = 100
-# How many buckets of programs there are.
-BUCKETS = 32
+# The longest line of code, and the longest word of a list that has several a line.
+WIDTH, SHORT = 100, 10
+# How many buckets of programs there are, and of roots.
+BUCKETS, ROOT_BUCKETS = 32, 8
 # Of how many spans a second byte picks one.
 PICKS = 16
 # How many first bytes have a third byte: every buffer without an answer is asked for each of them.
-MOST_THIRDS = 2
+MOST_THIRDS = 4
 # What one entry costs, what a loop over more does, and each of them in it.
 ONE, LOOP, EACH = 14, 36, 11
 # Places behind this are far: few headers are as long.
 FAR = 64
-# How many spots there can be, each of which has a mark of its own.
-MARKS = 32
-# How many rows a spot tells at least, unless more have one byte: the fewer, the more spots are asked for, and the fewer rows.
-LEAST_SEEN = 4
+# How many marks there are at most, one for each spot.
+MARKS = 64
+# How many rows a near spot tells at most, a far one and one of a zero, unless more have one byte: the fewer, the more spots are
+# asked for, and the fewer rows. A buffer with far places is asked for all spots, and one that begins with a zero for those of it.
+NEAR_SEEN, FAR_SEEN, ZERO_SEEN = 3, 1, 3
 # The kinds of ways below a parent that stand in one list: they have no list inside a list.
 LISTED = {"Nothing", "Entries"}
 # What is told last, without being tried.
 TEXTS = {"JsonLines", "JsonText", "PlainText"}
 # What is told without a parent and not tried.
-TOLD = TEXTS | {"Root", "RootWith"}
+TOLD = TEXTS | {"Root", "RootWith", "FirstKey", "FirstKeyWith"}
 COMMON = set(b" etaoinshrdlu\n\x00\x01\xFF")
 RELATIONS = "crates/infer_formats/specs/Relation.antt"
 # What every buffer has that fits an alternative which looks inside, where RELATIONS names other definitions, or asks for more
@@ -605,23 +606,41 @@ def groups_at(place, told, most):
     return [(place, sorted(it, key=lambda it: it[0])) for it in groups if it]
 
 
-def spots_of(left, most):
-    """The places that tell these alternatives, each with some that it tells: next comes what tells most, by the fewest bytes."""
+def told_alone(place, told):
+    """How many rows have bytes at the place that no other row has there."""
+    by_byte = {}
+    for number, it in told:
+        for byte in it[place]:
+            by_byte.setdefault(byte, set()).add(number)
+    return len({number for number, it in told if all(by_byte[byte] == {number} for byte in it[place])})
+
+
+def spots_of(left, near, far):
+    """The places that tell these alternatives, each with some that it tells, so many near rows and far ones at most: next comes
+    what tells the most rows apart."""
     spots = []
     while left:
         told = {place: [(number, it) for number, it in left if is_told_at(place, it)] for place in sorted({place for _, it in left for place in it})}
-        place = min(told, key=lambda place: (-len(told[place]), len(set().union(*(it[place] for _, it in told[place])))))
-        spots += groups_at(place, told[place], most)
+        place = min(told, key=lambda place: (-told_alone(place, told[place]), -len(told[place])))
+        spots += groups_at(place, told[place], near if place <= FAR else far)
         left = [it for it in left if it not in told[place]]
     return sorted(spots, key=lambda it: it[0])
 
 
-def all_spots(rows, zeros):
-    """The spots of all buffers, and those of a zero: no more than there are marks."""
+def all_spots(rows, zeros, gate):
+    """The spots of all buffers, and those of a zero. What stands behind the gate has none."""
     first, zeroed = first_spotted(rows), begun_by(rows, zeros)[1]
-    others = [(number, it) for number, it in free_of(rows, zeros) if number >= first]
-    both = ((spots_of(others, most), spots_of(zeroed, most)) for most in range(LEAST_SEEN, 256))
-    return next((spots, own) for spots, own in both if len(spots) + len(own) <= MARKS)
+    others = [(number, it) for number, it in free_of(rows, zeros) if number >= first and not is_behind(gate, it)]
+    spots, own = spots_of(others, NEAR_SEEN, FAR_SEEN), spots_of(zeroed, ZERO_SEEN, ZERO_SEEN)
+    if len(spots) + len(own) > MARKS:
+        raise ValueError(f"{len(spots) + len(own)} spots, and there are {MARKS} marks: let each tell more rows")
+    return spots, own
+
+
+def is_behind(gate, alternative):
+    """Whether every buffer of the alternative has the gate's byte, and another one that tells it."""
+    place, byte = gate
+    return alternative.get(place) == {byte} and bool(ways_of(alternative, gate))
 
 
 def marks_of(spots):
@@ -637,8 +656,8 @@ def in_spots(spots, first):
 
 def looked_at(rows):
     """The places at which a buffer without an answer is looked at for all of these."""
-    zeros, ((place, _), outside, inside) = with_zeros(rows)
-    spots = itertools.chain(*all_spots(rows, zeros))
+    zeros, ((place, byte), outside, inside) = with_zeros(rows)
+    spots = itertools.chain(*all_spots(rows, zeros, (place, byte)))
     wides = [min(it) for row in rows if not row.parent for it in row.outlines(TOLD) if is_wide(it)]
     return {place, *(at for (at, _), _ in [*outside, *inside]), *(at for at, _ in spots), *wides}
 
@@ -646,12 +665,14 @@ def looked_at(rows):
 def gated(rows, zeros):
     """The gate, the guards beside it and those behind it, for the rows of no parent whose first byte tells too little. Every
     buffer without an answer is asked for the guards and for the gate's byte, and few for the guards behind the gate."""
-    first = first_spotted(rows)
-    free = [(number, it) for number, it in free_of(rows, zeros) if number < first]
+    first, every_free = first_spotted(rows), free_of(rows, zeros)
+    free = [(number, it) for number, it in every_free if number < first]
     every = choose(free)
     ways = [(weigh(passing(free), every), (0, 0), list(guards(free, every)), [])]
     for gate, inside in gates(free):
         outside = [it for it in free if it not in inside]
+        # There a row that a spot would tell costs the other buffers nothing.
+        inside = [*inside, *((number, it) for number, it in every_free if number >= first and is_behind(gate, it))]
         # As few buffers come to a guard behind the gate as to the entries behind that guard.
         outer, inner = choose(outside, [gate]), choose(inside, (), gate, BEHIND)
         # A byte that is common in texts opens the gate to more of them.
@@ -761,6 +782,13 @@ def in_lines(words):
     yield from (f"            {', '.join(words[at : at + 8])}{',' * (at + 8 < len(words))}" for at in range(0, len(words), 8))
 
 
+def filled(words, indent):
+    """Words with commas between them, as many a line as `rt fmt` puts there: one if some are long."""
+    text = ", ".join(words)
+    lines = text.replace(", ", ",\n") if max(map(len, words)) > SHORT else textwrap.fill(text, WIDTH - indent - 1)
+    yield textwrap.indent(lines, indent * " ")
+
+
 def in_guards(guards):
     yield from (f"        {place} 0x{byte:02X} {listed(some)};" for (place, byte), some in guards)
 
@@ -776,10 +804,22 @@ def names(rows, name):
         yield from ((re.findall(TEXT_OF_BYTES, it.takes), number) for it in row.signature if it.name == name)
 
 
+def told_by(rows, name):
+    """The texts that the alternatives of that name take, and of that with another text, as code has them, in the order of the
+    rows."""
+    both = sorted([*names(rows, name), *names(rows, f"{name}With")], key=lambda it: it[1])
+    return [(some[0], f"{some[0]} ({' '.join(some[1:])}) {k}") for some, k in both]
+
+
+def in_buckets(listed, many):
+    """Texts in so many buckets by their first byte, each with what code has of it."""
+    buckets = [[said for text, said in listed if ast.literal_eval(text)[0] % many == n] for n in range(many)]
+    return " ".join(f"({', '.join(some)})" for some in buckets)
+
+
 def rooted(rows):
     """The rows, each with its number, that ask for a root."""
-    both = sorted([*names(rows, "Root"), *names(rows, "RootWith")], key=lambda it: it[1])
-    return f"rooted!{bracketed(f'{some[0]} ({chr(32).join(some[1:])}) {k}' for some, k in both)}"
+    return f"roots![{in_buckets(told_by(rows, 'Root'), ROOT_BUCKETS)}]"
 
 
 def below(rows):
@@ -790,9 +830,8 @@ def below(rows):
     if kinds == {"ClassId"}:
         return "ClassIds", [f"named!{bracketed(f'{it} {k}' for some, k in names(rows, 'ClassId') for it in some)}"]
     if kinds == {"Program"}:
-        listed = [(it, k) for some, k in names(rows, "Program") for it in some]
-        buckets = [[f"{it} {k}" for it, k in listed if ast.literal_eval(it)[0] % BUCKETS == n] for n in range(BUCKETS)]
-        return "Programs", [f"buckets![{' '.join(f'({chr(44).join(chr(32) + it for it in some)[1:]})' for some in buckets)}]"]
+        listed = [(it, f"{it} {k}") for some, k in names(rows, "Program") for it in some]
+        return "Programs", [f"buckets![{in_buckets(listed, BUCKETS)}]"]
     if kinds <= {"Root", "RootWith"}:
         return "Roots", [rooted(rows)]
     told = {"PackageWith"} & kinds
@@ -881,11 +920,11 @@ def lists(rows, parents):
     yield "    ranges: ranges!["
     yield from (wide(number, it) for number, row in numbered if not row.parent for it in row.outlines(TOLD) if is_wide(it))
     yield "    ],"
-    spots, zero_spots = all_spots(rows, zeros)
+    spots, zero_spots = all_spots(rows, zeros, (place, first))
     yield "    spots: Spots {"
     yield f"        from: {first_spotted(rows)},"
     yield "        marks: marks!["
-    yield textwrap.indent(textwrap.fill(", ".join(f"0x{it:X}" for it in marks_of(spots + zero_spots)), WIDTH - 13), 12 * " ")
+    yield from filled([f"0x{it:X}" for it in marks_of(spots + zero_spots)], 12)
     yield "        ],"
     yield "        zeros: spots!["
     yield from in_spots(zero_spots, len(spots))
@@ -898,7 +937,9 @@ def lists(rows, parents):
     yield from in_spots([it for it in spots if it[0] > FAR], sum(place <= FAR for place, _ in spots))
     yield "        ],"
     yield "    },"
-    yield f"    roots: {rooted([(k, row) for k, row in numbered if not row.parent])},"
+    own = [(k, row) for k, row in numbered if not row.parent]
+    yield f"    roots: {rooted(own)},"
+    yield f"    keys: keyed!{bracketed(said for _, said in told_by(own, 'FirstKey'))},"
     yield "    texts: Texts {"
     yield from last(rows)
     yield "    },"

@@ -1,18 +1,23 @@
 -- By the index just those rows are found that widen an answer.
 use Rattle.std.proofs.lemmas.Bool.{or_cases}
-use Rattle.infer_more.proofs.Common.{◌≡◌, ◌↔◌, ℕ, zero, suc, ◌+◌, ◌<◌, ◌≤◌, ◌==◌, inl, inr, Bool, true, false, IsTrue, List, [], ◌∷◌, Option, None, Some, length, get_or, ap, sym, ◌∙◌, subst, arith, refl, ◌%◌, ◌&&◌, ◌||◌, ◌++◌, slice_index, nat_le, list_all, list_any, option_map_or, cases_lt, eqb-true, leb-true, get_or_default, slice_get_cases, Bor, IsJson, IsJsonLines, BeginsElement, IsRootElement, there, IsProgram, IsOneOf, IsPackageWith, applications, accepts, fits, stands, StandsByPlace, IsBuffer, is_listed, HasTagText, IsFoundBelow, IsLeast, IsNamed, IsOfProgram, IsRootedBy, IsRooted, IsRowOf, IsTried, ascends, candidates, excepted, is_covered, is_excepted, is_plain, is_tried_parentless, is_true_below, named_row, rooted_row, tried_parentless, lines, Further, Accepted, Fits, related, json_lines, json_text, package_with, plain_text, program, root, root_with, further, Widens, WidensAt, Nothing, Except, Named, Parentless, Rooted, FURTHER_COUNT, and_from, bucket_of, class_id, if◌then◌else◌, not, eq-eqb}
+use Rattle.infer_more.proofs.Common.{◌≡◌, ◌↔◌, ℕ, zero, suc, ◌+◌, ◌<◌, ◌≤◌, ◌==◌, inl, inr, ◌⊎◌, Bool, true, false, IsTrue, List, [], ◌∷◌, Option, None, Some, length, get_or, ap, sym, ◌∙◌, subst, arith, refl, ◌%◌, ◌&&◌, ◌||◌, ◌++◌, slice_index, nat_le, list_all, list_any, option_map_or, cases_lt, eqb-true, leb-true, get_or_default, slice_get_cases, Bor, IsJson, IsJsonLines, BeginsElement, IsRootElement, IsXmlSpace, there, IsProgram, IsOneOf, IsPackageWith, applications, accepts, fits, stands, StandsByPlace, IsBuffer, is_listed, HasTagText, IsFoundBelow, IsLeast, IsNamed, IsOfProgram, IsRootedBy, IsRooted, IsRowOf, IsTried, ascends, candidates, excepted, is_covered, is_excepted, is_plain, is_tried_parentless, is_true_below, named_row, rooted_row, tried_parentless, lines, Further, Accepted, Fits, related, json_lines, json_text, package_with, plain_text, program, root, root_with, further, Widens, WidensAt, Nothing, Except, Named, Parentless, Rooted, FURTHER_COUNT, and_from, bucket_of, class_id, if◌then◌else◌, not, eq-eqb}
 use Rattle.std.specs.Prelude.{slice_get}
 use Rattle.std.proofs.lemmas.List.Sums.{AllPass-from_list_all}
 use Rattle.infer_deep.specs.ClassId.{HasClassId}
 use Rattle.infer_formats.proofs.MarkupLemmas.{not_space}
+use Rattle.infer_formats.proofs.KeyLemmas.{first_same, key_first, markup_first}
+use Rattle.infer_formats.specs.FirstKey.{HasFirstKey, HasFirstKeyWith, HasValue, IsFirstKey, StandsFirst, has_no_quote}
+use Rattle.infer_formats.specs.Json.{IsBlank}
 use Rattle.infer_formats.specs.Laws.{Leads}
+use Rattle.infer_formats.specs.Relation.{first_key, first_key_with}
 use Rattle.infer_formats.specs.Markup.{HasInTag, MayBeRooted}
 use Rattle.infer_sig.specs.Signature as fixed
-use Rattle.infer_more.specs.Index.{AllApplications, AreClassIds, AreWaysBelow, EachParentlessIsFound, FindsBelow, FindsParentless, IsFoundParentless, IsWayBelow, IsTextRow, MayBeginMarkup, are_rooted, are_spans, are_spots, are_texts, are_true, asks_class_id, asks_folder, asks_program, asks_root, below_at, has_named, has_rooted, is_application, is_child, is_found_below, is_found_parentless, is_in_class_ids, is_in_folders, is_in_programs, is_in_roots, is_json, is_lines, is_row_below, is_row_parentless, is_row_with, is_text_row, is_tried_below, is_tried_in, bucket_at, same, same_text}
+use Rattle.infer_more.specs.Index.{AllApplications, AreClassIds, AreWaysBelow, EachParentlessIsFound, FindsBelow, FindsParentless, IsFoundParentless, IsKeyed, IsKeyedBy, IsTold, IsWayBelow, IsTextRow, HasKeyValue, MayBeTold, all_ascend, are_keyed, are_rooted, are_roots_of, are_spans, are_spots, are_texts, are_true, asks_class_id, asks_folder, asks_key, asks_program, asks_root, below_at, bucket_by, has_named, has_rooted, keyed_row, roots_of, is_application, is_child, is_found_below, is_found_parentless, is_in_class_ids, is_in_folders, is_in_keys, is_in_programs, is_in_roots, is_json, is_lines, is_row_below, is_row_parentless, is_row_with, is_text_row, is_tried_below, is_tried_in, bucket_at, same, same_text}
 use Rattle.infer_notation.specs.Alternative.{Alternative}
 use Rattle.infer_more.specs.declared.index.Below as below
 use Rattle.infer_more.specs.declared.index.Below.TheVariants.{ClassIds, Entries, Packages, Programs, Roots}
 use Rattle.infer_more.specs.declared.index.Entry.{Entry}
+use Rattle.infer_more.specs.declared.index.Keyed.{Keyed}
 use Rattle.infer_more.specs.declared.index.Texts.{Texts}
 use Rattle.infer_more.proofs.IndexLemmas.{both_left, both_right, covered_here, excepted_here, listed_left, listed_right, parentless_here}
 use Rattle.infer_more.proofs.LeastLemmas.{least_both, least_late, least_same}
@@ -38,14 +43,15 @@ listed_name P i (e ∷ names) name h p = elim (or_cases (e.row == i && same e.na
 ]
 
 -- what each list has, that of a name has
-listed_at : (Q : List Named → Bool) → IsTrue (Q []) → (lists : List (Bor (List Named))) (i : ℕ) → IsTrue (list_all (λ names. Q names.now) lists) → IsTrue (Q (bucket_at lists i))
+listed_at : {A : Type 0} (Q : List A → Bool) → IsTrue (Q []) → (lists : List (Bor (List A))) (i : ℕ) → IsTrue (list_all (λ names. Q names.now) lists) → IsTrue (Q (bucket_at lists i))
 listed_at Q none [] i h = none
 listed_at Q none (names ∷ lists) zero h = both_left (Q names.now) _ h
 listed_at Q none (names ∷ lists) (suc i) h = listed_at Q none lists i (both_right (Q names.now) _ h)
 
-pub listed_in_bucket : (Q : List Named → Bool) → IsTrue (Q []) → (lists : List (Bor (List Named))) (name : List ℕ) → IsTrue (list_all (λ names. Q names.now) lists) → IsTrue (Q (bucket_of lists name))
-listed_in_bucket Q none lists [] h = none
-listed_in_bucket Q none lists (x ∷ xs) h = listed_at Q none lists (x % 32) h
+pub listed_in_bucket : {A : Type 0} (Q : List A → Bool) → IsTrue (Q []) → (many : ℕ) (lists : List (Bor (List A))) (name : List ℕ) → IsTrue (list_all (λ names. Q names.now) lists)
+    → IsTrue (Q (bucket_by many lists name))
+listed_in_bucket Q none many lists [] h = none
+listed_in_bucket Q none many lists (x ∷ xs) h = listed_at Q none lists (x % many) h
 
 -- the text, if there is one, stands in a tag of which this is the rest
 abbrev OwnText : List ℕ → Option (List ℕ) → Type 0
@@ -67,6 +73,36 @@ listed_root rest i (e ∷ roots) name u h p = elim (or_cases (e.row == i && (sam
       inl (eqb-true e.row i (both_left (e.row == i) _ here), (same_true e.name.now name (both_left (same e.name.now name) _ and_from), tag_text rest e.text u (both_right (same e.name.now name) _ and_from) p))
   | inr later ↦ inr (listed_root rest i roots name u later p)
 ]
+
+-- a key with its value
+abbrev OwnValue : List ℕ → Option (List ℕ) → Type 0
+OwnValue rest None = Unit {0}
+OwnValue rest (Some u) = HasValue u rest
+
+key_value : (rest : List ℕ) (t : Option (Bor (List ℕ))) (u : Option (List ℕ)) → IsTrue (same_text t u) → OwnValue rest u → HasKeyValue rest t
+key_value rest None None h p = tt
+key_value rest None (Some u) h p = absurd (cc)
+key_value rest (Some t) None h p = absurd (cc)
+key_value rest (Some t) (Some u) h p = subst (λ own. HasValue own rest) (sym (same_true t.now u h)) p
+
+listed_key : (rest : List ℕ) (i : ℕ) (keys : List Keyed) (key : List ℕ) (u : Option (List ℕ))
+    → IsTrue (list_any (λ e. e.row == i && (same e.key.now key && same_text e.value u)) keys) → OwnValue rest u → IsKeyedBy key rest keys i
+listed_key rest i [] key u h p = absurd (cc)
+listed_key rest i (e ∷ keys) key u h p = elim (or_cases (e.row == i && (same e.key.now key && same_text e.value u)) _ h) [
+  | inl here ↦
+      let both = both_right (e.row == i) (same e.key.now key && same_text e.value u) here in
+      inl (eqb-true e.row i (both_left (e.row == i) _ here), (same_true e.key.now key (both_left (same e.key.now key) _ both), key_value rest e.value u (both_right (same e.key.now key) _ both) p))
+  | inr later ↦ inr (listed_key rest i keys key u later p)
+]
+
+-- what is left behind the colon is that of the key
+first_key_left : (key b : List ℕ) → IsTrue (has_no_quote key) → HasFirstKey key b → (rest : List ℕ) × IsFirstKey key rest b
+first_key_left key b dark (inl (rest, begins)) = (rest, (dark, inl begins))
+first_key_left key b dark (inr (w, e, (rest, begins))) = (rest, (dark, inr (w, e, begins)))
+
+first_key_value : (key v b : List ℕ) → IsTrue (has_no_quote key) → HasFirstKeyWith key v b → (rest : List ℕ) × IsFirstKey key rest b × HasValue v rest
+first_key_value key v b dark (inl (rest, left, begins, value)) = (rest, (dark, inl begins), (left, value))
+first_key_value key v b dark (inr (w, e, (rest, left, begins, value))) = (rest, (dark, inr (w, e, begins)), (left, value))
 
 -- what fits an alternative is found
 module _ (by_place : (place : ℕ) (t buf : List ℕ) → IsTrue (stands place t buf) ↔ StandsByPlace place t buf) (leads : Leads) (b : List ℕ) (small : (k : ℕ) → slice_index b k < 256) (i : ℕ) where
@@ -113,10 +149,19 @@ module _ (by_place : (place : ℕ) (t buf : List ℕ) → IsTrue (stands place t
   in_programs lists (related (program name)) h k = (name, k, listed_name (λ n. n ≡ name) i (bucket_of lists name) name h refl)
   in_programs lists other h k = absurd (cc)
 
-  in_roots : (roots : List Rooted) (a : Alternative) → IsTrue (is_in_roots i roots a) → Fits a b → IsRooted b roots i
-  in_roots roots (related (root name)) h (rest, element) = (name, rest, element, listed_root rest i roots name None h tt)
-  in_roots roots (related (root_with name t)) h (rest, element, there) = (name, rest, element, listed_root rest i roots name (Some t) h there)
+  in_roots : (roots : List (Bor (List Rooted))) (a : Alternative) → IsTrue (is_in_roots i roots a) → Fits a b → IsRooted b roots i
+  in_roots roots (related (root name)) h (rest, element) = (name, rest, element, listed_root rest i (roots_of roots name) name None h tt)
+  in_roots roots (related (root_with name t)) h (rest, element, there) = (name, rest, element, listed_root rest i (roots_of roots name) name (Some t) h there)
   in_roots roots other h k = absurd (cc)
+
+  in_keys : (keys : List Keyed) (a : Alternative) → IsTrue (is_in_keys i keys a) → Fits a b → IsKeyed b keys i
+  in_keys keys (related (first_key key)) h k =
+      let (rest, is) = first_key_left key b (both_left (has_no_quote key) _ h) k in
+      (key, rest, is, listed_key rest i keys key None (both_right (has_no_quote key) _ h) tt)
+  in_keys keys (related (first_key_with key v)) h k =
+      let (rest, is, value) = first_key_value key v b (both_left (has_no_quote key) _ h) k in
+      (key, rest, is, listed_key rest i keys key (Some v) (both_right (has_no_quote key) _ h) value)
+  in_keys keys other h k = absurd (cc)
 
   in_folders : (folders : List Named) (a : Alternative) → IsTrue (is_in_folders i folders a) → Fits a b → IsNamed (λ folder. IsPackageWith folder b) folders i
   in_folders folders (related (package_with folder)) h k = listed_name (λ f. IsPackageWith f b) i folders folder h k
@@ -152,8 +197,11 @@ module _ (by_place : (place : ℕ) (t buf : List ℕ) → IsTrue (stands place t
   found_parentless index w (a ∷ signature) h (inl k) = elim (or_cases (is_text_row index.texts i a) _ (both_left (is_found_parentless index i a) _ h)) [
     | inl e ↦ inr (inr (in_texts index.texts a e k))
     | inr e ↦ elim (or_cases (is_in_roots i index.roots.now a) _ e) [
-      | inl r ↦ inr (inl (in_roots index.roots.now a r k))
-      | inr t ↦ inl (line_tried_parentless index (lines a) t (has_lines leads b a (λ plain. small) k), w)
+      | inl r ↦ inr (inl (inl (in_roots index.roots.now a r k)))
+      | inr later ↦ elim (or_cases (is_in_keys i index.keys.now a) _ later) [
+        | inl r ↦ inr (inl (inr (in_keys index.keys.now a r k)))
+        | inr t ↦ inl (line_tried_parentless index (lines a) t (has_lines leads b a (λ plain. small) k), w)
+      ]
     ]
   ]
   found_parentless index w (a ∷ signature) h (inr k) = found_parentless index w signature (both_right (is_found_parentless index i a) _ h) k
@@ -211,6 +259,27 @@ module _ (b : List ℕ) where
     )
     fits_root own t p other h = absurd (cc)
 
+  with_left : (key rest : List ℕ) → IsFirstKey key rest b → HasFirstKey key b
+  with_left key rest (dark, inl begins) = inl (rest, begins)
+  with_left key rest (dark, inr (w, e, begins)) = inr (w, e, (rest, begins))
+
+  with_value : (key v rest : List ℕ) → IsFirstKey key rest b → HasValue v rest → HasFirstKeyWith key v b
+  with_value key v rest (dark, inl begins) (left, value) = inl (rest, left, begins, value)
+  with_value key v rest (dark, inr (w, e, begins)) (left, value) = inr (w, e, (rest, left, begins, value))
+
+  own_value : (rest : List ℕ) (t : Option (Bor (List ℕ))) (u : List ℕ) → IsTrue (same_text t (Some u)) → HasKeyValue rest t → HasValue u rest
+  own_value rest None u h p = absurd (cc)
+  own_value rest (Some t) u h p = subst (λ own. HasValue own rest) (same_true t.now u h) p
+
+  module _ (key rest : List ℕ) (is : IsFirstKey key rest b) where
+    fits_key : (own : List ℕ) (t : Option (Bor (List ℕ))) → (own ≡ key) × HasKeyValue rest t → (a : Alternative) → IsTrue (asks_key own t a) → Fits a b
+    fits_key own t p (related (first_key other)) h =
+        with_left other rest (subst (λ n. IsFirstKey n rest b) (sym p.0 ∙ same_true own other (both_left (same own other) _ h)) is)
+    fits_key own t p (related (first_key_with other u)) h =
+        with_value other u rest (subst (λ n. IsFirstKey n rest b) (sym p.0 ∙ same_true own other (both_left (same own other) _ h)) is)
+        (own_value rest t u (both_right (same own other) _ h) p.1)
+    fits_key own t p other h = absurd (cc)
+
   fits_class_id : (id : List ℕ) → HasClassId id b → (a : Alternative) → IsTrue (asks_class_id id a) → Fits a b
   fits_class_id id p (related (class_id other)) h = subst (λ own. HasClassId own b) (same_true id other h) p
   fits_class_id id p other h = absurd (cc)
@@ -236,11 +305,16 @@ module _ (b : List ℕ) where
   second_of_each P Q [] h = refl
   second_of_each P Q (e ∷ xs) h = and_from (Q e) _ (both_right (P e) (Q e) (both_left (P e && Q e) _ h)) (second_of_each P Q xs (both_right (P e && Q e) _ h))
 
-  widens_root : (parent : Option ℕ) (roots : List Rooted) (i : ℕ) → IsTrue (list_all (λ e. is_row_with parent (asks_root e.name.now e.text) e.row) roots)
-      → IsRooted b roots i → WidensAt parent b i
+  widens_root : (parent : Option ℕ) (roots : List (Bor (List Rooted))) (i : ℕ) → IsTrue (are_roots_of parent roots) → IsRooted b roots i → WidensAt parent b i
   widens_root parent roots i h (name, rest, element, is) =
       rows_widen rooted_row (λ e. (e.name.now ≡ name) × HasTagText rest e.text) (λ e. asks_root e.name.now e.text) parent b
-      (λ e p. fits_root name rest element e.name.now e.text p) roots i h is
+      (λ e p. fits_root name rest element e.name.now e.text p) (roots_of roots name) i
+      (listed_in_bucket (list_all (λ e. is_row_with parent (asks_root e.name.now e.text) e.row)) refl 8 roots name h) is
+
+  widens_key : (keys : List Keyed) (i : ℕ) → IsTrue (are_keyed keys) → IsKeyed b keys i → WidensAt None b i
+  widens_key keys i h (key, rest, first, is) =
+      rows_widen keyed_row (λ e. (e.key.now ≡ key) × HasKeyValue rest e.value) (λ e. asks_key e.key.now e.value) None b
+      (λ e p. fits_key key rest first e.key.now e.value p) keys i (both_right (ascends keyed_row keys) _ h) is
 
   widens_below : (parent : ℕ) (way : below.Below) (i : ℕ) → IsTrue (is_true_below parent way) → IsFoundBelow way parent b i → WidensAt (Some parent) b i
   widens_below parent Nothing i h is = absurd (is)
@@ -251,12 +325,13 @@ module _ (b : List ℕ) where
   widens_below parent (Programs lists) i h (name, p, is) =
       rows_widen named_row (λ e. e.name.now ≡ name) (λ e. asks_program e.name.now) (Some parent) b
       (λ e same. fits_program e.name.now (subst (λ n. IsProgram n b) (sym same) p)) (bucket_of lists.now name) i
-      (listed_in_bucket (list_all (λ e. is_row_with (Some parent) (asks_program e.name.now) e.row)) refl lists.now name (both_right (list_all (λ names. ascends named_row names.now) lists.now) _ h)) is
-  widens_below parent (Roots roots) i h is = widens_root (Some parent) roots.now i (both_right (ascends rooted_row roots.now) _ h) is
+      (listed_in_bucket (list_all (λ e. is_row_with (Some parent) (asks_program e.name.now) e.row)) refl 32 lists.now name (both_right (all_ascend named_row lists.now) _ h)) is
+  widens_below parent (Roots roots) i h is = widens_root (Some parent) roots.now i (both_right (all_ascend rooted_row roots.now) _ h) is
   widens_below parent (Packages entries excepts folders) i h (inl is) = is.1
   widens_below parent (Packages entries excepts folders) i h (inr is) =
       rows_widen named_row (λ e. IsPackageWith e.name.now b) (λ e. asks_folder e.name.now) (Some parent) b (λ e p. fits_folder e.name.now p) folders.now i
-      (second_of_each (λ e. is_application e.name.now) (λ e. is_row_with (Some parent) (asks_folder e.name.now) e.row) folders.now (both_right (ascends named_row folders.now) _ h)) is
+      (second_of_each (λ e. is_application e.name.now) (λ e. is_row_with (Some parent) (asks_folder e.name.now) e.row) folders.now
+      (both_left (list_all (λ e. is_application e.name.now && is_row_with (Some parent) (asks_folder e.name.now) e.row) folders.now) _ (both_right (ascends named_row folders.now) _ h))) is
 
   widens_text : (t : Texts) (i : ℕ) → IsTrue (are_texts t) → IsTextRow t b i → WidensAt None b i
   widens_text t i h is =
@@ -322,7 +397,7 @@ module _ (parent : ℕ) where
   pub all_applications : (entries : Bor (List Entry)) (excepts : Bor (List Except)) (folders : Bor (List Named)) → IsTrue (is_true_below parent (Packages entries excepts folders)) → AllApplications folders.now
   all_applications entries excepts folders h = λ k d lt.
       let name = (get_or folders.now k d).name.now in
-      one_of name applications (both_left (is_application name) _ (AllPass-from_list_all is_told folders.now (both_right (ascends named_row folders.now) _ h) k d lt))
+      one_of name applications (both_left (is_application name) _ (AllPass-from_list_all is_told folders.now (both_left (list_all is_told folders.now) _ (both_right (ascends named_row folders.now) _ h)) k d lt))
 
 -- each class id has its bytes
 module _ (parent : ℕ) where
@@ -376,7 +451,8 @@ module _ (by_place : (place : ℕ) (t buf : List ℕ) → IsTrue (stands place t
   all_parentless index each b all i = (
     λ is. elim is [
       | inl tried_row ↦ tried_row.1
-      | inr (inl r) ↦ widens_root b None index.roots.now i (both_right (ascends rooted_row index.roots.now) _ each.roots) r
+      | inr (inl (inl r)) ↦ widens_root b None index.roots.now i (both_right (all_ascend rooted_row index.roots.now) _ each.roots) r
+      | inr (inl (inr r)) ↦ widens_key b index.keys.now i each.keys r
       | inr (inr t) ↦ widens_text b index.texts i each.texts t
     ],
     finds_parentless index each b all i,
@@ -394,7 +470,7 @@ least_below parent way all b bytes least h = least_same _ _ FURTHER_COUNT least 
 
 module _ (index : Parentless) (all : FindsParentless index) (b : List ℕ) (bytes : IsBuffer b) where
   pub least_with_texts : (tried_least rooted least : ℕ) → IsLeast (IsTried None b (tried_parentless index b)) FURTHER_COUNT tried_least
-      → IsLeast (IsRooted b index.roots.now) tried_least rooted → IsLeast (IsTextRow index.texts b) rooted least
+      → IsLeast (IsTold index b) tried_least rooted → IsLeast (IsTextRow index.texts b) rooted least
       → IsLeast (WidensAt None b) FURTHER_COUNT least
   least_with_texts tried_least rooted least h r k =
       least_same _ _ FURTHER_COUNT least (λ i. (all b bytes i).0) (λ i. (all b bytes i).1)
@@ -402,7 +478,7 @@ module _ (index : Parentless) (all : FindsParentless index) (b : List ℕ) (byte
 
   pub least_before_texts : (tried_least least : ℕ) → IsTrue (are_texts index.texts) → least ≤ index.texts.lines
       → IsLeast (IsTried None b (tried_parentless index b)) FURTHER_COUNT tried_least
-      → IsLeast (IsRooted b index.roots.now) tried_least least → IsLeast (WidensAt None b) FURTHER_COUNT least
+      → IsLeast (IsTold index b) tried_least least → IsLeast (WidensAt None b) FURTHER_COUNT least
   least_before_texts tried_least least texts later h r =
       let (json_later, plain_later) = texts_ascend index.texts texts in
       least_with_texts tried_least least least h r (least_late _ least (λ i is. elim is [
@@ -425,18 +501,70 @@ pub ways_below : (apart : List ℕ) (ways : List below.Below)
 ways_below apart ways none told = record { found = each_row _ none; told = told }
 
 pub each_parentless : (index : Parentless) → NoRowFails (at_row (λ i r. is_row_parentless index i r.parent r)) → IsTrue (are_texts index.texts)
-    → IsTrue (are_rooted index.roots.now) → IsTrue (are_spans index.first) → IsTrue (are_spots index.spots) → EachParentlessIsFound index
-each_parentless index none texts roots spans spots = record { found = each_row _ none; texts = texts; roots = roots; spans = spans; spots = spots }
+    → IsTrue (are_rooted index.roots.now) → IsTrue (are_keyed index.keys.now) → IsTrue (are_spans index.first) → IsTrue (are_spots index.spots) → EachParentlessIsFound index
+each_parentless index none texts roots keys spans spots = record { found = each_row _ none; texts = texts; roots = roots; keys = keys; spans = spans; spots = spots }
+
+blank_space : (x : ℕ) → IsBlank x → IsXmlSpace x
+blank_space x (inl e) = inr (inr (inr e))
+blank_space x (inr (inl e)) = inl e
+blank_space x (inr (inr (inl e))) = inr (inl e)
+blank_space x (inr (inr (inr e))) = inr (inr (inl e))
 
 -- a root is that of markup, which begins with white space, "<" or a byte order mark
-pub root_starts : (b : List ℕ) → Leads → (name rest : List ℕ) → IsRootElement name rest b → MayBeginMarkup b
+pub root_starts : (b : List ℕ) → Leads → (name rest : List ℕ) → IsRootElement name rest b → MayBeTold b
 root_starts b leads name rest element = elim (leads.root name b (rest, element)) [
-  | inl o ↦ let fits = o.fits in (omega arith, inr (inr (o.reads 0 (omega arith))))
+  | inl o ↦ let fits = o.fits in (omega arith, inr (inr (inr (o.reads 0 (omega arith)))))
   | inr (k, low, spaces, starts) ↦ elim (cases_lt 0 k) [
     | inl lt ↦ let space = spaces 0 (omega arith) lt in (there b 0 (grind arith), inl space)
     | inr le ↦ let e : slice_index b 0 ≡ 0x3C = subst (λ i. slice_index b i ≡ 0x3C) (omega arith) starts in (there b 0 (omega arith), inr (inl e))
   ]
 ]
+
+-- and an object with a first key begins with white space, "{" or a byte order mark
+dark_starts : (x : ℕ) (b : List ℕ) → StandsFirst x b → (0 < length b) × (IsXmlSpace (slice_index b 0) ⊎ (slice_index b 0 ≡ x))
+dark_starts x [] (left, next) = absurd (cc)
+dark_starts x (y ∷ b) (left, inl e) = (omega arith, inr (let first : y ≡ x = cc in first))
+dark_starts x (y ∷ b) (left, inr (blank, next)) = (omega arith, inl (blank_space y blank))
+
+pub key_starts : (b key rest : List ℕ) → IsFirstKey key rest b → MayBeTold b
+key_starts b key rest is = elim (key_first key rest b is) [
+  | inl first ↦ let (some, begins) = dark_starts 0x7B b first in (some, elim begins [ inl space ↦ inl space | inr e ↦ inr (inr (inl e)) ])
+  | inr first ↦ let (some, begins) = dark_starts 0xEF b first in (some, elim begins [ inl space ↦ inl space | inr e ↦ inr (inr (inr e)) ])
+]
+
+-- what none begins has none
+pub none_told : (index : Parentless) (b : List ℕ) → Leads → (¬ MayBeTold b) → (i : ℕ) → ¬ IsTold index b i
+none_told index b leads none i (inl (name, rest, element, is)) = none (root_starts b leads name rest element)
+none_told index b leads none i (inr (key, rest, first, is)) = none (key_starts b key rest first)
+
+-- the first byte behind white space tells which of them there may be
+module _ (b : List ℕ) (leads : Leads) where
+  root_dark : (name rest : List ℕ) → IsRootElement name rest b → StandsFirst 0x3C b ⊎ StandsFirst 0xEF b
+  root_dark name rest element = markup_first b (leads.root name b (rest, element))
+
+  pub none_dark : (index : Parentless) → ((x : ℕ) → (¬ IsBlank x) → ¬ StandsFirst x b) → (i : ℕ) → ¬ IsTold index b i
+  none_dark index none i (inl (name, rest, element, is)) = elim (root_dark name rest element) [
+    | inl first ↦ none 0x3C (λ h. grind arith) first
+    | inr first ↦ none 0xEF (λ h. grind arith) first
+  ]
+  none_dark index none i (inr (key, rest, is, others)) = elim (key_first key rest b is) [
+    | inl first ↦ none 0x7B (λ h. grind arith) first
+    | inr first ↦ none 0xEF (λ h. grind arith) first
+  ]
+
+  module _ (dark : ℕ) (is_dark : ¬ IsBlank dark) (stands_first : StandsFirst dark b) where
+    pub no_root : (roots : List (Bor (List Rooted))) → ¬ (dark ≡ 0x3C) → ¬ (dark ≡ 0xEF) → (i : ℕ) → ¬ IsRooted b roots i
+    no_root roots other mark i (name, rest, element, is) = elim (root_dark name rest element) [
+      | inl first ↦ other (first_same dark 0x3C b is_dark (λ h. grind arith) stands_first first)
+      | inr first ↦ mark (first_same dark 0xEF b is_dark (λ h. grind arith) stands_first first)
+    ]
+
+module _ (b : List ℕ) (dark : ℕ) (is_dark : ¬ IsBlank dark) (stands_first : StandsFirst dark b) where
+  pub no_key : (keys : List Keyed) → ¬ (dark ≡ 0x7B) → ¬ (dark ≡ 0xEF) → (i : ℕ) → ¬ IsKeyed b keys i
+  no_key keys other mark i (key, rest, is, others) = elim (key_first key rest b is) [
+    | inl first ↦ other (first_same dark 0x7B b is_dark (λ h. grind arith) stands_first first)
+    | inr first ↦ mark (first_same dark 0xEF b is_dark (λ h. grind arith) stands_first first)
+  ]
 
 -- and behind its first "<" stands an element or another "<"
 pub root_may : (b : List ℕ) → Leads → (name rest : List ℕ) → IsRootElement name rest b → MayBeRooted b

@@ -1,7 +1,8 @@
 -- Of entries that are looked at half by half.
-use Rattle.infer_more.proofs.Common.{◌≡◌, ◌∙◌, ◌++◌, ℕ, List, [], ◌∷◌, Option, ap, append_assoc, drop, refl, subst, sym, take, IsLeast, IsTried, candidate, candidates, take-append-drop}
+use Rattle.infer_more.proofs.Common.{◌≡◌, ◌∙◌, ◌++◌, ℕ, List, [], ◌∷◌, Option, ap, append_assoc, drop, refl, subst, sym, take, IsTrue, ◌<◌, ascends, IsLeast, IsTried, candidate, candidates, take-append-drop}
 use Rattle.infer_more.specs.declared.index.Entry.{Entry}
-use Rattle.infer_more.proofs.LeastLemmas.{tried_more}
+use Rattle.infer_more.specs.Index.{entry_row}
+use Rattle.infer_more.proofs.LeastLemmas.{Hits, back_late, rows_tried, tried_more, tried_rows}
 
 candidates_joined : (b : List ℕ) (xs ys : List Entry) → candidates b (xs ++ ys) ≡ candidates b xs ++ candidates b ys
 candidates_joined b [] ys = refl
@@ -13,3 +14,10 @@ tried_halves parent b entries n o p q h k =
     let whole : candidates b (take n entries) ++ candidates b (drop n entries) ≡ candidates b entries =
     sym (candidates_joined b (take n entries) (drop n entries)) ∙ ap (candidates b) (take-append-drop n entries) in
     subst (λ l. IsLeast (IsTried parent b l) o q) whole (tried_more parent b _ _ o p q h k)
+
+-- the first half has one, and all of the other come later
+pub tried_front : (parent : Option ℕ) (b : List ℕ) (entries : List Entry) (n o p : ℕ) → IsTrue (ascends entry_row entries) → p < o
+    → IsLeast (IsTried parent b (candidates b (take n entries))) o p → IsLeast (IsTried parent b (candidates b entries)) o p
+tried_front parent b entries n o p up less h =
+    let late = back_late entry_row (Hits parent b) entries n o p up less (rows_tried parent b (take n entries) o p h) in
+    tried_halves parent b entries n o p p h (tried_rows parent b (drop n entries) p p late)

@@ -5,7 +5,10 @@ use Rattle.std.specs.List.{range_with_len}
 use Rattle.std.proofs.lemmas.Bool.{ltb-true}
 use Rattle.infer_sig.specs.Signature.{Alternative, text, byte}
 use Rattle.std.specs.Prelude.{slice_get}
-use Rattle.infer_more.specs.Index.{begun, behind, bucket, entries_at, gated, has_between, has_entry, has_guard, has_other, is_begun, is_but, is_other, is_gated, is_guarded, is_met, is_picked, is_seen, is_spotted, is_tested, is_third, is_ranged, is_within, all_of, all_seen, has_mark, has_marked, picked, seconded, seen, spotted, third, thirded, tried_elsewhere, is_zeroed, zeroed}
+use Rattle.std.specs.List.{slice_range}
+use Rattle.infer_more.specs.declared.index.Begun.{Begun}
+use Rattle.infer_more.specs.declared.index.Span.{Span}
+use Rattle.infer_more.specs.Index.{are_spans, ascends, entry_row, is_span, begun, behind, bucket, entries_at, gated, has_between, has_entry, has_guard, has_other, is_begun, is_but, is_other, is_gated, is_guarded, is_met, is_picked, is_seen, is_spotted, is_tested, is_third, is_ranged, is_within, all_of, all_seen, has_mark, has_marked, picked, seconded, seen, spotted, third, thirded, tried_elsewhere, is_zeroed, zeroed}
 use Rattle.infer_more.specs.declared.index.Entry.{Entry}
 use Rattle.infer_more.specs.declared.index.Gate.{Gate}
 use Rattle.infer_more.specs.declared.index.Guard.{Guard}
@@ -250,6 +253,16 @@ excepted_here b i a (e ∷ excepts) h k = elim (or_cases (is_but i a e) _ h) [
   | inr later ↦ listed_right (unless b e) (excepted b excepts) i (excepted_here b i a excepts later k)
 ]
 
+-- the rows of each span ascend
+at_span : (entries : List Entry) (spans : List Span) (i : ℕ) → IsTrue (list_all (is_span entries) spans)
+    → IsTrue (ascends entry_row (option_map_or (λ s. slice_range entries s.start s.end) (slice_get spans i) []))
+at_span entries [] i h = refl
+at_span entries (s ∷ spans) zero h = both_right (nat_le s.start s.end && nat_le s.end (length entries)) _ (both_left (is_span entries s) _ h)
+at_span entries (s ∷ spans) (suc i) h = at_span entries spans i (both_right (is_span entries s) _ h)
+
+pub span_ascends : (lists : Begun) (i : ℕ) → IsTrue (are_spans lists) → IsTrue (ascends entry_row (entries_at lists i))
+span_ascends lists i h = at_span lists.entries.now lists.spans.now i h
+
 begun_by : (index : Parentless) (b : List ℕ) → 0 < length b → begun index b ≡ entries_at index.first (slice_index b 0)
 begun_by index [] lt = absurd (omega arith)
 begun_by index (x ∷ rest) lt = refl
@@ -338,11 +351,11 @@ module _ (by_place : (place : ℕ) (t buf : List ℕ) → IsTrue (stands place t
   pub parentless_here : (a : Alternative) → IsTrue (is_tried_parentless index i a) → IsTrue (fits b a) → IsTrue (is_listed (tried_parentless index b) i)
   parentless_here a h k = elim (or_cases (is_tested (is_begun index.first i a) 0 a) _ h) [
     | inl e ↦ elim (led_here a e k) [
-      | inl first ↦ listed_left (candidates b (begun index b)) _ i first
-      | inr more ↦ listed_right (candidates b (begun index b)) _ i (elim more [
+      | inl first ↦ listed_right (thirded index.first b) _ i (listed_right (candidates b (seconded index b)) _ i (listed_left (candidates b (begun index b)) _ i first))
+      | inr more ↦ elim more [
         | inl second ↦ listed_right (thirded index.first b) _ i (listed_left (candidates b (seconded index b)) _ i second)
         | inr other ↦ listed_left (thirded index.first b) _ i other
-      ])
+      ]
     ]
-    | inr e ↦ listed_right (candidates b (begun index b)) _ i (listed_right (thirded index.first b) _ i (listed_right (candidates b (seconded index b)) _ i (elsewhere_here a e k)))
+    | inr e ↦ listed_right (thirded index.first b) _ i (listed_right (candidates b (seconded index b)) _ i (listed_right (candidates b (begun index b)) _ i (elsewhere_here a e k)))
   ]

@@ -1,9 +1,9 @@
 -- The least of the rows that are found.
 use Rattle.std.proofs.lemmas.Bool.{ltb-true, or_cases, or_left, or_right}
-use Rattle.infer_more.proofs.Common.{◌≡◌, ℕ, zero, suc, ◌+◌, ◌<◌, ◌≤◌, Bool, true, false, IsTrue, List, [], ◌∷◌, ◌++◌, Option, None, Some, length, take, get_or, ◌⊎◌, inl, inr, ap, sym, ◌∙◌, subst, arith, refl, append_assoc, ◌==◌, if◌then◌else◌, min, cases_lt, eqb-true, leb-true, get_or_default, list_all, nat_le, nat_lt, ◌&&◌, IsFirstOf, is_listed, IsLeast, IsRowOf, IsTried, ascends, candidate, candidates, has_byte, Further, further, Widens, WidensAt, FURTHER_COUNT}
+use Rattle.infer_more.proofs.Common.{◌≡◌, ℕ, zero, suc, ◌+◌, ◌<◌, ◌≤◌, Bool, true, false, IsTrue, List, [], ◌∷◌, ◌++◌, Option, None, Some, length, take, drop, get_or, and_from, eq-eqb, ◌⊎◌, inl, inr, ap, sym, ◌∙◌, subst, arith, refl, append_assoc, ◌==◌, if◌then◌else◌, min, cases_lt, eqb-true, leb-true, get_or_default, list_all, nat_le, nat_lt, ◌&&◌, IsFirstOf, is_listed, IsLeast, IsRowOf, IsTried, ascends, candidate, candidates, has_byte, Further, further, Widens, WidensAt, FURTHER_COUNT}
 use Rattle.std.proofs.Math.Nat.{min-le_left, min-le_right}
 use Rattle.std.proofs.lemmas.List.{append-nil, take_all}
-use Rattle.infer_more.specs.Index.{all_of, all_seen, are_spots, has_marked, is_far, is_late, seen, spotted}
+use Rattle.infer_more.specs.Index.{all_of, all_seen, are_spots, entry_row, has_marked, is_far, is_late, seen, spotted}
 use Rattle.infer_more.specs.declared.index.Entry.{Entry}
 use Rattle.infer_more.specs.declared.index.Spot.{Spot}
 use Rattle.infer_more.specs.declared.index.Spots.{Spots}
@@ -131,6 +131,40 @@ module _ (parent : Option ℕ) (b : List ℕ) where
   pub tried_shut : (on : Bool) (rows : List ℕ) (before : ℕ) → on ≡ false → IsLeast (IsTried parent b (if on then rows else [])) before before
   tried_shut on rows before off = subst (λ t. IsLeast (IsTried parent b (if t then rows else [])) before before) (sym off) (tried_none before)
 
+  -- of the rows of entries that hit
+  abbrev pub Hits : Entry → Type 0
+  Hits e = IsTrue (has_byte b e.place e.byte) × WidensAt parent b e.row
+
+  to_rows : (entries : List Entry) (i : ℕ) → IsTried parent b (candidates b entries) i → IsRowOf entry_row Hits entries i
+  to_rows [] i (listed, w) = absurd (cc)
+  to_rows (x ∷ xs) i (listed, w) = elim (in_either (candidate b x) (candidates b xs) i listed) [
+    | inl l ↦ let (on, e) = only_row (has_byte b x.place x.byte) x.row i (l, w) in inl (e, (on, subst (WidensAt parent b) (sym e) w))
+    | inr r ↦ inr (to_rows xs i (r, w))
+  ]
+
+  from_rows : (entries : List Entry) (i : ℕ) → IsRowOf entry_row Hits entries i → IsTried parent b (candidates b entries) i
+  from_rows [] i h = absurd (h)
+  from_rows (x ∷ xs) i (inl (e, (on, w))) =
+      let here : IsTrue (is_listed (candidate b x) i) = subst (λ t. IsTrue (is_listed (if t then x.row ∷ [] else []) i)) (sym on) (or_left (x.row == i) false (eq-eqb x.row i e)) in
+      (listed_left (candidate b x) (candidates b xs) i here, subst (WidensAt parent b) e w)
+  from_rows (x ∷ xs) i (inr h) = let (listed, w) = from_rows xs i h in (listed_right (candidate b x) (candidates b xs) i listed, w)
+
+  pub tried_rows : (entries : List Entry) (o p : ℕ) → IsLeast (IsRowOf entry_row Hits entries) o p → IsLeast (IsTried parent b (candidates b entries)) o p
+  tried_rows entries o p h = least_same _ _ o p (from_rows entries) (to_rows entries) h
+
+  pub rows_tried : (entries : List Entry) (o p : ℕ) → IsLeast (IsTried parent b (candidates b entries)) o p → IsLeast (IsRowOf entry_row Hits entries) o p
+  rows_tried entries o p h = least_same _ _ o p (to_rows entries) (from_rows entries) h
+
+  pub missed : (x : Entry) (on : Bool) → on ≡ has_byte b x.place x.byte → on ≡ false → ¬ Hits x
+  missed x on same off hit = absurd (let no : false ≡ true = sym off ∙ (same ∙ hit.0) in cc)
+
+  pub unwidened : (x : Entry) (row : ℕ) (is : Bool) → row ≡ x.row → (WidensAt parent b row → IsTrue is) → is ≡ false → ¬ Hits x
+  unwidened x row is same tells off hit = absurd (let no : false ≡ true = sym off ∙ tells (subst (WidensAt parent b) (sym same) hit.1) in cc)
+
+  -- of the first half none is less
+  pub none_less : (rows : List ℕ) (before after : ℕ) → before ≤ after → IsLeast (IsTried parent b rows) before after → IsLeast (IsTried parent b rows) before before
+  none_less rows before after le h = let low : after ≤ before = h.below in least_late _ before (λ i is. let least : after ≤ i = h.least i is in omega arith)
+
   -- one more element
   module _ {A : Type 0} (f : A → List ℕ) where
     all_more : (xs : List A) (k : ℕ) (d : A) → k < length xs → all_of f (take k xs) ++ f (get_or xs k d) ≡ all_of f (take (k + 1) xs)
@@ -167,6 +201,34 @@ module _ (parent : Option ℕ) (b : List ℕ) where
       let le : i ≤ k = h.least k (read_at k d lt w) in
       omega arith
 
+module _ {A : Type 0} (row : A → ℕ) where
+  -- of one half of a list whose rows ascend, and of the other
+  front_all : (P : A → Bool) (xs : List A) (n : ℕ) → IsTrue (list_all P xs) → IsTrue (list_all P (take n xs))
+  front_all P [] zero h = refl
+  front_all P [] (suc n) h = refl
+  front_all P (x ∷ xs) zero h = refl
+  front_all P (x ∷ xs) (suc n) h = and_from (P x) _ (both_left (P x) _ h) (front_all P xs n (both_right (P x) _ h))
+
+  back_all : (P : A → Bool) (xs : List A) (n : ℕ) → IsTrue (list_all P xs) → IsTrue (list_all P (drop n xs))
+  back_all P [] zero h = refl
+  back_all P [] (suc n) h = refl
+  back_all P (x ∷ xs) zero h = h
+  back_all P (x ∷ xs) (suc n) h = back_all P xs n (both_right (P x) _ h)
+
+  pub front_ascends : (xs : List A) (n : ℕ) → IsTrue (ascends row xs) → IsTrue (ascends row (take n xs))
+  front_ascends [] zero h = refl
+  front_ascends [] (suc n) h = refl
+  front_ascends (x ∷ xs) zero h = refl
+  front_ascends (x ∷ xs) (suc n) h =
+      let test = λ (f : A). nat_le (row x) (row f) in
+      and_from (list_all test (take n xs)) _ (front_all test xs n (both_left (list_all test xs) _ h)) (front_ascends xs n (both_right (list_all test xs) _ h))
+
+  pub back_ascends : (xs : List A) (n : ℕ) → IsTrue (ascends row xs) → IsTrue (ascends row (drop n xs))
+  back_ascends [] zero h = refl
+  back_ascends [] (suc n) h = refl
+  back_ascends (x ∷ xs) zero h = h
+  back_ascends (x ∷ xs) (suc n) h = back_ascends xs n (both_right (list_all (λ f. nat_le (row x) (row f)) xs) _ h)
+
 -- the first of entries whose rows ascend that has Q
 module _ {A : Type 0} (row : A → ℕ) (Q : A → Type 0) where
   not_earlier : (low i : ℕ) (xs : List A) → IsTrue (list_all (λ f. nat_le low (row f)) xs) → IsRowOf row Q xs i → low ≤ i
@@ -174,7 +236,33 @@ module _ {A : Type 0} (row : A → ℕ) (Q : A → Type 0) where
   not_earlier low i (x ∷ xs) all (inl is) = let le : low ≤ row x = leb-true low (row x) (both_left (nat_le low (row x)) _ all) in omega (arith, is.0)
   not_earlier low i (x ∷ xs) all (inr is) = not_earlier low i xs (both_right (nat_le low (row x)) _ all) is
 
-  -- none of the first k has Q, but the next
+  is_listed_at : (ys : List A) (j : ℕ) (e : A) → j < length ys → Q (get_or ys j e) → IsRowOf row Q ys (row (get_or ys j e))
+  is_listed_at [] j e l q = absurd (omega arith)
+  is_listed_at (y ∷ ys) zero e l q = inl (refl, q)
+  is_listed_at (y ∷ ys) (suc j) e l q = inr (is_listed_at ys j e (omega arith) q)
+
+  least_listed : (ys : List A) (j : ℕ) (e : A) (i : ℕ) → j < length ys → IsTrue (ascends row ys) → ((m : ℕ) → m < j → ¬ Q (get_or ys m e)) → IsRowOf row Q ys i
+      → row (get_or ys j e) ≤ i
+  least_listed [] j e i l all no_earlier is = absurd (omega arith)
+  least_listed (y ∷ ys) zero e i l all no_earlier (inl is) = omega (arith, is.0)
+  least_listed (y ∷ ys) zero e i l all no_earlier (inr is) = not_earlier (row y) i ys (both_left (list_all (λ f. nat_le (row y) (row f)) ys) _ all) is
+  least_listed (y ∷ ys) (suc j) e i l all no_earlier (inl is) = absurd (no_earlier 0 (omega arith) is.1)
+  least_listed (y ∷ ys) (suc j) e i l all no_earlier (inr is) =
+      least_listed ys j e i (omega arith) (both_right (list_all (λ f. nat_le (row y) (row f)) ys) _ all) (λ m less. no_earlier (suc m) (omega arith)) is
+
+  -- none of the first k has Q, and the next stands late, or has it
+  pub rows_late : (xs : List A) (k : ℕ) (d : A) (before : ℕ) → k < length xs → IsTrue (ascends row xs) → ((j : ℕ) → j < k → ¬ Q (get_or xs j d)) → before ≤ row (get_or xs k d)
+      → IsLeast (IsRowOf row Q xs) before before
+  rows_late xs k d before lt up none late = least_late (IsRowOf row Q xs) before (λ i is. let le = least_listed xs k d i lt up none is in omega arith)
+
+  pub rows_here : (xs : List A) (k : ℕ) (d : A) (before : ℕ) → k < length xs → IsTrue (ascends row xs) → ((j : ℕ) → j < k → ¬ Q (get_or xs j d)) → row (get_or xs k d) < before
+      → Q (get_or xs k d) → IsLeast (IsRowOf row Q xs) before (row (get_or xs k d))
+  rows_here xs k d before lt up none less here = record {
+    below = omega arith;
+    is = λ l. is_listed_at xs k d lt here;
+    least = λ i is. least_listed xs k d i lt up none is;
+  }
+
   pub rows_first : (xs : List A) (k : ℕ) (d : A) (before : ℕ) → k < length xs → IsTrue (ascends row xs) → ((j : ℕ) → j < k → ¬ Q (get_or xs j d)) → Q (get_or xs k d)
       → IsLeast (IsRowOf row Q xs) before (min before (row (get_or xs k d)))
   rows_first xs k d before lt up none here =
@@ -188,19 +276,18 @@ module _ {A : Type 0} (row : A → ℕ) (Q : A → Type 0) where
       by_min : (m n : ℕ) → min m n < m → n ≡ min m n
       by_min m n less = grind arith
 
-      is_listed_at : (ys : List A) (j : ℕ) (e : A) → j < length ys → Q (get_or ys j e) → IsRowOf row Q ys (row (get_or ys j e))
-      is_listed_at [] j e l q = absurd (omega arith)
-      is_listed_at (y ∷ ys) zero e l q = inl (refl, q)
-      is_listed_at (y ∷ ys) (suc j) e l q = inr (is_listed_at ys j e (omega arith) q)
+  back_later : (xs : List A) (n l i : ℕ) → IsTrue (ascends row xs) → IsRowOf row Q (take n xs) l → IsRowOf row Q (drop n xs) i → l ≤ i
+  back_later [] zero l i h first last = absurd (first)
+  back_later [] (suc n) l i h first last = absurd (first)
+  back_later (x ∷ xs) zero l i h first last = absurd (first)
+  back_later (x ∷ xs) (suc n) l i h (inl is) last =
+      let le : row x ≤ i = not_earlier (row x) i (drop n xs) (back_all row (λ f. nat_le (row x) (row f)) xs n (both_left (list_all (λ f. nat_le (row x) (row f)) xs) _ h)) last in
+      omega (arith, is.0)
+  back_later (x ∷ xs) (suc n) l i h (inr is) last = back_later xs n l i (both_right (list_all (λ f. nat_le (row x) (row f)) xs) _ h) is last
 
-      least_listed : (ys : List A) (j : ℕ) (e : A) (i : ℕ) → j < length ys → IsTrue (ascends row ys) → ((m : ℕ) → m < j → ¬ Q (get_or ys m e)) → IsRowOf row Q ys i
-          → row (get_or ys j e) ≤ i
-      least_listed [] j e i l all no_earlier is = absurd (omega arith)
-      least_listed (y ∷ ys) zero e i l all no_earlier (inl is) = omega (arith, is.0)
-      least_listed (y ∷ ys) zero e i l all no_earlier (inr is) = not_earlier (row y) i ys (both_left (list_all (λ f. nat_le (row y) (row f)) ys) _ all) is
-      least_listed (y ∷ ys) (suc j) e i l all no_earlier (inl is) = absurd (no_earlier 0 (omega arith) is.1)
-      least_listed (y ∷ ys) (suc j) e i l all no_earlier (inr is) =
-          least_listed ys j e i (omega arith) (both_right (list_all (λ f. nat_le (row y) (row f)) ys) _ all) (λ m less. no_earlier (suc m) (omega arith)) is
+  -- what one half has, none of the other comes before
+  pub back_late : (xs : List A) (n o p : ℕ) → IsTrue (ascends row xs) → p < o → IsLeast (IsRowOf row Q (take n xs)) o p → IsLeast (IsRowOf row Q (drop n xs)) p p
+  back_late xs n o p h less least = least_late (IsRowOf row Q (drop n xs)) p (λ i is. back_later xs n p i h (least.is less) is)
 
   pub none_more : (xs : List A) (k : ℕ) (e : A) → k < length xs → ((j : ℕ) (d : A) → j < k → ¬ Q (get_or xs j d)) → ¬ Q (get_or xs k e)
       → (j : ℕ) (d : A) → j < k + 1 → ¬ Q (get_or xs j d)

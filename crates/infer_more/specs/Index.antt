@@ -5,6 +5,7 @@ use Rattle.std.specs.Option.{option_map_or}
 use Rattle.std.specs.Int.Bits.{bit_and}
 use denote.Ref.{Bor}
 use Rattle.infer_deep.specs.ClassId.{HasClassId}
+use Rattle.infer_formats.specs.FirstKey.{HasValue, IsFirstKey, has_no_quote}
 use Rattle.infer_formats.specs.Json.{IsJson, IsJsonLines}
 use Rattle.infer_formats.specs.Markup.{HasInTag, IsRootElement, IsXmlSpace}
 use Rattle.infer_formats.specs.Script.{IsProgram}
@@ -17,7 +18,7 @@ use Rattle.infer.specs.Walks.{is_listed}
 use Rattle.infer_more.specs.Outline.{lines}
 use Rattle.infer_more.specs.Row.{Further}
 use Rattle.infer_formats.specs.Relation as relation
-use Rattle.infer_formats.specs.Relation.{class_id, json_lines, json_text, package_with, plain_text, program, root, root_with}
+use Rattle.infer_formats.specs.Relation.{class_id, first_key, first_key_with, json_lines, json_text, package_with, plain_text, program, root, root_with}
 use Rattle.infer_notation.specs.Alternative.{Alternative, related}
 use Rattle.infer_more.specs.Table.{further}
 use Rattle.infer_more.specs.Wider.{WidensAt}
@@ -28,6 +29,7 @@ use Rattle.infer_more.specs.declared.index.Entry.{Entry}
 use Rattle.infer_more.specs.declared.index.Except.{Except}
 use Rattle.infer_more.specs.declared.index.Gate.{Gate}
 use Rattle.infer_more.specs.declared.index.Guard.{Guard}
+use Rattle.infer_more.specs.declared.index.Keyed.{Keyed}
 use Rattle.infer_more.specs.declared.index.Named.{Named}
 use Rattle.infer_more.specs.declared.index.Parentless.{Parentless}
 use Rattle.infer_more.specs.declared.index.Range.{Range}
@@ -55,6 +57,14 @@ has_other b place x = nat_lt place (length b) && allows (all_but x) (slice_index
 abbrev pub all_of : {A : Type 0} → (A → List ℕ) → List A → List ℕ
 all_of f [] = []
 all_of f (x ∷ xs) = f x ++ all_of f xs
+
+abbrev pub entry_row : Entry → ℕ
+entry_row e = e.row
+
+-- the rows of the entries ascend
+abbrev pub ascends : {A : Type 0} → (A → ℕ) → List A → Bool
+ascends row [] = true
+ascends row (e ∷ entries) = list_all (λ f. nat_le (row e) (row f)) entries && ascends row entries
 
 -- the entry's row, if the buffer has its byte
 abbrev pub candidate : List ℕ → Entry → List ℕ
@@ -130,12 +140,12 @@ excepted b excepts = all_of (unless b) excepts
 abbrev pub entries_at : Begun → ℕ → List Entry
 entries_at lists i = option_map_or (λ s. slice_range lists.entries.now s.start s.end) (slice_get lists.spans.now i) []
 
--- a span of so many entries, and all spans of the lists
-abbrev pub is_span : ℕ → Span → Bool
-is_span many s = nat_le s.start s.end && nat_le s.end many
+-- a span of the entries, whose rows ascend there, and all spans of the lists
+abbrev pub is_span : List Entry → Span → Bool
+is_span entries s = (nat_le s.start s.end && nat_le s.end (length entries)) && ascends entry_row (slice_range entries s.start s.end)
 
 abbrev pub are_spans : Begun → Bool
-are_spans lists = list_all (is_span (length lists.entries.now)) lists.spans.now
+are_spans lists = list_all (is_span lists.entries.now) lists.spans.now
 
 -- the entries of the bucket of byte y: by its low four bits
 abbrev pub bucket : Begun → Second → ℕ → List Entry
@@ -174,7 +184,7 @@ module _ (index : Parentless) where
 
   -- the rows that are tried of a buffer without a built-in answer
   abbrev pub tried_parentless : List ℕ → List ℕ
-  tried_parentless b = candidates b (begun b) ++ (thirded index.first b ++ (candidates b (seconded b) ++ tried_elsewhere b))
+  tried_parentless b = thirded index.first b ++ (candidates b (seconded b) ++ (candidates b (begun b) ++ tried_elsewhere b))
 
 -- `after` is the least of `before` and of the numbers that have P
 pub record IsLeast (P : ℕ → Type 0) (before after : ℕ) : Type 0 where
@@ -191,29 +201,38 @@ abbrev pub IsRowOf : {A : Type 0} → (A → ℕ) → (A → Type 0) → List A 
 IsRowOf row Q [] i = ⊥
 IsRowOf row Q (e ∷ entries) i = ((row e ≡ i) × Q e) ⊎ IsRowOf row Q entries i
 
--- the rows of the entries ascend
-abbrev pub ascends : {A : Type 0} → (A → ℕ) → List A → Bool
-ascends row [] = true
-ascends row (e ∷ entries) = list_all (λ f. nat_le (row e) (row f)) entries && ascends row entries
-
 abbrev pub named_row : Named → ℕ
 named_row e = e.row
 
 abbrev pub rooted_row : Rooted → ℕ
 rooted_row e = e.row
 
+abbrev pub keyed_row : Keyed → ℕ
+keyed_row e = e.row
+
 -- row i is listed with a name that has P
 abbrev pub IsNamed : (List ℕ → Type 0) → List Named → ℕ → Type 0
 IsNamed P names i = IsRowOf named_row (λ e. P e.name.now) names i
 
--- the names in bucket i
-abbrev pub bucket_at : List (Bor (List Named)) → ℕ → List Named
+-- what stands in bucket i
+abbrev pub bucket_at : {A : Type 0} → List (Bor (List A)) → ℕ → List A
 bucket_at buckets i = option_map_or (λ names. names.now) (slice_get buckets i) []
 
--- the bucket of a name: by the low five bits of its first byte
+-- the bucket of a name: by the low bits of its first byte, of so many buckets
+abbrev pub bucket_by : {A : Type 0} → ℕ → List (Bor (List A)) → List ℕ → List A
+bucket_by many buckets [] = []
+bucket_by many buckets (x ∷ xs) = bucket_at buckets (x % many)
+
+-- of names five bits tell it, and of roots three
 abbrev pub bucket_of : List (Bor (List Named)) → List ℕ → List Named
-bucket_of buckets [] = []
-bucket_of buckets (x ∷ xs) = bucket_at buckets (x % 32)
+bucket_of buckets name = bucket_by 32 buckets name
+
+abbrev pub roots_of : List (Bor (List Rooted)) → List ℕ → List Rooted
+roots_of buckets name = bucket_by 8 buckets name
+
+-- the rows of each bucket ascend
+abbrev pub all_ascend : {A : Type 0} → (A → ℕ) → List (Bor (List A)) → Bool
+all_ascend row buckets = list_all (λ some. ascends row some.now) buckets
 
 -- row i is listed with the name of the script's program
 abbrev pub IsOfProgram : List ℕ → List (Bor (List Named)) → ℕ → Type 0
@@ -229,8 +248,25 @@ abbrev pub IsRootedBy : List ℕ → List ℕ → List Rooted → ℕ → Type 0
 IsRootedBy name rest roots i = IsRowOf rooted_row (λ e. (e.name.now ≡ name) × HasTagText rest e.text) roots i
 
 -- row i is listed with the root element of the buffer
-abbrev pub IsRooted : List ℕ → List Rooted → ℕ → Type 0
-IsRooted b roots i = (name rest : List ℕ) × IsRootElement name rest b × IsRootedBy name rest roots i
+abbrev pub IsRooted : List ℕ → List (Bor (List Rooted)) → ℕ → Type 0
+IsRooted b buckets i = (name rest : List ℕ) × IsRootElement name rest b × IsRootedBy name rest (roots_of buckets name) i
+
+-- the text, if there is one, is the value behind the colon of a key
+abbrev pub HasKeyValue : List ℕ → Option (Bor (List ℕ)) → Type 0
+HasKeyValue rest None = Unit {0}
+HasKeyValue rest (Some t) = HasValue t.now rest
+
+-- row i is listed with that key and its value
+abbrev pub IsKeyedBy : List ℕ → List ℕ → List Keyed → ℕ → Type 0
+IsKeyedBy key rest keys i = IsRowOf keyed_row (λ e. (e.key.now ≡ key) × HasKeyValue rest e.value) keys i
+
+-- row i is listed with the first key of the object that begins the buffer
+abbrev pub IsKeyed : List ℕ → List Keyed → ℕ → Type 0
+IsKeyed b keys i = (key rest : List ℕ) × IsFirstKey key rest b × IsKeyedBy key rest keys i
+
+-- row i is told by the root element of the buffer, or by its first key
+abbrev pub IsTold : Parentless → List ℕ → ℕ → Type 0
+IsTold index b i = IsRooted b index.roots.now i ⊎ IsKeyed b index.keys.now i
 
 -- row i is found below the built-in row: it is tried and widens the answer, or told by a name
 abbrev pub IsFoundBelow : below.Below → ℕ → List ℕ → ℕ → Type 0
@@ -246,13 +282,13 @@ IsFoundBelow (Packages entries excepts folders) parent b i =
 abbrev pub IsTextRow : Texts → List ℕ → ℕ → Type 0
 IsTextRow t b i = ((t.lines ≡ i) × IsJsonLines b) ⊎ ((t.json ≡ i) × IsJson b) ⊎ ((t.plain ≡ i) × IsText b)
 
--- the first byte is white space, "<" or the first of a byte order mark
-abbrev pub MayBeginMarkup : List ℕ → Type 0
-MayBeginMarkup b = (0 < length b) × (IsXmlSpace (slice_index b 0) ⊎ (slice_index b 0 ≡ 0x3C) ⊎ (slice_index b 0 ≡ 0xEF))
+-- the first byte is white space, "<", "{" or the first of a byte order mark
+abbrev pub MayBeTold : List ℕ → Type 0
+MayBeTold b = (0 < length b) × (IsXmlSpace (slice_index b 0) ⊎ (slice_index b 0 ≡ 0x3C) ⊎ (slice_index b 0 ≡ 0x7B) ⊎ (slice_index b 0 ≡ 0xEF))
 
 -- row i is found without a built-in answer
 abbrev pub IsFoundParentless : Parentless → List ℕ → ℕ → Type 0
-IsFoundParentless index b i = IsTried None b (tried_parentless index b) i ⊎ IsRooted b index.roots.now i ⊎ IsTextRow index.texts b i
+IsFoundParentless index b i = IsTried None b (tried_parentless index b) i ⊎ IsTold index b i ⊎ IsTextRow index.texts b i
 
 -- the part settles the place, and allows there only bytes that pass the test
 abbrev pub is_settled : (ℕ → Bool) → ℕ → Part → Bool
@@ -364,6 +400,9 @@ same_text (Some s) (Some t) = same s.now t
 abbrev pub has_rooted : ℕ → List Rooted → List ℕ → Option (List ℕ) → Bool
 has_rooted i roots name t = list_any (λ e. e.row == i && (same e.name.now name && same_text e.text t)) roots
 
+abbrev pub has_keyed : ℕ → List Keyed → List ℕ → Option (List ℕ) → Bool
+has_keyed i keys key value = has_no_quote key && list_any (λ e. e.row == i && (same e.key.now key && same_text e.value value)) keys
+
 -- each buffer that fits the alternative has row i among those that the entries try
 abbrev pub is_tried_below : ℕ → List Entry → Alternative → Bool
 is_tried_below i entries a = list_all (λ l. is_covered i l entries) (lines a)
@@ -381,10 +420,15 @@ abbrev pub is_in_class_ids : ℕ → List Named → Alternative → Bool
 is_in_class_ids i ids (related (class_id id)) = has_named i ids id
 is_in_class_ids i ids other = false
 
-abbrev pub is_in_roots : ℕ → List Rooted → Alternative → Bool
-is_in_roots i roots (related (root name)) = has_rooted i roots name None
-is_in_roots i roots (related (root_with name t)) = has_rooted i roots name (Some t)
-is_in_roots i roots other = false
+abbrev pub is_in_roots : ℕ → List (Bor (List Rooted)) → Alternative → Bool
+is_in_roots i buckets (related (root name)) = has_rooted i (roots_of buckets name) name None
+is_in_roots i buckets (related (root_with name t)) = has_rooted i (roots_of buckets name) name (Some t)
+is_in_roots i buckets other = false
+
+abbrev pub is_in_keys : ℕ → List Keyed → Alternative → Bool
+is_in_keys i keys (related (first_key k)) = has_keyed i keys k None
+is_in_keys i keys (related (first_key_with k v)) = has_keyed i keys k (Some v)
+is_in_keys i keys other = false
 
 abbrev pub is_in_folders : ℕ → List Named → Alternative → Bool
 is_in_folders i folders (related (package_with folder)) = has_named i folders folder
@@ -405,9 +449,11 @@ is_text_row t i (related json_text) = t.json == i
 is_text_row t i (related plain_text) = t.plain == i
 is_text_row t i other = false
 
--- or of the root, or it is tried
+-- or of the root, or of the first key, or it is tried
 abbrev pub is_found_parentless : Parentless → ℕ → Alternative → Bool
-is_found_parentless index i a = is_text_row index.texts i a || (is_in_roots i index.roots.now a || list_all (is_tried_parentless index i) (lines a))
+is_found_parentless index i a =
+    is_text_row index.texts i a
+    || (is_in_roots i index.roots.now a || (is_in_keys i index.keys.now a || list_all (is_tried_parentless index i) (lines a)))
 
 -- a row whose parent is one that is asked is found, in the way below that, of each buffer that its signature accepts
 abbrev pub is_row_below : (ℕ → Bool) → (ℕ → below.Below) → ℕ → Option ℕ → Further → Bool
@@ -436,7 +482,7 @@ is_child (Some parent) (Some other) = parent == other
 abbrev pub is_row_with : Option ℕ → (Alternative → Bool) → ℕ → Bool
 is_row_with parent test i = option_map_or (λ r. is_child parent r.parent && list_any test r.signature) (slice_get further i) false
 
--- the alternative asks for the class id, the program, the root, the folder
+-- the alternative asks for the class id, the program, the root, the first key, the folder
 abbrev pub asks_class_id : List ℕ → Alternative → Bool
 asks_class_id id (related (class_id own)) = same id own
 asks_class_id id other = false
@@ -449,6 +495,11 @@ abbrev pub asks_root : List ℕ → Option (Bor (List ℕ)) → Alternative → 
 asks_root name t (related (root own)) = same name own && same_text t None
 asks_root name t (related (root_with own u)) = same name own && same_text t (Some u)
 asks_root name t other = false
+
+abbrev pub asks_key : List ℕ → Option (Bor (List ℕ)) → Alternative → Bool
+asks_key key t (related (first_key own)) = same key own && same_text t None
+asks_key key t (related (first_key_with own u)) = same key own && same_text t (Some u)
+asks_key key t other = false
 
 abbrev pub asks_folder : List ℕ → Alternative → Bool
 asks_folder folder (related (package_with own)) = same folder own
@@ -479,19 +530,24 @@ AllApplications folders = All (λ (e : Named). IsOneOf e.name.now applications) 
 abbrev pub AreClassIds : List Named → Type 0
 AreClassIds ids = All (λ (e : Named). length e.name.now ≡ 16) ids
 
--- each name below that row is one that the row which is told by it asks for, and the rows ascend
+-- each root is one that the row which is told by it asks for
+abbrev pub are_roots_of : Option ℕ → List (Bor (List Rooted)) → Bool
+are_roots_of parent buckets = list_all (λ some. list_all (λ e. is_row_with parent (asks_root e.name.now e.text) e.row) some.now) buckets
+
+-- so is each name below that row, and the rows ascend
 abbrev pub is_true_below : ℕ → below.Below → Bool
+is_true_below parent (Entries entries) = ascends entry_row entries.now
 is_true_below parent (ClassIds ids) =
     ascends named_row ids.now
     && list_all (λ e. length e.name.now == 16 && is_row_with (Some parent) (asks_class_id e.name.now) e.row) ids.now
 is_true_below parent (Programs lists) =
-    list_all (λ names. ascends named_row names.now) lists.now
+    all_ascend named_row lists.now
     && list_all (λ names. list_all (λ e. is_row_with (Some parent) (asks_program e.name.now) e.row) names.now) lists.now
-is_true_below parent (Roots roots) =
-    ascends rooted_row roots.now && list_all (λ e. is_row_with (Some parent) (asks_root e.name.now e.text) e.row) roots.now
+is_true_below parent (Roots roots) = all_ascend rooted_row roots.now && are_roots_of (Some parent) roots.now
 is_true_below parent (Packages entries excepts folders) =
     ascends named_row folders.now
-    && list_all (λ e. is_application e.name.now && is_row_with (Some parent) (asks_folder e.name.now) e.row) folders.now
+    && (list_all (λ e. is_application e.name.now && is_row_with (Some parent) (asks_folder e.name.now) e.row) folders.now
+    && ascends entry_row entries.now)
 is_true_below parent other = true
 
 -- and so below each row from that one on
@@ -505,9 +561,12 @@ are_texts t =
     (is_row_with None is_lines t.lines && (is_row_with None is_json t.json && is_row_with None is_plain t.plain))
     && (nat_le t.lines t.json && nat_le t.json t.plain)
 
--- the rows of roots are such rows, and ascend
-abbrev pub are_rooted : List Rooted → Bool
-are_rooted roots = ascends rooted_row roots && list_all (λ e. is_row_with None (asks_root e.name.now e.text) e.row) roots
+-- the rows of roots are such rows, and ascend, and so are those of first keys
+abbrev pub are_rooted : List (Bor (List Rooted)) → Bool
+are_rooted buckets = all_ascend rooted_row buckets && are_roots_of None buckets
+
+abbrev pub are_keyed : List Keyed → Bool
+are_keyed keys = ascends keyed_row keys && list_all (λ e. is_row_with None (asks_key e.key.now e.value) e.row) keys
 
 -- in this way each further row below that built-in row is found, and none other
 pub record IsWayBelow (parent : ℕ) (way : below.Below) : Type 0 where
@@ -523,6 +582,7 @@ pub record EachParentlessIsFound (index : Parentless) : Type 0 where
   pub found : (i : ℕ) → i < length further → IsTrue (is_row_parentless_found index i)
   pub texts : IsTrue (are_texts index.texts)
   pub roots : IsTrue (are_rooted index.roots.now)
+  pub keys : IsTrue (are_keyed index.keys.now)
   pub spans : IsTrue (are_spans index.first)
   pub spots : IsTrue (are_spots index.spots)
 

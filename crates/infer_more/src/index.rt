@@ -1,6 +1,6 @@
 //! Which further rows are tried of a buffer, so that few are. An entry names a row and a byte that it asks, so that a row
-//! is tried whole only where the buffer has that byte too. Rows that ask for a name are told by it, which is read once for
-//! all of them.
+//! is tried whole only where the buffer has that byte too. Rows that ask for a name, or for the first key of an object, are
+//! told by it, which is read once for all of them.
 ghost use Rattle.infer_more.specs.Index.{EachParentlessIsFound, FindsBelow, FindsParentless, IsWayBelow};
 
 /// A row, by its number among the further rows, that is tried only if a buffer has the byte at the place.
@@ -36,7 +36,7 @@ pub(crate) struct Range {
 /// Entries that are looked at only if a buffer has at the place a byte with that mark.
 pub(crate) struct Spot {
     pub place: u32,
-    pub mark: u32,
+    pub mark: u64,
     pub entries: &'static [Entry],
 }
 
@@ -46,7 +46,7 @@ pub(crate) struct Spot {
 /// that begins with a zero, as many files do, is asked for the places of rows that do so too.
 pub(crate) struct Spots {
     pub from: u16,
-    pub marks: &'static [u32],
+    pub marks: &'static [u64],
     pub zeros: &'static [Spot],
     pub near: &'static [Spot],
     pub beyond: u32,
@@ -73,18 +73,25 @@ pub(crate) struct Rooted {
     pub text: Option<&'static [u8]>,
 }
 
+/// A row that is told by the first key of an object, and by its value if there is one.
+pub(crate) struct Keyed {
+    pub row: u16,
+    pub key: &'static [u8],
+    pub value: Option<&'static [u8]>,
+}
+
 /// How the rows below a built-in row are told.
 pub(crate) enum Below {
     /// There are none.
     Nothing,
-    /// By trying those of which a buffer has the byte.
+    /// By trying those of which a buffer has the byte, up to the first that widens the answer.
     Entries(&'static [Entry]),
     /// By the class id of a compound file.
     ClassIds(&'static [Named]),
     /// By the program of a script. The names stand in buckets, by the low five bits of their first byte.
     Programs(&'static [&'static [Named]]),
-    /// By the root element.
-    Roots(&'static [Rooted]),
+    /// By the root element. The names stand in buckets, by the low three bits of their first byte.
+    Roots(&'static [&'static [Rooted]]),
     /// By trying some, and by the folder of an application in a package.
     Packages(&'static [Entry], &'static [Except], &'static [Named]),
 }
@@ -129,14 +136,15 @@ pub(crate) struct Begun {
 /// The rows without a parent that are tried: by their first byte and a second or third one, and behind guards those that
 /// allow any first byte. Of these the rows that share another byte stand behind the gate, so that a buffer without it is told
 /// by one look. Ranges have the rows that allow many bytes, and spots the last rows, told by a byte elsewhere. The root of
-/// markup is looked for once for all rows that ask for one. The texts come last.
+/// markup and the first key of an object are looked for once for all rows that ask for one. The texts come last.
 pub(crate) struct Parentless {
     pub first: Begun,
     pub guards: &'static [Guard],
     pub gate: Gate,
     pub ranges: &'static [Range],
     pub spots: Spots,
-    pub roots: &'static [Rooted],
+    pub roots: &'static [&'static [Rooted]],
+    pub keys: &'static [Keyed],
     pub texts: Texts,
 }
 
@@ -181,6 +189,22 @@ macro_rules! rooted {
             row: $row,
             name: $name,
             text: text!($($text)?),
+        }),*]
+    };
+}
+
+macro_rules! roots {
+    ($(($($name:literal ($($text:literal)?) $row:literal),*))*) => {
+        &[$(rooted![$($name ($($text)?) $row),*]),*]
+    };
+}
+
+macro_rules! keyed {
+    ($($key:literal ($($value:literal)?) $row:literal),*) => {
+        &[$(Keyed {
+            row: $row,
+            key: $key,
+            value: text!($($value)?),
         }),*]
     };
 }

@@ -3,22 +3,23 @@ ghost use Rattle.std.specs.Prelude.{◌≡◌, ◌≢◌, ◌↔◌, [], ◌∷�
 ghost use Rattle.std.specs.List.{list_all};
 ghost use Rattle.infer_deep.specs.ClassId.{HasClassId};
 ghost use Rattle.infer_deep.specs.Find.{OccursAt};
-ghost use Rattle.infer_formats.specs.Json.{IsJson, IsJsonLines};
+ghost use Rattle.infer_formats.specs.FirstKey.{StandsFirst};
+ghost use Rattle.infer_formats.specs.Json.{IsBlank, IsJson, IsJsonLines};
 ghost use Rattle.infer_formats.specs.Zip.{IsPackageWith};
-ghost use Rattle.infer_more.specs.Index.{AllApplications, AreClassIds, HasTagText, IsFoundBelow, IsLeast, IsNamed, IsOfProgram, IsRooted, IsRootedBy, IsTextRow, IsTried, MayBeginMarkup, are_spans, are_spots, are_texts, all_seen, ascends, begun, behind, below_at, bucket_at, bucket_of, candidate, candidates, entries_at, excepted, gated, guarded, has_between, has_byte, has_marked, has_other, is_far, is_true_below, mark_at, named_row, picked, ranged, rooted_row, seconded, seen, spotted, third, thirded, tried_elsewhere, tried_parentless, unless, within, zeroed};
+ghost use Rattle.infer_more.specs.Index.{AllApplications, AreClassIds, HasKeyValue, HasTagText, IsFoundBelow, IsKeyed, IsKeyedBy, IsLeast, IsNamed, IsOfProgram, IsRooted, IsRootedBy, IsTextRow, IsTold, IsTried, MayBeTold, all_ascend, are_spans, are_spots, are_texts, all_seen, ascends, begun, behind, below_at, bucket_at, bucket_of, candidate, candidates, entries_at, entry_row, excepted, gated, guarded, has_between, has_byte, has_marked, has_other, is_far, is_true_below, keyed_row, mark_at, named_row, picked, ranged, rooted_row, roots_of, seconded, seen, spotted, third, thirded, tried_elsewhere, tried_parentless, unless, within, zeroed};
 ghost use Rattle.infer_more.specs.Parents.{is_marked};
 ghost use Rattle.infer_more.specs.Wider.{IsWidened, WidensAt};
 ghost use Rattle.infer_more.specs.declared.index.generated.TheConstants.{FURTHER_COUNT};
 
 use crate::index::{
-    Begun, Below, Entry, Except, FURTHER_COUNT, Gate, Guard, LAST_PLACE, NEAR_PLACE, Named,
+    Begun, Below, Entry, Except, FURTHER_COUNT, Gate, Guard, Keyed, LAST_PLACE, NEAR_PLACE, Named,
     Parentless, Range, Rooted, Second, Spot, Spots, Texts, Third, way_below, without_parent,
 };
 use crate::table::widens;
 use infer::rows::ROW_COUNT;
 use infer_deep::doc::class_id;
 use infer_deep::places::stands_at;
-use infer_formats::json::{Kind, kind_of};
+use infer_formats::json::{Key, Kind, first_dark, first_key, kind_of};
 use infer_formats::markup::{Root, may_be_rooted, root_of};
 use infer_formats::script::program;
 use infer_formats::text::is_text;
@@ -26,6 +27,9 @@ use infer_formats::zip::package_folder;
 
 /// How many buckets of names there are.
 const BUCKETS: usize = 32;
+
+/// How many buckets of roots there are.
+const ROOT_BUCKETS: usize = 8;
 
 /// Of how many spans a second byte picks one.
 const PICKS: usize = 16;
@@ -84,35 +88,72 @@ fn least_at(entry: &Entry, parent: Option<usize>, buf: &[u8], before: usize) -> 
     row
 }
 
-/// The least of the number before and of the rows of these entries that widen the answer.
+/// The least of the number before and of the rows of these entries that widen the answer, which is that of the first: the
+/// walk ends there, or at a row that is not before that number.
 #[inline(always)]
 fn least_among(entries: &[Entry], parent: Option<usize>, buf: &[u8], before: usize) -> usize
+    requires { IsTrue (ascends entry_row entries.now) }
     ensures { IsLeast (IsTried parent buf.now (candidates buf.now entries.now)) before result }
 {
-    let mut least = before;
     for entry in entries {
-        least = least_at(entry, parent, buf, least);
+        if has_byte(buf, entry.place, entry.byte) {
+            let row = usize::from(entry.row);
+            if row >= before {
+                return before;
+            }
+            if widens(row, parent, buf) {
+                return row;
+            }
+        }
     }
-    least
+    before
 }
 
 /// [`least_among`] entries that the compiler knows, half by half: a walk over so many it writes out, and one over all it
 /// leaves as a loop.
 #[inline(always)]
 fn least_in_halves(entries: &[Entry], parent: Option<usize>, buf: &[u8], before: usize) -> usize
+    requires { IsTrue (ascends entry_row entries.now) }
     ensures { IsLeast (IsTried parent buf.now (candidates buf.now entries.now)) before result }
 {
     let (first, last) = entries.split_at(entries.len() / 2);
     let least = least_among(first, parent, buf, before);
-    least_among(last, parent, buf, least)
+    if least < before {
+        return least;
+    }
+    least_among(last, parent, buf, before)
 }
 
 /// [`least_among`] entries that the compiler does not know, of rows without a parent.
 #[inline(never)]
 fn least_of(entries: &[Entry], buf: &[u8], before: usize) -> usize
+    requires { IsTrue (ascends entry_row entries.now) }
     ensures { IsLeast (IsTried None buf.now (candidates buf.now entries.now)) before result }
 {
     least_among(entries, None, buf, before)
+}
+
+/// [`least_of`] entries in any order.
+#[inline(never)]
+fn least_each(entries: &[Entry], buf: &[u8], before: usize) -> usize
+    ensures { IsLeast (IsTried None buf.now (candidates buf.now entries.now)) before result }
+{
+    let mut least = before;
+    for entry in entries {
+        least = least_at(entry, None, buf, least);
+    }
+    least
+}
+
+/// [`least_each`], without a loop if there is one entry, as mostly.
+#[inline(never)]
+fn least_few(entries: &[Entry], buf: &[u8], before: usize) -> usize
+    ensures { IsLeast (IsTried None buf.now (candidates buf.now entries.now)) before result }
+{
+    match only(entries) {
+        Some(entry) => least_at(entry, None, buf, before),
+        None => least_each(entries, buf, before),
+    }
 }
 
 /// Whether this is one entry, whose row is not before that number: told without a loop, as most guards have one entry.
@@ -127,8 +168,8 @@ fn is_late(entries: &[Entry], before: usize) -> bool
     }
 }
 
-/// [`least_of`], and the number before at once if there is one entry, of no earlier row. A function of its own, so that this
-/// takes nothing of what [`least_of`] needs.
+/// [`least_few`], and the number before at once if there is one entry, of no earlier row. A function of its own, so that this
+/// takes nothing of what [`least_few`] needs.
 #[inline(never)]
 fn least_after(entries: &[Entry], buf: &[u8], before: usize) -> usize
     ensures { IsLeast (IsTried None buf.now (candidates buf.now entries.now)) before result }
@@ -136,13 +177,13 @@ fn least_after(entries: &[Entry], buf: &[u8], before: usize) -> usize
     if is_late(entries, before) {
         return before;
     }
-    least_of(entries, buf, before)
+    least_few(entries, buf, before)
 }
 
 /// [`least_after`] that number, of the entries behind a guard: the number before if the buffer lacks the guard's byte.
 #[tactic(auto, using(crate::proofs::LeastLemmas::tried_behind, crate::proofs::LeastLemmas::tried_shut))]
 #[inline(always)]
-fn least_behind(guard: &Guard, buf: &[u8], before: usize) -> usize
+fn least_behind_guard(guard: &Guard, buf: &[u8], before: usize) -> usize
     ensures { IsLeast (IsTried None buf.now (behind buf.now guard.now)) before result }
 {
     if !has_byte(buf, guard.place, guard.byte) {
@@ -151,14 +192,14 @@ fn least_behind(guard: &Guard, buf: &[u8], before: usize) -> usize
     least_after(guard.entries, buf, before)
 }
 
-/// [`least_of`] the entries behind all guards.
+/// [`least_after`] that number, of the entries behind all guards.
 #[inline(always)]
 fn least_guarded(guards: &[Guard], buf: &[u8], before: usize) -> usize
     ensures { IsLeast (IsTried None buf.now (guarded buf.now guards.now)) before result }
 {
     let mut least = before;
     for guard in guards {
-        least = least_behind(guard, buf, least);
+        least = least_behind_guard(guard, buf, least);
     }
     least
 }
@@ -207,7 +248,7 @@ fn least_ranged(ranges: &[Range], buf: &[u8], before: usize) -> usize
 
 /// The marks of that byte.
 #[inline(always)]
-fn mark_at(marks: &[u32], byte: usize) -> u32
+fn mark_at(marks: &[u64], byte: usize) -> u64
     ensures { result ≡ mark_at marks.now byte }
 {
     match marks.get(byte) {
@@ -218,7 +259,7 @@ fn mark_at(marks: &[u32], byte: usize) -> u32
 
 /// Whether the buffer has a byte at the spot's place that has its mark.
 #[inline(always)]
-fn has_marked(marks: &[u32], spot: &Spot, buf: &[u8]) -> bool
+fn has_marked(marks: &[u64], spot: &Spot, buf: &[u8]) -> bool
     ensures { result ≡ has_marked marks.now buf.now spot.now }
 {
     match buf.get(spot.place as usize) {
@@ -227,21 +268,21 @@ fn has_marked(marks: &[u32], spot: &Spot, buf: &[u8]) -> bool
     }
 }
 
-/// [`least_of`] the entries of the spot: the number before if the buffer has no byte there with its mark.
+/// [`least_few`] of the entries of the spot: the number before if the buffer has no byte there with its mark.
 #[tactic(auto, using(crate::proofs::LeastLemmas::tried_behind, crate::proofs::LeastLemmas::tried_shut))]
 #[inline(always)]
-fn least_seen(marks: &[u32], spot: &Spot, buf: &[u8], before: usize) -> usize
+fn least_seen(marks: &[u64], spot: &Spot, buf: &[u8], before: usize) -> usize
     ensures { IsLeast (IsTried None buf.now (seen marks.now buf.now spot.now)) before result }
 {
     if !has_marked(marks, spot, buf) {
         return before;
     }
-    least_of(spot.entries, buf, before)
+    least_few(spot.entries, buf, before)
 }
 
-/// [`least_of`] the entries of all these spots.
+/// [`least_few`] of the entries of all these spots.
 #[inline(always)]
-fn least_all_seen(marks: &[u32], spots: &[Spot], buf: &[u8], before: usize) -> usize
+fn least_all_seen(marks: &[u64], spots: &[Spot], buf: &[u8], before: usize) -> usize
     ensures { IsLeast (IsTried None buf.now (all_seen marks.now buf.now spots.now)) before result }
 {
     let mut least = before;
@@ -295,10 +336,10 @@ fn least_but(except: &Except, parent: Option<usize>, buf: &[u8], before: usize) 
     ensures { IsLeast (IsTried parent buf.now (unless buf.now except.now)) before result }
 {
     let row = usize::from(except.row);
-    if !has_other(buf, except.place, except.byte) {
+    if row >= before {
         return before;
     }
-    if row >= before {
+    if !has_other(buf, except.place, except.byte) {
         return before;
     }
     if !widens(row, parent, buf) {
@@ -323,7 +364,8 @@ fn least_excepted(excepts: &[Except], parent: Option<usize>, buf: &[u8], before:
 #[inline(always)]
 fn entries_begun(index: &Parentless, buf: &[u8]) -> &'static [Entry]
     requires { IsTrue (are_spans index.now.first) }
-    ensures { result.now ≡ begun index.now buf.now }
+    ensures same { result.now ≡ begun index.now buf.now }
+    ensures ascend { IsTrue (ascends entry_row result.now) }
 {
     match buf.first() {
         Some(byte) => entries_at(&index.first, usize::from(*byte)),
@@ -335,7 +377,8 @@ fn entries_begun(index: &Parentless, buf: &[u8]) -> &'static [Entry]
 #[inline(always)]
 fn entries_at(lists: &Begun, i: usize) -> &'static [Entry]
     requires { IsTrue (are_spans lists.now) }
-    ensures { result.now ≡ entries_at lists.now i }
+    ensures same { result.now ≡ entries_at lists.now i }
+    ensures ascend { IsTrue (ascends entry_row result.now) }
 {
     match lists.spans.get(i) {
         Some(span) => &lists.entries[usize::from(span.start)..usize::from(span.end)],
@@ -347,7 +390,8 @@ fn entries_at(lists: &Begun, i: usize) -> &'static [Entry]
 #[inline(always)]
 fn entries_picked(lists: &Begun, second: &Second, buf: &[u8]) -> &'static [Entry]
     requires { IsTrue (are_spans lists.now) }
-    ensures { result.now ≡ picked lists.now second.now buf.now }
+    ensures same { result.now ≡ picked lists.now second.now buf.now }
+    ensures ascend { IsTrue (ascends entry_row result.now) }
 {
     match buf.get(second.place as usize) {
         Some(byte) => entries_at(
@@ -362,7 +406,8 @@ fn entries_picked(lists: &Begun, second: &Second, buf: &[u8]) -> &'static [Entry
 #[inline(always)]
 fn entries_seconded(index: &Parentless, buf: &[u8]) -> &'static [Entry]
     requires { IsTrue (are_spans index.now.first) }
-    ensures { result.now ≡ seconded index.now buf.now }
+    ensures same { result.now ≡ seconded index.now buf.now }
+    ensures ascend { IsTrue (ascends entry_row result.now) }
 {
     match buf.first() {
         Some(byte) => match index.first.seconds.get(usize::from(*byte)) {
@@ -387,6 +432,7 @@ fn only(entries: &[Entry]) -> Option<&Entry>
 /// [`least_of`], without a call if there are no entries, and without a loop if there is one, as mostly.
 #[inline(always)]
 fn least_listed(entries: &[Entry], buf: &[u8], before: usize) -> usize
+    requires { IsTrue (ascends entry_row entries.now) }
     ensures { IsLeast (IsTried None buf.now (candidates buf.now entries.now)) before result }
 {
     if entries.is_empty() {
@@ -398,14 +444,14 @@ fn least_listed(entries: &[Entry], buf: &[u8], before: usize) -> usize
     }
 }
 
-/// The least of the rows that are listed by the first byte and widen the answer, or their count.
+/// The least of the number before and of the rows that are listed by the first byte and widen the answer.
 #[inline(always)]
-fn least_begun(index: &Parentless, buf: &[u8]) -> usize
+fn least_begun(index: &Parentless, buf: &[u8], before: usize) -> usize
     requires { IsTrue (are_spans index.now.first) }
     ensures { IsLeast (IsTried None buf.now
-        (candidates buf.now (begun index.now buf.now))) FURTHER_COUNT result }
+        (candidates buf.now (begun index.now buf.now))) before result }
 {
-    least_listed(entries_begun(index, buf), buf, FURTHER_COUNT)
+    least_listed(entries_begun(index, buf), buf, before)
 }
 
 /// The least of the number before and of the rows that are listed by the second byte and widen the answer.
@@ -484,7 +530,8 @@ fn least_placed(index: &Parentless, buf: &[u8], before: usize) -> usize
     least_elsewhere::<2>(index, buf, before)
 }
 
-/// The least of the rows that such an index tries and that widen the answer, or their count.
+/// The least of the rows that such an index tries and that widen the answer, or their count. What few rows share is asked
+/// first, so that no later row of the many with one first byte is tried.
 #[inline(always)]
 fn least_tried(index: &Parentless, buf: &[u8]) -> usize
     requires spans { IsTrue (are_spans index.now.first) }
@@ -492,10 +539,10 @@ fn least_tried(index: &Parentless, buf: &[u8]) -> usize
     ensures { IsLeast (IsTried None buf.now
         (tried_parentless index.now buf.now)) FURTHER_COUNT result }
 {
-    let begun = least_begun(index, buf);
-    let thirded = least_thirded(&index.first, buf, begun);
+    let thirded = least_thirded(&index.first, buf, FURTHER_COUNT);
     let seconded = least_seconded(index, buf, thirded);
-    least_placed(index, buf, seconded)
+    let begun = least_begun(index, buf, seconded);
+    least_placed(index, buf, begun)
 }
 
 /// The row of the text that the buffer is, or the number before if that is less or it is none.
@@ -525,34 +572,128 @@ fn least_plain(texts: &Texts, buf: &[u8], before: usize) -> usize
     }
 }
 
-/// Whether the first byte is one with which markup may begin.
+/// Whether the first byte is one with which markup or an object may begin.
 #[inline(always)]
-fn may_begin_markup(buf: &[u8]) -> bool
-    ensures { IsTrue result ↔ MayBeginMarkup buf.now }
+fn may_be_told(buf: &[u8]) -> bool
+    ensures { IsTrue result ↔ MayBeTold buf.now }
 {
     match buf.first() {
-        Some(byte) => matches!(*byte, b'\t' | b'\n' | b'\r' | b' ' | b'<' | 0xEF),
+        Some(byte) => matches!(*byte, b'\t' | b'\n' | b'\r' | b' ' | b'<' | b'{' | 0xEF),
         None => false,
     }
 }
 
-/// [`least_root`] of a buffer that need not be markup.
+/// The least of the number before and of the rows that are told by the root of markup, or by the first key of an object.
 #[inline(always)]
-fn least_markup(roots: &[Rooted], buf: &[u8], before: usize) -> usize
-    requires { IsTrue (ascends rooted_row roots.now) }
+fn least_told(index: &Parentless, buf: &[u8], before: usize) -> usize
+    requires roots { IsTrue (all_ascend rooted_row index.now.roots.now) }
+    requires keys { IsTrue (ascends keyed_row index.now.keys.now) }
+    ensures { IsLeast (IsTold index.now buf.now) before result }
+{
+    infer_formats::laws::leads();
+    if !may_be_told(buf) {
+        return before;
+    }
+    least_told_apart(index, buf, before)
+}
+
+/// [`least_told`] by the first byte behind white space. A function of its own, so that few buffers take what it needs.
+#[inline(never)]
+fn least_told_apart(index: &Parentless, buf: &[u8], before: usize) -> usize
+    requires roots { IsTrue (all_ascend rooted_row index.now.roots.now) }
+    requires keys { IsTrue (ascends keyed_row index.now.keys.now) }
+    ensures { IsLeast (IsTold index.now buf.now) before result }
+{
+    infer_formats::laws::leads();
+    match first_dark(buf) {
+        Some(dark) => least_behind(dark, index, buf, before),
+        None => before,
+    }
+}
+
+/// [`least_told`] of a buffer with this byte behind white space.
+#[inline(always)]
+fn least_behind(dark: u8, index: &Parentless, buf: &[u8], before: usize) -> usize
+    requires roots { IsTrue (all_ascend rooted_row index.now.roots.now) }
+    requires keys { IsTrue (ascends keyed_row index.now.keys.now) }
+    requires first { (¬ IsBlank dark) × StandsFirst dark buf.now }
+    ensures { IsLeast (IsTold index.now buf.now) before result }
+{
+    let rooted = least_markup(dark, index.roots, buf, before);
+    least_object(dark, index.keys, buf, rooted)
+}
+
+/// [`least_root`] of a buffer with this byte behind white space, which need not be markup.
+#[inline(always)]
+fn least_markup(dark: u8, roots: &'static [&'static [Rooted]], buf: &[u8], before: usize) -> usize
+    requires ascend { IsTrue (all_ascend rooted_row roots.now) }
+    requires first { (¬ IsBlank dark) × StandsFirst dark buf.now }
     ensures { IsLeast (IsRooted buf.now roots.now) before result }
 {
     infer_formats::laws::leads();
-    if !may_begin_markup(buf) {
+    if dark != b'<' && dark != 0xEF {
         return before;
     }
     least_begun_markup(roots, buf, before)
 }
 
+/// [`least_key`] of a buffer with this byte behind white space, which need not be an object.
+#[inline(always)]
+fn least_object(dark: u8, keys: &[Keyed], buf: &[u8], before: usize) -> usize
+    requires ascend { IsTrue (ascends keyed_row keys.now) }
+    requires first { (¬ IsBlank dark) × StandsFirst dark buf.now }
+    ensures { IsLeast (IsKeyed buf.now keys.now) before result }
+{
+    if dark != b'{' && dark != 0xEF {
+        return before;
+    }
+    least_key(keys, buf, before)
+}
+
+/// The least of the number before and of the rows with the first key of the object that begins the buffer.
+#[inline(never)]
+fn least_key(keys: &[Keyed], buf: &[u8], before: usize) -> usize
+    requires { IsTrue (ascends keyed_row keys.now) }
+    ensures { IsLeast (IsKeyed buf.now keys.now) before result }
+{
+    match first_key(buf) {
+        Some(key) => least_keyed(keys, &key, before),
+        None => before,
+    }
+}
+
+/// Whether the key is the row's, and its value too.
+#[inline(always)]
+fn is_keyed(keyed: &Keyed, key: &Key<'_>) -> bool
+    ensures { IsTrue result ↔ (keyed.now.key.now ≡ key.now.text.now)
+        × HasKeyValue key.now.rest.now keyed.now.value }
+{
+    if key.text != keyed.key {
+        return false;
+    }
+    match keyed.value {
+        Some(value) => key.has_value(value),
+        None => true,
+    }
+}
+
+/// The least of the number before and of the rows with this key, which is that of the first.
+fn least_keyed(keys: &[Keyed], key: &Key<'_>, before: usize) -> usize
+    requires { IsTrue (ascends keyed_row keys.now) }
+    ensures { IsLeast (IsKeyedBy key.now.text.now key.now.rest.now keys.now) before result }
+{
+    for keyed in keys {
+        if is_keyed(keyed, key) {
+            return before.min(usize::from(keyed.row));
+        }
+    }
+    before
+}
+
 /// [`least_root`] of a buffer whose first tag may be no tag. A function of its own, so that few buffers take what it needs.
 #[inline(never)]
-fn least_begun_markup(roots: &[Rooted], buf: &[u8], before: usize) -> usize
-    requires { IsTrue (ascends rooted_row roots.now) }
+fn least_begun_markup(roots: &'static [&'static [Rooted]], buf: &[u8], before: usize) -> usize
+    requires { IsTrue (all_ascend rooted_row roots.now) }
     ensures { IsLeast (IsRooted buf.now roots.now) before result }
 {
     infer_formats::laws::leads();
@@ -564,8 +705,8 @@ fn least_begun_markup(roots: &[Rooted], buf: &[u8], before: usize) -> usize
 
 /// [`least_root`] as a function of its own, so that a buffer whose first tag is none takes nothing of what it needs.
 #[inline(never)]
-fn least_root_apart(roots: &[Rooted], buf: &[u8], before: usize) -> usize
-    requires { IsTrue (ascends rooted_row roots.now) }
+fn least_root_apart(roots: &'static [&'static [Rooted]], buf: &[u8], before: usize) -> usize
+    requires { IsTrue (all_ascend rooted_row roots.now) }
     ensures { IsLeast (IsRooted buf.now roots.now) before result }
 {
     least_root(roots, buf, before)
@@ -579,12 +720,12 @@ fn least_parentless(buf: &[u8]) -> usize
 {
     let index = without_parent();
     let tried = least_tried(index, buf);
-    let rooted = least_markup(index.roots, buf, tried);
+    let told = least_told(index, buf, tried);
     let texts = &index.texts;
-    if rooted <= usize::from(texts.lines) {
-        return rooted;
+    if told <= usize::from(texts.lines) {
+        return told;
     }
-    least_text(texts, buf, rooted)
+    least_text(texts, buf, told)
 }
 
 fn is_named(named: &Named, name: &[u8]) -> bool
@@ -630,7 +771,7 @@ fn bucket_at(buckets: &'static [&'static [Named]], i: usize) -> &'static [Named]
 
 /// The least of the rows with the name of the script's program, or their count.
 fn least_program(buckets: &'static [&'static [Named]], buf: &[u8]) -> usize
-    requires { IsTrue (list_all (λ names. ascends named_row names.now) buckets.now) }
+    requires { IsTrue (all_ascend named_row buckets.now) }
     ensures { IsLeast (IsOfProgram buf.now buckets.now) FURTHER_COUNT result }
 {
     match program(buf) {
@@ -708,14 +849,36 @@ fn least_rooted(roots: &[Rooted], root: &Root<'_>, before: usize) -> usize
     before
 }
 
+/// The bucket of the name of a root, by the low three bits of its first byte.
+#[inline(always)]
+fn roots_of(buckets: &'static [&'static [Rooted]], name: &[u8]) -> &'static [Rooted]
+    ensures { result.now ≡ roots_of buckets.now name.now }
+{
+    match name.first() {
+        Some(first) => roots_at(buckets, usize::from(*first) % ROOT_BUCKETS),
+        None => &[],
+    }
+}
+
+/// The bucket of that number, and an empty one past the last.
+#[inline(always)]
+fn roots_at(buckets: &'static [&'static [Rooted]], i: usize) -> &'static [Rooted]
+    ensures { result.now ≡ bucket_at buckets.now i }
+{
+    match buckets.get(i) {
+        Some(roots) => roots,
+        None => &[],
+    }
+}
+
 /// The least of the number before and of the rows with the buffer's root.
 #[inline(always)]
-fn least_root(roots: &[Rooted], buf: &[u8], before: usize) -> usize
-    requires { IsTrue (ascends rooted_row roots.now) }
+fn least_root(roots: &'static [&'static [Rooted]], buf: &[u8], before: usize) -> usize
+    requires { IsTrue (all_ascend rooted_row roots.now) }
     ensures { IsLeast (IsRooted buf.now roots.now) before result }
 {
     match root_of(buf) {
-        Some(root) => least_rooted(roots, &root, before),
+        Some(root) => least_rooted(roots_of(roots, root.name), &root, before),
         None => before,
     }
 }

@@ -1,6 +1,8 @@
--- the least of the rows so far
-use Rattle.infer_more.proofs.Common.{take, IsLeast, IsTried, candidates}
+-- none so far hits
+use Rattle.infer_more.proofs.Common.{ℕ, ◌<◌, get_or}
+use Rattle.infer_more.specs.declared.index.Entry.{Entry}
+use Rattle.infer_more.proofs.LeastLemmas.{Hits}
 use Rattle.infer_more.proofs.index.asked.least_among.Given as goal
 
 abbrev pub invariant-loop-entry : goal.invariant-loop-entry
-invariant-loop-entry l = IsLeast (IsTried l.parent l.buf (candidates l.buf (take l.entry-index l.entries))) l.fn.before l.least
+invariant-loop-entry l = (j : ℕ) (d : Entry) → j < l.entry-index → ¬ Hits l.parent l.buf (get_or l.entries j d)

@@ -1,6 +1,6 @@
 use Rattle.infer_more.proofs.Common.{◌≡◌, Some, true, subst, sym, IsFoundBelow, IsLeast, is_true_below, Below, FURTHER_COUNT}
 use Rattle.infer_more.proofs.FoundLemmas.{all_applications, are_class_ids}
-use Rattle.infer_more.proofs.IndexLemmas.{both_left}
+use Rattle.infer_more.proofs.IndexLemmas.{both_left, both_right}
 use Rattle.infer_more.proofs.LeastLemmas.{least_both, tried_more}
 use Rattle.infer_more.proofs.index.asked.least_found.Goals as goal
 
@@ -9,6 +9,12 @@ least_class-requires-clause-long c = are_class_ids c.args.row c.in-ClassIds.ids 
 
 pub least_class-requires-clause-ascend : goal.least_class-requires-clause-ascend
 least_class-requires-clause-ascend c = both_left _ _ (subst (λ (way : Below). is_true_below c.args.row way ≡ true) c.in-ClassIds.is c.requires)
+
+pub least_in_halves-requires : goal.least_in_halves-requires
+least_in_halves-requires c = subst (λ (way : Below). is_true_below c.args.row way ≡ true) c.in-Entries.is c.requires
+
+pub least_in_halves-tried-requires : goal.least_in_halves-tried-requires
+least_in_halves-tried-requires c = both_right _ _ (both_right _ _ (subst (λ (way : Below). is_true_below c.args.row way ≡ true) c.in-Packages.is c.requires))
 
 pub least_program-requires : goal.least_program-requires
 least_program-requires c = both_left _ _ (subst (λ (way : Below). is_true_below c.args.row way ≡ true) c.in-Programs.is c.requires)

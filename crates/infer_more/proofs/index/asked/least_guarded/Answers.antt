@@ -9,7 +9,7 @@ loop-guard-init c = tried_none None c.args.buf.now c.args.before
 pub loop-guard-preserved : goal.loop-guard-preserved
 loop-guard-preserved c =
     let lt : c.loop-guard.guard-index < length c.args.guards.now = omega arith in
-    tried_one_more None c.args.buf.now (behind c.args.buf.now) c.args.guards.now c.loop-guard.guard-index _ _ _ _ lt c.loop-guard.invariant c.least_behind-least.ensures
+    tried_one_more None c.args.buf.now (behind c.args.buf.now) c.args.guards.now c.loop-guard.guard-index _ _ _ _ lt c.loop-guard.invariant c.least_behind_guard-least.ensures
 
 pub returns : goal.returns
 returns c =

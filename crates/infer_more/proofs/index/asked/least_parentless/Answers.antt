@@ -13,15 +13,18 @@ least_tried-tried-requires-clause-spans c = c.without_parent-index.ensures.each.
 pub least_tried-tried-requires-clause-spots : goal.least_tried-tried-requires-clause-spots
 least_tried-tried-requires-clause-spots c = c.without_parent-index.ensures.each.spots
 
-pub least_markup-rooted-requires : goal.least_markup-rooted-requires
-least_markup-rooted-requires c = both_left _ _ c.without_parent-index.ensures.each.roots
+pub least_told-told-requires-clause-roots : goal.least_told-told-requires-clause-roots
+least_told-told-requires-clause-roots c = both_left _ _ c.without_parent-index.ensures.each.roots
 
-pub returns-then-rooted-from : goal.returns-then-rooted-from
-returns-then-rooted-from c =
+pub least_told-told-requires-clause-keys : goal.least_told-told-requires-clause-keys
+least_told-told-requires-clause-keys c = both_left _ _ c.without_parent-index.ensures.each.keys
+
+pub returns-then-told-from : goal.returns-then-told-from
+returns-then-told-from c =
     let b = c.args.buf.now in
-    least_before_texts c.without_parent-index.result.now c.without_parent-index.ensures.finds b (buffer_of b (λ i. omega (arith, c.type_inv.buf i))) _ _ c.without_parent-index.ensures.each.texts (omega (arith, c.from.ensures)) c.least_tried-tried.ensures c.least_markup-rooted.ensures
+    least_before_texts c.without_parent-index.result.now c.without_parent-index.ensures.finds b (buffer_of b (λ i. omega (arith, c.type_inv.buf i))) _ _ c.without_parent-index.ensures.each.texts (omega (arith, c.from.ensures)) c.least_tried-tried.ensures c.least_told-told.ensures
 
 pub returns : goal.returns
 returns c =
     let b = c.args.buf.now in
-    least_with_texts c.without_parent-index.result.now c.without_parent-index.ensures.finds b (buffer_of b (λ i. omega (arith, c.type_inv.buf i))) _ _ _ c.least_tried-tried.ensures c.least_markup-rooted.ensures c.least_text.ensures
+    least_with_texts c.without_parent-index.result.now c.without_parent-index.ensures.finds b (buffer_of b (λ i. omega (arith, c.type_inv.buf i))) _ _ _ c.least_tried-tried.ensures c.least_told-told.ensures c.least_text.ensures

@@ -5,5 +5,5 @@ use Rattle.infer_more.proofs.index.asked.least_tried.Goals as goal
 pub returns : goal.returns
 returns c =
     let b = c.args.buf.now in
-    tried_more None b _ _ _ _ _ c.least_begun-begun.ensures (tried_more None b _ _ _ _ _ c.least_thirded-thirded.ensures
-    (tried_more None b _ _ _ _ _ c.least_seconded-seconded.ensures c.least_placed.ensures))
+    tried_more None b _ _ _ _ _ c.least_thirded-thirded.ensures (tried_more None b _ _ _ _ _ c.least_seconded-seconded.ensures
+    (tried_more None b _ _ _ _ _ c.least_begun-begun.ensures c.least_placed.ensures))
