@@ -822,16 +822,22 @@ def rooted(rows):
     return f"roots![{in_buckets(told_by(rows, 'Root'), ROOT_BUCKETS)}]"
 
 
+def tried_beside(rows, kind):
+    """The entries of those of these rows that are told in another way."""
+    return f"entries!{in_list(entries([(k, row.outlines({kind})) for k, row in rows]))}"
+
+
 def below(rows):
     """How the rows below a built-in row are told, each with its number: what it is called, and what it takes."""
     kinds = {it.name for _, row in rows for it in row.signature}
     if not rows:
         return "Nothing", []
-    if kinds == {"ClassId"}:
-        return "ClassIds", [f"named!{bracketed(f'{it} {k}' for some, k in names(rows, 'ClassId') for it in some)}"]
-    if kinds == {"Program"}:
+    if "ClassId" in kinds:
+        ids = bracketed(f"{it} {k}" for some, k in names(rows, "ClassId") for it in some)
+        return "ClassIds", [tried_beside(rows, "ClassId"), f"named!{ids}"]
+    if "Program" in kinds:
         listed = [(it, f"{it} {k}") for some, k in names(rows, "Program") for it in some]
-        return "Programs", [f"buckets![{in_buckets(listed, BUCKETS)}]"]
+        return "Programs", [tried_beside(rows, "Program"), f"buckets![{in_buckets(listed, BUCKETS)}]"]
     if kinds <= {"Root", "RootWith"}:
         return "Roots", [rooted(rows)]
     told = {"PackageWith"} & kinds

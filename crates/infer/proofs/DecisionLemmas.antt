@@ -1,6 +1,7 @@
 -- What a computation says of a built-in signature and a buffer.
-use Rattle.infer.proofs.Common.{◌≡◌, ◌≤◌, ◌⊎◌, inl, inr, ℕ, suc, ◌+◌, ◌-◌, ◌/◌, List, [], ◌∷◌, ◌++◌, map, length, get_or, replicate, take, eqb, IsTrue, refl, sym, ap, ◌∙◌, codes, arith, append_assoc, Bool, list_any, AllByRecursion, concat, eqb-true, eq-eqb, or_left, or_right, append-nil, take_at, All-replicate, recursion_from_All, front_fits, front_reads, AllPass-from_list_all, HasCompatible, IsBoxed, word_id, old_excel_id, excel_id, powerpoint_id, OccursAt, IsFrame, IsFramed, SkipsTo, le32, be32, zip_header, HasFolder, IsDecidingHeader, IsHeaderFrom, IsThirdHeader, IsOffice, BeginsWithTag, IsHtml, IsMark, IsSpace, IsXml, StandsBy, accepts, stands, BuiltIn, fixed, avif, doc, framed, heif, html, matroska, office, pdf, ppt, xls, xml, IsAccepted}
+use Rattle.infer.proofs.Common.{◌≡◌, ◌≤◌, ◌⊎◌, inl, inr, ℕ, suc, ◌+◌, ◌-◌, ◌/◌, List, [], ◌∷◌, ◌++◌, map, length, get_or, replicate, take, eqb, IsTrue, refl, sym, ap, ◌∙◌, codes, arith, append_assoc, Bool, list_any, AllByRecursion, concat, eqb-true, eq-eqb, or_left, or_right, append-nil, take_at, All-replicate, recursion_from_All, front_fits, front_reads, AllPass-from_list_all, length-append, subst, HasCompatible, IsBoxed, word_id, old_excel_id, excel_id, powerpoint_id, OccursAt, IsFrame, IsFramed, SkipsTo, le32, be32, zip_header, HasFolder, IsDecidingHeader, IsHeaderFrom, IsThirdHeader, IsOffice, BeginsWithTag, IsHtml, IsMark, IsSpace, IsXml, StandsBy, accepts, stands, BuiltIn, fixed, avif, doc, framed, heif, html, matroska, office, pdf, ppt, xls, xml, IsAccepted}
 use Rattle.std.specs.Char.{to_ascii_lowercase}
+use Rattle.std.proofs.Math.Seq.{get_or-append_right}
 use Rattle.std.proofs.lemmas.List.Folds.{list_any-append}
 use Rattle.infer_deep.proofs.PlaceLemmas.{OccursAt-begins, begins-from_OccursAt}
 use Rattle.infer_sig.proofs.ClassIdLemmas.{known_class}
@@ -88,6 +89,19 @@ pub begins_framed : (magic b : List ℕ) (words : List (List ℕ)) (rest : List 
 begins_framed magic b [] rest each whole = inl (ap (take (length magic)) whole ∙ take_at magic rest (length magic) refl)
 begins_framed magic b (w ∷ words) rest each whole = grind (arith, append_assoc, le32-front, front_fits)
 
+-- and it stands somewhere
+pub framed_somewhere : (magic b : List ℕ) → IsFramed magic b → (p : ℕ) × OccursAt b magic p
+framed_somewhere magic b (rest, s, o) =
+    let front = concat s.words in
+    let fits = o.fits in
+    let long = length-append front rest in (
+      length front,
+      subst (λ u. OccursAt u magic (length front)) (sym s.whole) (record {
+        fits = omega arith;
+        reads = λ k lt. get_or-append_right front rest (length front + k) 0 (omega arith) ∙ ap (λ i. get_or rest i 0) (omega arith) ∙ o.reads k lt;
+      }),
+    )
+
 module _ (by_place : ByPlace) (b : List ℕ) where
   abbrev pub occurs : (p : ℕ) (t : List ℕ) → Known (OccursAt b t p)
   occurs p t = Place.occurs by_place t b p
@@ -160,6 +174,7 @@ module _ (by_place : ByPlace) (b : List ℕ) where
     there ← needs (stands_by 4 256 t) (λ h. h.2)
     proved (long, begins, there)
   known (framed magic) = do
+    refuted_if (lacks 0 (suc (length b)) magic b) (λ none h. let (p, o) = framed_somewhere magic b h in nowhere_from by_place magic b 0 p (omega arith) none o)
     begins ← needs (either (same_text (take (length magic) b) magic) (at_most (8 + le32 b 4) (length b)))
         (λ (rest, s, o). begins_framed magic b s.words _ s.each (s.whole ∙ ap (λ u. concat s.words ++ u) (begins-from_OccursAt rest magic o)))
     equal ← takes (same_text b (behind (length b / 1028) long_frame magic))

@@ -1,5 +1,5 @@
 -- The program that a script names, and what more bytes may make of it.
-use Rattle.infer_formats.proofs.Common.{◌≡◌, ◌==◌, ◌||◌, ℕ, zero, suc, ◌+◌, ◌-◌, ◌<◌, ◌≤◌, ◌⊎◌, inl, inr, ap, refl, Bool, true, false, List, ◌++◌, Option, None, Some, length, codes, get_or, sym, subst, ◌∙◌, MatchOption, arith, list_all, get_or_append_left, OccursAt, Lasts, IsEnv, IsFirstWord, IsLineEnd, IsNextWord, IsProgram, IsSetting, IsVersionByte, IsWord, IsWordByte, NamesProgram, IsRun, AgreesAt, MayBecome, grown_agrees, ◌↔◌, IsTrue, not, true≢false, lines, program, EndsBare, IsFolder, IsNameOf, IsRead, StandsByPlace, accepts, stands, cases_lt, drop, nat_tests, slice_index, slice_range}
+use Rattle.infer_formats.proofs.Common.{◌≡◌, ◌==◌, ◌||◌, ◌&&◌, nat_le, if◌then◌else◌, ℕ, zero, suc, ◌+◌, ◌-◌, ◌<◌, ◌≤◌, ◌⊎◌, inl, inr, ap, refl, Bool, true, false, List, ◌++◌, Option, None, Some, length, codes, get_or, sym, subst, ◌∙◌, MatchOption, arith, list_all, get_or_append_left, OccursAt, Lasts, IsEnv, IsFirstWord, IsLineEnd, IsNextWord, IsProgram, IsSetting, IsVersionByte, IsWord, IsWordByte, NamesProgram, IsRun, AgreesAt, MayBecome, grown_agrees, ◌↔◌, IsTrue, not, true≢false, lines, program, EndsBare, IsFolder, IsNameOf, IsRead, StandsByPlace, accepts, stands, cases_lt, drop, nat_tests, slice_index, slice_range}
 use Rattle.std.proofs.lemmas.List.Sums.{AllPass-from_list_all}
 use Rattle.infer_formats.specs.Script.{IsBlank}
 use Rattle.infer_formats.specs.declared.script.Word.{Word}
@@ -8,8 +8,8 @@ use Rattle.infer_formats.proofs.OutlineLemmas.{begins}
 use Rattle.infer_formats.proofs.RunLemmas.{one_after_last, one_run_end}
 use Rattle.std.proofs.Common.{◌≢◌}
 use Rattle.infer_formats.specs.Laws.{Single}
-use Rattle.infer_formats.proofs.LetterLemmas.{Letters, is_letter, letters, letters_from}
-use Rattle.infer_sig.proofs.KnownLemmas.{Known, at_most, needs, negated, proved, same, same_text, takes, ◌>>=◌}
+use Rattle.infer_formats.proofs.LetterLemmas.{Letters, letters, letters_from}
+use Rattle.infer_sig.proofs.KnownLemmas.{Known, at_most, both, either, is, needs, negated, proved, same, same_text, takes, ◌>>=◌}
 use Rattle.infer_sig.proofs.OccurrenceLemmas.{ByPlace, occurs}
 
 -- words that overlap are one
@@ -326,68 +326,102 @@ module _ (by_place : (place : ℕ) (t buf : List ℕ) → IsTrue (stands place t
 
 -- ---- what a computation says of the program of a script
 
--- a word can have letters
-word_letter : (x : ℕ) → IsTrue (is_letter x) → IsWordByte x
-word_letter x h = (λ e. grind (arith, nat_tests), λ e. grind (arith, nat_tests), λ e. grind (arith, nat_tests), λ e. grind (arith, nat_tests))
+-- what stands between words, and what a name has, of which "/" begins another
+abbrev pub is_gap : ℕ → Bool
+is_gap x = (x == 0x20 || x == 0x09) || (x == 0x0A || x == 0x0D)
+
+abbrev pub is_named_byte : ℕ → Bool
+is_named_byte x = not (is_gap x || x == 0x2F)
+
+abbrev pub is_version : ℕ → Bool
+is_version x = (nat_le 0x30 x && nat_le x 0x39) || x == 0x2E
+
+gap_ends : (x : ℕ) → IsTrue (is_gap x) → ¬ IsWordByte x
+gap_ends x h (no_space, no_tab, no_line, no_return) = grind (arith, nat_tests)
+
+byte_of_word : (x : ℕ) → IsTrue (is_named_byte x) → IsWordByte x
+byte_of_word x h = (λ e. grind (arith, nat_tests), λ e. grind (arith, nat_tests), λ e. grind (arith, nat_tests), λ e. grind (arith, nat_tests))
+
+named_no_slash : (x : ℕ) → IsTrue (is_named_byte x) → x ≢ 0x2F
+named_no_slash x h e = grind (arith, nat_tests)
+
+not_version : (x : ℕ) → IsTrue (not (is_version x)) → ¬ IsVersionByte x
+not_version x h (inl (low, high)) = grind (arith, nat_tests)
+not_version x h (inr e) = grind (arith, nat_tests)
 
 module _ (by_place : ByPlace) (single : Single) (b : List ℕ) where
-  -- letters up to `to` name a program
-  pub is_program : (to : ℕ) → OccursAt b (codes "#!") 0 → Letters is_letter b 2 to → 2 < to → to < length b → slice_index b to ≡ 0x0A → ¬ OccursAt b (codes "env") 2
-      → IsProgram (slice_range b 2 to) b
-  is_program to starts letters some whole ends other =
+  -- a name that begins the line, or stands behind the "/" that does, up to a gap
+  pub is_program : (at to : ℕ) → OccursAt b (codes "#!") 0 → (at ≡ 2) ⊎ ((at ≡ 3) × (slice_index b 2 ≡ 0x2F)) → Letters is_named_byte b at to
+      → at < to → to < length b → IsTrue (is_gap (slice_index b to)) → IsTrue (not (is_version (slice_index b (to - 1)))) → ¬ OccursAt b (codes "env") at
+      → IsProgram (slice_range b at to) b
+  is_program at to starts front letters some whole gap bare other =
+      let low : 2 ≤ at = elim front [ inl e ↦ omega arith | inr (e, slash) ↦ omega arith ] in
+      let early : (k : ℕ) → 2 ≤ k → k < at → slice_index b k ≡ 0x2F = λ k from lt. elim front [
+        | inl e ↦ absurd (omega arith)
+        | inr (e, slash) ↦ let same : 2 ≡ k = omega arith in subst (λ i. slice_index b i ≡ 0x2F) same slash
+      ] in
+      let bytes : (k : ℕ) → 2 ≤ k → k < to → IsWordByte (slice_index b k) = λ k from lt. elim (cases_lt k at) [
+        | inl before ↦ let slash = early k from before in (λ e. omega arith, λ e. omega arith, λ e. omega arith, λ e. omega arith)
+        | inr behind ↦ byte_of_word (slice_index b k) (letters k behind lt)
+      ] in
       let word : IsWord b 2 to = record {
         low = omega arith;
-        line = λ k low lt is. omega arith;
+        line = λ k from lt is. omega arith;
         begins = λ lt. absurd (omega arith);
-        some = some;
-        run = record {
-          order = omega arith;
-          bytes = λ k low high. word_letter (slice_index b k) (letters k low high);
-          whole = whole;
-          ends = λ is. is.2 ends;
-        };
+        some = omega arith;
+        run = record { order = omega arith; bytes = bytes; whole = whole; ends = gap_ends (slice_index b to) gap };
       } in
-      let no_slash : (k : ℕ) → 2 ≤ k → k < to → slice_index b k ≢ 0x2F = λ k low high e. (let letter = letters k low high in grind (arith, nat_tests)) in
-      let first : IsFirstWord b 2 to = record { word = word; low = omega arith; has = tt; before = λ p q low lt. absurd (omega arith) } in
-      let not_env : ¬ IsEnv b 2 to = λ (at, name, o, e). elim (cases_lt 2 at) [
-        | inl lt ↦ let high = name.high in no_slash (at - 1) (omega arith) (omega arith) (name.begins lt)
-        | inr le ↦ let low = name.low in let same : at ≡ 2 = omega arith in other (subst (OccursAt b (codes "env")) same o)
-      ] in (
+      let first : IsFirstWord b 2 to = record { word = word; low = omega arith; has = tt; before = λ p q from lt. absurd (omega arith) } in
+      let name : IsNameOf b 2 to at = record {
+        low = low;
+        high = omega arith;
+        begins = λ lt. early (at - 1) (omega arith) (omega arith);
+        last = λ k from lt. named_no_slash (slice_index b k) (letters k from lt);
+      } in
+      let not_env : ¬ IsEnv b 2 to = λ (place, own, o, e). other (subst (OccursAt b (codes "env")) (one_after_last 0x2F b 2 to place at own name) o) in (
         starts,
         (
-          2,
+          at,
           to,
           record {
             from = 2;
             to = to;
             word = inl (first, not_env);
-            name = record { low = omega arith; high = omega arith; begins = λ lt. absurd (omega arith); last = no_slash };
+            name = name;
             bare = record {
               low = omega arith;
               high = omega arith;
-              dropped = λ k low lt. absurd (omega arith);
-              kept = λ lt is. let letter = letters (to - 1) (omega arith) (omega arith) in grind (arith, nat_tests);
+              dropped = λ k from lt. absurd (omega arith);
+              kept = λ lt. not_version (slice_index b (to - 1)) bare;
             };
           },
           refl,
         ),
       )
 
-  -- the program of a line of "#!" and letters
-  abbrev line_end : ℕ
-  line_end = 2 + letters is_letter (drop 2 b)
+  -- where the name begins and ends
+  abbrev name_start : ℕ
+  name_start = if slice_index b 2 == 0x2F then 3 else 2
 
-  abbrev own_program : Known (IsProgram (slice_range b 2 line_end) b)
+  abbrev name_end : ℕ
+  name_end = name_start + letters is_named_byte (drop name_start b)
+
+  abbrev starts_name : Known ((name_start ≡ 2) ⊎ ((name_start ≡ 3) × (slice_index b 2 ≡ 0x2F)))
+  starts_name = either (same name_start 2) (both (same name_start 3) (same (slice_index b 2) 0x2F))
+
+  abbrev own_program : Known (IsProgram (slice_range b name_start name_end) b)
   own_program = do
     starts ← takes (occurs by_place (codes "#!") b 0)
-    some ← takes (at_most 3 line_end)
-    whole ← takes (at_most (suc line_end) (length b))
-    ends ← takes (same (slice_index b line_end) 0x0A)
-    other ← takes (negated (occurs by_place (codes "env") b 2))
-    proved (is_program line_end starts (letters_from is_letter b 2) (omega arith) (omega arith) ends other)
+    front ← takes starts_name
+    some ← takes (at_most (suc name_start) name_end)
+    whole ← takes (at_most (suc name_end) (length b))
+    gap ← takes (is (is_gap (slice_index b name_end)))
+    bare ← takes (is (not (is_version (slice_index b (name_end - 1)))))
+    other ← takes (negated (occurs by_place (codes "env") b name_start))
+    proved (is_program name_start name_end starts front (letters_from is_named_byte b name_start) (omega arith) (omega arith) gap bare other)
 
   abbrev pub known_program : (name : List ℕ) → Known (IsProgram name b)
   known_program name = do
     own ← takes own_program
-    equal ← needs (same_text name (slice_range b 2 line_end)) (λ is. single.program b name (slice_range b 2 line_end) is own)
+    equal ← needs (same_text name (slice_range b name_start name_end)) (λ is. single.program b name (slice_range b name_start name_end) is own)
     proved (subst (λ n. IsProgram n b) (sym equal) own)

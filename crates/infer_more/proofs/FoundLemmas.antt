@@ -177,8 +177,14 @@ module _ (by_place : (place : ℕ) (t buf : List ℕ) → IsTrue (stands place t
     found_by : (way : below.Below) (a : Alternative) → IsTrue (is_found_below way i a) → Fits a b → IsFoundBelow way parent b i
     found_by Nothing a h k = absurd (cc)
     found_by (Entries entries) a h k = (tried entries.now a h k, w)
-    found_by (ClassIds ids) a h k = in_class_ids ids.now a h k
-    found_by (Programs lists) a h k = in_programs lists.now a h k
+    found_by (ClassIds entries ids) a h k = elim (or_cases (is_in_class_ids i ids.now a) _ h) [
+      | inl e ↦ inr (in_class_ids ids.now a e k)
+      | inr e ↦ inl (tried entries.now a e k, w)
+    ]
+    found_by (Programs entries lists) a h k = elim (or_cases (is_in_programs i lists.now a) _ h) [
+      | inl e ↦ inr (in_programs lists.now a e k)
+      | inr e ↦ inl (tried entries.now a e k, w)
+    ]
     found_by (Roots roots) a h k = in_roots roots.now a h k
     found_by (Packages entries excepts folders) a h k = elim (or_cases (is_in_folders i folders.now a) _ h) [
       | inl e ↦ inr (in_folders folders.now a e k)
@@ -319,13 +325,17 @@ module _ (b : List ℕ) where
   widens_below : (parent : ℕ) (way : below.Below) (i : ℕ) → IsTrue (is_true_below parent way) → IsFoundBelow way parent b i → WidensAt (Some parent) b i
   widens_below parent Nothing i h is = absurd (is)
   widens_below parent (Entries entries) i h is = is.1
-  widens_below parent (ClassIds ids) i h is =
+  widens_below parent (ClassIds entries ids) i h (inl is) = is.1
+  widens_below parent (ClassIds entries ids) i h (inr is) =
       rows_widen named_row (λ e. HasClassId e.name.now b) (λ e. asks_class_id e.name.now) (Some parent) b (λ e p. fits_class_id e.name.now p) ids.now i
-      (second_of_each (λ e. length e.name.now == 16) (λ e. is_row_with (Some parent) (asks_class_id e.name.now) e.row) ids.now (both_right (ascends named_row ids.now) _ h)) is
-  widens_below parent (Programs lists) i h (name, p, is) =
+      (second_of_each (λ e. length e.name.now == 16) (λ e. is_row_with (Some parent) (asks_class_id e.name.now) e.row) ids.now
+      (both_left (list_all (λ e. length e.name.now == 16 && is_row_with (Some parent) (asks_class_id e.name.now) e.row) ids.now) _ (both_right (ascends named_row ids.now) _ h))) is
+  widens_below parent (Programs entries lists) i h (inl is) = is.1
+  widens_below parent (Programs entries lists) i h (inr (name, p, is)) =
       rows_widen named_row (λ e. e.name.now ≡ name) (λ e. asks_program e.name.now) (Some parent) b
       (λ e same. fits_program e.name.now (subst (λ n. IsProgram n b) (sym same) p)) (bucket_of lists.now name) i
-      (listed_in_bucket (list_all (λ e. is_row_with (Some parent) (asks_program e.name.now) e.row)) refl 32 lists.now name (both_right (all_ascend named_row lists.now) _ h)) is
+      (listed_in_bucket (list_all (λ e. is_row_with (Some parent) (asks_program e.name.now) e.row)) refl 32 lists.now name
+      (both_left (list_all (λ names. list_all (λ e. is_row_with (Some parent) (asks_program e.name.now) e.row) names.now) lists.now) _ (both_right (all_ascend named_row lists.now) _ h))) is
   widens_below parent (Roots roots) i h is = widens_root (Some parent) roots.now i (both_right (all_ascend rooted_row roots.now) _ h) is
   widens_below parent (Packages entries excepts folders) i h (inl is) = is.1
   widens_below parent (Packages entries excepts folders) i h (inr is) =
@@ -404,10 +414,10 @@ module _ (parent : ℕ) where
   abbrev is_class_id : Named → Bool
   is_class_id e = length e.name.now == 16 && is_row_with (Some parent) (asks_class_id e.name.now) e.row
 
-  pub are_class_ids : (ids : Bor (List Named)) → IsTrue (is_true_below parent (ClassIds ids)) → AreClassIds ids.now
-  are_class_ids ids h = λ k d lt.
+  pub are_class_ids : (entries : Bor (List Entry)) (ids : Bor (List Named)) → IsTrue (is_true_below parent (ClassIds entries ids)) → AreClassIds ids.now
+  are_class_ids entries ids h = λ k d lt.
       let long = length (get_or ids.now k d).name.now in
-      eqb-true long 16 (both_left (long == 16) _ (AllPass-from_list_all is_class_id ids.now (both_right (ascends named_row ids.now) _ h) k d lt))
+      eqb-true long 16 (both_left (long == 16) _ (AllPass-from_list_all is_class_id ids.now (both_left (list_all is_class_id ids.now) _ (both_right (ascends named_row ids.now) _ h)) k d lt))
 
 -- a row is found by its parent, or without one
 module _ (i : ℕ) (r : Further) (found : slice_get further i ≡ Some r) (lt : i < length further) where

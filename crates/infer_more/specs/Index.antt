@@ -272,8 +272,8 @@ IsTold index b i = IsRooted b index.roots.now i ⊎ IsKeyed b index.keys.now i
 abbrev pub IsFoundBelow : below.Below → ℕ → List ℕ → ℕ → Type 0
 IsFoundBelow Nothing parent b i = ⊥
 IsFoundBelow (Entries entries) parent b i = IsTried (Some parent) b (candidates b entries.now) i
-IsFoundBelow (ClassIds ids) parent b i = IsNamed (λ id. HasClassId id b) ids.now i
-IsFoundBelow (Programs lists) parent b i = IsOfProgram b lists.now i
+IsFoundBelow (ClassIds entries ids) parent b i = IsTried (Some parent) b (candidates b entries.now) i ⊎ IsNamed (λ id. HasClassId id b) ids.now i
+IsFoundBelow (Programs entries lists) parent b i = IsTried (Some parent) b (candidates b entries.now) i ⊎ IsOfProgram b lists.now i
 IsFoundBelow (Roots roots) parent b i = IsRooted b roots.now i
 IsFoundBelow (Packages entries excepts folders) parent b i =
     IsTried (Some parent) b (candidates b entries.now ++ excepted b excepts.now) i ⊎ IsNamed (λ folder. IsPackageWith folder b) folders.now i
@@ -437,8 +437,8 @@ is_in_folders i folders other = false
 abbrev pub is_found_below : below.Below → ℕ → Alternative → Bool
 is_found_below Nothing i a = false
 is_found_below (Entries entries) i a = is_tried_below i entries.now a
-is_found_below (ClassIds ids) i a = is_in_class_ids i ids.now a
-is_found_below (Programs lists) i a = is_in_programs i lists.now a
+is_found_below (ClassIds entries ids) i a = is_in_class_ids i ids.now a || is_tried_below i entries.now a
+is_found_below (Programs entries lists) i a = is_in_programs i lists.now a || is_tried_below i entries.now a
 is_found_below (Roots roots) i a = is_in_roots i roots.now a
 is_found_below (Packages entries excepts folders) i a = is_in_folders i folders.now a || is_tried_in i entries.now excepts.now a
 
@@ -537,12 +537,14 @@ are_roots_of parent buckets = list_all (λ some. list_all (λ e. is_row_with par
 -- so is each name below that row, and the rows ascend
 abbrev pub is_true_below : ℕ → below.Below → Bool
 is_true_below parent (Entries entries) = ascends entry_row entries.now
-is_true_below parent (ClassIds ids) =
+is_true_below parent (ClassIds entries ids) =
     ascends named_row ids.now
-    && list_all (λ e. length e.name.now == 16 && is_row_with (Some parent) (asks_class_id e.name.now) e.row) ids.now
-is_true_below parent (Programs lists) =
+    && (list_all (λ e. length e.name.now == 16 && is_row_with (Some parent) (asks_class_id e.name.now) e.row) ids.now
+    && ascends entry_row entries.now)
+is_true_below parent (Programs entries lists) =
     all_ascend named_row lists.now
-    && list_all (λ names. list_all (λ e. is_row_with (Some parent) (asks_program e.name.now) e.row) names.now) lists.now
+    && (list_all (λ names. list_all (λ e. is_row_with (Some parent) (asks_program e.name.now) e.row) names.now) lists.now
+    && ascends entry_row entries.now)
 is_true_below parent (Roots roots) = all_ascend rooted_row roots.now && are_roots_of (Some parent) roots.now
 is_true_below parent (Packages entries excepts folders) =
     ascends named_row folders.now

@@ -994,6 +994,9 @@ mended =
     ∷ row Image (codes "image/x-sony-arw") (codes "arw") (Some TIFF) (related (directory_tag_and_make 0x014A (codes "SONY")) ∷ [])
     ∷ row Image (codes "image/x-kodak-kdc") (codes "kdc") (Some TIFF) (at_least 263 (text 242 (codes "EASTMAN KODAK COMPANY") ∷ []) ∷ [])
     ∷ row Image (codes "image/x-phaseone-iiq") (codes "iiq") (Some TIFF) (at_least 12 (text 8 (codes "IIII") ∷ []) ∷ [])
+    ∷ row Video (codes "application/x-aaf") (codes "aaf") (Some MSI) (at_least 16 (text 8 (codes "AAFB" ++ 0x0D ∷ 0x00 ∷ [] ++ codes "OM") ∷ []) ∷ [])
+    ∷ row Archive (codes "application/x-shar") (codes "shar") (Some SHELLSCRIPT) (at_least 35 (text 10 (codes "# This is a shell archive") ∷ []) ∷ [])
+    ∷ row Audio (codes "audio/amr-wb") (codes "awb") (Some SHELLSCRIPT) (at_least 9 (text 0 (codes "#!AMR-WB" ++ 0x0A ∷ []) ∷ []) ∷ [])
     ∷ []
 
 -- texts that begin with a text of their own

@@ -86,10 +86,10 @@ pub(crate) enum Below {
     Nothing,
     /// By trying those of which a buffer has the byte, up to the first that widens the answer.
     Entries(&'static [Entry]),
-    /// By the class id of a compound file.
-    ClassIds(&'static [Named]),
-    /// By the program of a script. The names stand in buckets, by the low five bits of their first byte.
-    Programs(&'static [&'static [Named]]),
+    /// By trying some, and by the class id of a compound file.
+    ClassIds(&'static [Entry], &'static [Named]),
+    /// By trying some, and by the program of a script. The names stand in buckets, by the low five bits of their first byte.
+    Programs(&'static [Entry], &'static [&'static [Named]]),
     /// By the root element. The names stand in buckets, by the low three bits of their first byte.
     Roots(&'static [&'static [Rooted]]),
     /// By trying some, and by the folder of an application in a package.

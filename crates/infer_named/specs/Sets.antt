@@ -104,2861 +104,2873 @@ rows-aac = 19
 abbrev pub rows-aac-adif : ℕ
 rows-aac-adif = 20
 
+abbrev pub rows-aaf : ℕ
+rows-aaf = 21
+
 abbrev pub rows-aax : ℕ
-rows-aax = 21
+rows-aax = 22
 
 abbrev pub rows-abc : ℕ
-rows-abc = 22
+rows-abc = 23
 
 abbrev pub rows-abw : ℕ
-rows-abw = 23
+rows-abw = 24
 
 abbrev pub rows-ac3 : ℕ
-rows-ac3 = 24
+rows-ac3 = 25
 
 abbrev pub rows-accdb : ℕ
-rows-accdb = 25
+rows-accdb = 26
 
 abbrev pub rows-ace : ℕ
-rows-ace = 26
+rows-ace = 27
 
 abbrev pub rows-adf : ℕ
-rows-adf = 27
+rows-adf = 28
 
 abbrev pub rows-aes : ℕ
-rows-aes = 28
+rows-aes = 29
 
 abbrev pub rows-afm : ℕ
-rows-afm = 29
+rows-afm = 30
 
 abbrev pub rows-ag : ℕ
-rows-ag = 30
+rows-ag = 31
 
 abbrev pub rows-age : ℕ
-rows-age = 31
+rows-age = 32
 
 abbrev pub rows-age-asc-cms-crl-application-x-pem-key-csr-openssh-p7c-param-pgp-pubkey-sig-sshsig : ℕ
-rows-age-asc-cms-crl-application-x-pem-key-csr-openssh-p7c-param-pgp-pubkey-sig-sshsig = 32
+rows-age-asc-cms-crl-application-x-pem-key-csr-openssh-p7c-param-pgp-pubkey-sig-sshsig = 33
 
 abbrev pub rows-agekey : ℕ
-rows-agekey = 33
+rows-agekey = 34
 
 abbrev pub rows-aifc : ℕ
-rows-aifc = 34
+rows-aifc = 35
 
 abbrev pub rows-aiff : ℕ
-rows-aiff = 35
+rows-aiff = 36
 
 abbrev pub rows-alz : ℕ
-rows-alz = 36
+rows-alz = 37
 
 abbrev pub rows-amf : ℕ
-rows-amf = 37
+rows-amf = 38
 
 abbrev pub rows-aml : ℕ
-rows-aml = 38
+rows-aml = 39
 
 abbrev pub rows-amr : ℕ
-rows-amr = 39
+rows-amr = 40
 
 abbrev pub rows-amv : ℕ
-rows-amv = 40
+rows-amv = 41
 
 abbrev pub rows-ani : ℕ
-rows-ani = 41
+rows-ani = 42
 
 abbrev pub rows-anim : ℕ
-rows-anim = 42
+rows-anim = 43
 
 abbrev pub rows-ape : ℕ
-rows-ape = 43
+rows-ape = 44
 
 abbrev pub rows-apfs-bootimg-cramfs-erofs-exfat-f2fs-fat-gpt-hfsplus-jffs2-lvm-ntfs-romfs-simg-ubi-ubifs-xfs : ℕ
-rows-apfs-bootimg-cramfs-erofs-exfat-f2fs-fat-gpt-hfsplus-jffs2-lvm-ntfs-romfs-simg-ubi-ubifs-xfs = 44
+rows-apfs-bootimg-cramfs-erofs-exfat-f2fs-fat-gpt-hfsplus-jffs2-lvm-ntfs-romfs-simg-ubi-ubifs-xfs = 45
 
 abbrev pub rows-apk : ℕ
-rows-apk = 45
+rows-apk = 46
 
 abbrev pub rows-apk-jar-zip : ℕ
-rows-apk-jar-zip = 46
+rows-apk-jar-zip = 47
 
 abbrev pub rows-apm : ℕ
-rows-apm = 47
+rows-apm = 48
 
 abbrev pub rows-apng : ℕ
-rows-apng = 48
+rows-apng = 49
 
 abbrev pub rows-aportis-plucker : ℕ
-rows-aportis-plucker = 49
+rows-aportis-plucker = 50
 
 abbrev pub rows-appimage : ℕ
-rows-appimage = 50
+rows-appimage = 51
 
 abbrev pub rows-appimage-core-cubin-o-so : ℕ
-rows-appimage-core-cubin-o-so = 51
+rows-appimage-core-cubin-o-so = 52
 
 abbrev pub rows-application-vnd-apple-keynote : ℕ
-rows-application-vnd-apple-keynote = 52
+rows-application-vnd-apple-keynote = 53
 
 abbrev pub rows-application-x-installshield : ℕ
-rows-application-x-installshield = 53
+rows-application-x-installshield = 54
 
 abbrev pub rows-application-x-msi : ℕ
-rows-application-x-msi = 54
+rows-application-x-msi = 55
 
 abbrev pub rows-application-x-ole-storage : ℕ
-rows-application-x-ole-storage = 55
+rows-application-x-ole-storage = 56
 
 abbrev pub rows-application-x-ole-storage-pptm-pptx-zip : ℕ
-rows-application-x-ole-storage-pptm-pptx-zip = 56
+rows-application-x-ole-storage-pptm-pptx-zip = 57
 
 abbrev pub rows-application-x-ole-storage-pptx-zip : ℕ
-rows-application-x-ole-storage-pptx-zip = 57
+rows-application-x-ole-storage-pptx-zip = 58
 
 abbrev pub rows-application-x-ole-storage-xlsm-xlsx-zip : ℕ
-rows-application-x-ole-storage-xlsm-xlsx-zip = 58
+rows-application-x-ole-storage-xlsm-xlsx-zip = 59
 
 abbrev pub rows-application-x-ole-storage-xlsx-zip : ℕ
-rows-application-x-ole-storage-xlsx-zip = 59
+rows-application-x-ole-storage-xlsx-zip = 60
 
 abbrev pub rows-application-x-ole-storage-zip : ℕ
-rows-application-x-ole-storage-zip = 60
+rows-application-x-ole-storage-zip = 61
 
 abbrev pub rows-application-x-pem-key : ℕ
-rows-application-x-pem-key = 61
+rows-application-x-pem-key = 62
 
 abbrev pub rows-aptcache : ℕ
-rows-aptcache = 62
+rows-aptcache = 63
 
 abbrev pub rows-ar : ℕ
-rows-ar = 63
+rows-ar = 64
 
 abbrev pub rows-ar-thin : ℕ
-rows-ar-thin = 64
+rows-ar-thin = 65
 
 abbrev pub rows-arj : ℕ
-rows-arj = 65
+rows-arj = 66
 
 abbrev pub rows-arrow : ℕ
-rows-arrow = 66
+rows-arrow = 67
 
 abbrev pub rows-arsc : ℕ
-rows-arsc = 67
+rows-arsc = 68
 
 abbrev pub rows-arw : ℕ
-rows-arw = 68
+rows-arw = 69
 
 abbrev pub rows-as : ℕ
-rows-as = 69
+rows-as = 70
 
 abbrev pub rows-asar : ℕ
-rows-asar = 70
+rows-asar = 71
 
 abbrev pub rows-asc : ℕ
-rows-asc = 71
+rows-asc = 72
 
 abbrev pub rows-astc : ℕ
-rows-astc = 72
+rows-astc = 73
 
 abbrev pub rows-asx : ℕ
-rows-asx = 73
+rows-asx = 74
 
 abbrev pub rows-atom : ℕ
-rows-atom = 74
+rows-atom = 75
 
 abbrev pub rows-au : ℕ
-rows-au = 75
+rows-au = 76
 
 abbrev pub rows-aup : ℕ
-rows-aup = 76
+rows-aup = 77
 
 abbrev pub rows-aup3 : ℕ
-rows-aup3 = 77
+rows-aup3 = 78
 
 abbrev pub rows-aup3-fossil-gpkg-mbtiles-mtn : ℕ
-rows-aup3-fossil-gpkg-mbtiles-mtn = 78
+rows-aup3-fossil-gpkg-mbtiles-mtn = 79
 
 abbrev pub rows-avi : ℕ
-rows-avi = 79
+rows-avi = 80
 
 abbrev pub rows-avif : ℕ
-rows-avif = 80
+rows-avif = 81
 
 abbrev pub rows-avr : ℕ
-rows-avr = 81
+rows-avr = 82
 
 abbrev pub rows-avro : ℕ
-rows-avro = 82
+rows-avro = 83
 
 abbrev pub rows-aw : ℕ
-rows-aw = 83
+rows-aw = 84
+
+abbrev pub rows-awb : ℕ
+rows-awb = 85
 
 abbrev pub rows-awbm : ℕ
-rows-awbm = 84
+rows-awbm = 86
 
 abbrev pub rows-awk : ℕ
-rows-awk = 85
+rows-awk = 87
 
 abbrev pub rows-axml : ℕ
-rows-axml = 86
+rows-axml = 88
 
 abbrev pub rows-ay : ℕ
-rows-ay = 87
+rows-ay = 89
 
 abbrev pub rows-bai : ℕ
-rows-bai = 88
+rows-bai = 90
 
 abbrev pub rows-bam : ℕ
-rows-bam = 89
+rows-bam = 91
 
 abbrev pub rows-bat : ℕ
-rows-bat = 90
+rows-bat = 92
 
 abbrev pub rows-bc : ℕ
-rows-bc = 91
+rows-bc = 93
 
 abbrev pub rows-bc-bcw : ℕ
-rows-bc-bcw = 92
+rows-bc-bcw = 94
 
 abbrev pub rows-bcachefs : ℕ
-rows-bcachefs = 93
+rows-bcachefs = 95
 
 abbrev pub rows-bcstm : ℕ
-rows-bcstm = 94
+rows-bcstm = 96
 
 abbrev pub rows-bcwav : ℕ
-rows-bcwav = 95
+rows-bcwav = 97
 
 abbrev pub rows-bdb : ℕ
-rows-bdb = 96
+rows-bdb = 98
 
 abbrev pub rows-bdf : ℕ
-rows-bdf = 97
+rows-bdf = 99
 
 abbrev pub rows-bdfb : ℕ
-rows-bdfb = 98
+rows-bdfb = 100
 
 abbrev pub rows-beam : ℕ
-rows-beam = 99
+rows-beam = 101
 
 abbrev pub rows-bfstm : ℕ
-rows-bfstm = 100
+rows-bfstm = 102
 
 abbrev pub rows-bgzf-karbon-kil-kpr-ksp-kwd : ℕ
-rows-bgzf-karbon-kil-kpr-ksp-kwd = 101
+rows-bgzf-karbon-kil-kpr-ksp-kwd = 103
 
 abbrev pub rows-bib : ℕ
-rows-bib = 102
+rows-bib = 104
 
 abbrev pub rows-biff-xls : ℕ
-rows-biff-xls = 103
+rows-biff-xls = 105
 
 abbrev pub rows-bik : ℕ
-rows-bik = 104
+rows-bik = 106
 
 abbrev pub rows-blb : ℕ
-rows-blb = 105
+rows-blb = 107
 
 abbrev pub rows-blend : ℕ
-rows-blend = 106
+rows-blend = 108
 
 abbrev pub rows-blp : ℕ
-rows-blp = 107
+rows-blp = 109
 
 abbrev pub rows-bmp : ℕ
-rows-bmp = 108
+rows-bmp = 110
 
 abbrev pub rows-bmp-dib : ℕ
-rows-bmp-dib = 109
+rows-bmp-dib = 111
 
 abbrev pub rows-bookmarks : ℕ
-rows-bookmarks = 110
+rows-bookmarks = 112
 
 abbrev pub rows-bootimg : ℕ
-rows-bootimg = 111
+rows-bootimg = 113
 
 abbrev pub rows-bpg : ℕ
-rows-bpg = 112
+rows-bpg = 114
 
 abbrev pub rows-bplist : ℕ
-rows-bplist = 113
+rows-bplist = 115
 
 abbrev pub rows-bps : ℕ
-rows-bps = 114
+rows-bps = 116
 
 abbrev pub rows-brstm : ℕ
-rows-brstm = 115
+rows-brstm = 117
 
 abbrev pub rows-bsdiff : ℕ
-rows-bsdiff = 116
+rows-bsdiff = 118
 
 abbrev pub rows-bsp : ℕ
-rows-bsp = 117
+rows-bsp = 119
 
 abbrev pub rows-btf-tif : ℕ
-rows-btf-tif = 118
+rows-btf-tif = 120
 
 abbrev pub rows-bufr : ℕ
-rows-bufr = 119
+rows-bufr = 121
 
 abbrev pub rows-bz1-bz2 : ℕ
-rows-bz1-bz2 = 120
+rows-bz1-bz2 = 122
 
 abbrev pub rows-bz2 : ℕ
-rows-bz2 = 121
+rows-bz2 = 123
 
 abbrev pub rows-bz2-gz-xz : ℕ
-rows-bz2-gz-xz = 122
+rows-bz2-gz-xz = 124
 
 abbrev pub rows-bz3 : ℕ
-rows-bz3 = 123
+rows-bz3 = 125
 
 abbrev pub rows-bzimage : ℕ
-rows-bzimage = 124
+rows-bzimage = 126
 
 abbrev pub rows-cab : ℕ
-rows-cab = 125
+rows-cab = 127
 
 abbrev pub rows-caf : ℕ
-rows-caf = 126
+rows-caf = 128
 
 abbrev pub rows-cbor : ℕ
-rows-cbor = 127
+rows-cbor = 129
 
 abbrev pub rows-cci : ℕ
-rows-cci = 128
+rows-cci = 130
 
 abbrev pub rows-ccmx : ℕ
-rows-ccmx = 129
+rows-ccmx = 131
 
 abbrev pub rows-cdf : ℕ
-rows-cdf = 130
+rows-cdf = 132
 
 abbrev pub rows-cdr : ℕ
-rows-cdr = 131
+rows-cdr = 133
 
 abbrev pub rows-cdx : ℕ
-rows-cdx = 132
+rows-cdx = 134
 
 abbrev pub rows-cdxa : ℕ
-rows-cdxa = 133
+rows-cdxa = 135
 
 abbrev pub rows-cer : ℕ
-rows-cer = 134
+rows-cer = 136
 
 abbrev pub rows-cer-crl : ℕ
-rows-cer-crl = 135
+rows-cer-crl = 137
 
 abbrev pub rows-cer-p10-p8-pkipath : ℕ
-rows-cer-p10-p8-pkipath = 136
+rows-cer-p10-p8-pkipath = 138
 
 abbrev pub rows-chd : ℕ
-rows-chd = 137
+rows-chd = 139
 
 abbrev pub rows-chm : ℕ
-rows-chm = 138
+rows-chm = 140
 
 abbrev pub rows-chrt : ℕ
-rows-chrt = 139
+rows-chrt = 141
 
 abbrev pub rows-cin : ℕ
-rows-cin = 140
+rows-cin = 142
 
 abbrev pub rows-class : ℕ
-rows-class = 141
+rows-class = 143
 
 abbrev pub rows-clj : ℕ
-rows-clj = 142
+rows-clj = 144
 
 abbrev pub rows-cloudcfg : ℕ
-rows-cloudcfg = 143
+rows-cloudcfg = 145
 
 abbrev pub rows-cma : ℕ
-rows-cma = 144
+rows-cma = 146
 
 abbrev pub rows-cmap-eps-pfa-t2t : ℕ
-rows-cmap-eps-pfa-t2t = 145
+rows-cmap-eps-pfa-t2t = 147
 
 abbrev pub rows-cmi : ℕ
-rows-cmi = 146
+rows-cmi = 148
 
 abbrev pub rows-cml : ℕ
-rows-cml = 147
+rows-cml = 149
 
 abbrev pub rows-cmo : ℕ
-rows-cmo = 148
+rows-cmo = 150
 
 abbrev pub rows-cmt : ℕ
-rows-cmt = 149
+rows-cmt = 151
 
 abbrev pub rows-cmx : ℕ
-rows-cmx = 150
+rows-cmx = 152
 
 abbrev pub rows-cmxa : ℕ
-rows-cmxa = 151
+rows-cmxa = 153
 
 abbrev pub rows-cmxr : ℕ
-rows-cmxr = 152
+rows-cmxr = 154
 
 abbrev pub rows-core : ℕ
-rows-core = 153
+rows-core = 155
 
 abbrev pub rows-cpi : ℕ
-rows-cpi = 154
+rows-cpi = 156
 
 abbrev pub rows-cpio : ℕ
-rows-cpio = 155
+rows-cpio = 157
 
 abbrev pub rows-cpt : ℕ
-rows-cpt = 156
+rows-cpt = 158
 
 abbrev pub rows-cr2 : ℕ
-rows-cr2 = 157
+rows-cr2 = 159
 
 abbrev pub rows-cr2-dng : ℕ
-rows-cr2-dng = 158
+rows-cr2-dng = 160
 
 abbrev pub rows-cr3 : ℕ
-rows-cr3 = 159
+rows-cr3 = 161
 
 abbrev pub rows-cram : ℕ
-rows-cram = 160
+rows-cram = 162
 
 abbrev pub rows-cramfs : ℕ
-rows-cramfs = 161
+rows-cramfs = 163
 
 abbrev pub rows-crl : ℕ
-rows-crl = 162
+rows-crl = 164
 
 abbrev pub rows-crw : ℕ
-rows-crw = 163
+rows-crw = 165
 
 abbrev pub rows-crx : ℕ
-rows-crx = 164
+rows-crx = 166
 
 abbrev pub rows-csh : ℕ
-rows-csh = 165
+rows-csh = 167
 
 abbrev pub rows-csi : ℕ
-rows-csi = 166
+rows-csi = 168
 
 abbrev pub rows-cso : ℕ
-rows-cso = 167
+rows-cso = 169
 
 abbrev pub rows-csr-p10 : ℕ
-rows-csr-p10 = 168
+rows-csr-p10 = 170
 
 abbrev pub rows-cubin : ℕ
-rows-cubin = 169
+rows-cubin = 171
 
 abbrev pub rows-cue : ℕ
-rows-cue = 170
+rows-cue = 172
 
 abbrev pub rows-cupsraster : ℕ
-rows-cupsraster = 171
+rows-cupsraster = 173
 
 abbrev pub rows-cur : ℕ
-rows-cur = 172
+rows-cur = 174
 
 abbrev pub rows-cwk : ℕ
-rows-cwk = 173
+rows-cwk = 175
 
 abbrev pub rows-czi : ℕ
-rows-czi = 174
+rows-czi = 176
 
 abbrev pub rows-dae : ℕ
-rows-dae = 175
+rows-dae = 177
 
 abbrev pub rows-dar : ℕ
-rows-dar = 176
+rows-dar = 178
 
 abbrev pub rows-dart : ℕ
-rows-dart = 177
+rows-dart = 179
 
 abbrev pub rows-dbf : ℕ
-rows-dbf = 178
+rows-dbf = 180
 
 abbrev pub rows-dbk : ℕ
-rows-dbk = 179
+rows-dbk = 181
 
 abbrev pub rows-dbm : ℕ
-rows-dbm = 180
+rows-dbm = 182
 
 abbrev pub rows-dbpf : ℕ
-rows-dbpf = 181
+rows-dbpf = 183
 
 abbrev pub rows-dbusservice : ℕ
-rows-dbusservice = 182
+rows-dbusservice = 184
 
 abbrev pub rows-dc-gcm-saturn-segacd : ℕ
-rows-dc-gcm-saturn-segacd = 183
+rows-dc-gcm-saturn-segacd = 185
 
 abbrev pub rows-dcm : ℕ
-rows-dcm = 184
+rows-dcm = 186
 
 abbrev pub rows-dcr : ℕ
-rows-dcr = 185
+rows-dcr = 187
 
 abbrev pub rows-dcx : ℕ
-rows-dcx = 186
+rows-dcx = 188
 
 abbrev pub rows-dds : ℕ
-rows-dds = 187
+rows-dds = 189
 
 abbrev pub rows-deb : ℕ
-rows-deb = 188
+rows-deb = 190
 
 abbrev pub rows-deb-goa : ℕ
-rows-deb-goa = 189
+rows-deb-goa = 191
 
 abbrev pub rows-der : ℕ
-rows-der = 190
+rows-der = 192
 
 abbrev pub rows-der-application-x-pem-key-pem : ℕ
-rows-der-application-x-pem-key-pem = 191
+rows-der-application-x-pem-key-pem = 193
 
 abbrev pub rows-der-p7b-pem : ℕ
-rows-der-p7b-pem = 192
+rows-der-p7b-pem = 194
 
 abbrev pub rows-der-pem : ℕ
-rows-der-pem = 193
+rows-der-pem = 195
 
 abbrev pub rows-der-pem-txt : ℕ
-rows-der-pem-txt = 194
+rows-der-pem-txt = 196
 
 abbrev pub rows-desktop : ℕ
-rows-desktop = 195
+rows-desktop = 197
 
 abbrev pub rows-dex : ℕ
-rows-dex = 196
+rows-dex = 198
 
 abbrev pub rows-dey : ℕ
-rows-dey = 197
+rows-dey = 199
 
 abbrev pub rows-dff : ℕ
-rows-dff = 198
+rows-dff = 200
 
 abbrev pub rows-dfont : ℕ
-rows-dfont = 199
+rows-dfont = 201
 
 abbrev pub rows-dgn : ℕ
-rows-dgn = 200
+rows-dgn = 202
 
 abbrev pub rows-dia : ℕ
-rows-dia = 201
+rows-dia = 203
 
 abbrev pub rows-diashape : ℕ
-rows-diashape = 202
+rows-diashape = 204
 
 abbrev pub rows-dif : ℕ
-rows-dif = 203
+rows-dif = 205
 
 abbrev pub rows-diff : ℕ
-rows-diff = 204
+rows-diff = 206
 
 abbrev pub rows-djvm : ℕ
-rows-djvm = 205
+rows-djvm = 207
 
 abbrev pub rows-djvu : ℕ
-rows-djvu = 206
+rows-djvu = 208
 
 abbrev pub rows-dmp : ℕ
-rows-dmp = 207
+rows-dmp = 209
 
 abbrev pub rows-dng : ℕ
-rows-dng = 208
+rows-dng = 210
 
 abbrev pub rows-doc-doc2 : ℕ
-rows-doc-doc2 = 209
+rows-doc-doc2 = 211
 
 abbrev pub rows-docker : ℕ
-rows-docker = 210
+rows-docker = 212
 
 abbrev pub rows-docm : ℕ
-rows-docm = 211
+rows-docm = 213
 
 abbrev pub rows-docm-docx-application-x-ole-storage-zip : ℕ
-rows-docm-docx-application-x-ole-storage-zip = 212
+rows-docm-docx-application-x-ole-storage-zip = 214
 
 abbrev pub rows-docx : ℕ
-rows-docx = 213
+rows-docx = 215
 
 abbrev pub rows-docx-application-x-ole-storage-zip : ℕ
-rows-docx-application-x-ole-storage-zip = 214
+rows-docx-application-x-ole-storage-zip = 216
 
 abbrev pub rows-dpx : ℕ
-rows-dpx = 215
+rows-dpx = 217
 
 abbrev pub rows-drc : ℕ
-rows-drc = 216
+rows-drc = 218
 
 abbrev pub rows-drdoscpi : ℕ
-rows-drdoscpi = 217
+rows-drdoscpi = 219
 
 abbrev pub rows-dsc : ℕ
-rows-dsc = 218
+rows-dsc = 220
 
 abbrev pub rows-dsf : ℕ
-rows-dsf = 219
+rows-dsf = 221
 
 abbrev pub rows-dss : ℕ
-rows-dss = 220
+rows-dss = 222
 
 abbrev pub rows-dtb : ℕ
-rows-dtb = 221
+rows-dtb = 223
 
 abbrev pub rows-dts : ℕ
-rows-dts = 222
+rows-dts = 224
 
 abbrev pub rows-dtsi : ℕ
-rows-dtsi = 223
+rows-dtsi = 225
 
 abbrev pub rows-dv : ℕ
-rows-dv = 224
+rows-dv = 226
 
 abbrev pub rows-dvb : ℕ
-rows-dvb = 225
+rows-dvb = 227
 
 abbrev pub rows-dvi : ℕ
-rows-dvi = 226
+rows-dvi = 228
 
 abbrev pub rows-dwg : ℕ
-rows-dwg = 227
+rows-dwg = 229
 
 abbrev pub rows-dxf : ℕ
-rows-dxf = 228
+rows-dxf = 230
 
 abbrev pub rows-e57 : ℕ
-rows-e57 = 229
+rows-e57 = 231
 
 abbrev pub rows-eac3 : ℕ
-rows-eac3 = 230
+rows-eac3 = 232
 
 abbrev pub rows-edf : ℕ
-rows-edf = 231
+rows-edf = 233
 
 abbrev pub rows-edid : ℕ
-rows-edid = 232
+rows-edid = 234
 
 abbrev pub rows-eet : ℕ
-rows-eet = 233
+rows-eet = 235
 
 abbrev pub rows-egg : ℕ
-rows-egg = 234
+rows-egg = 236
 
 abbrev pub rows-elc : ℕ
-rows-elc = 235
+rows-elc = 237
 
 abbrev pub rows-elf : ℕ
-rows-elf = 236
+rows-elf = 238
 
 abbrev pub rows-elf-so : ℕ
-rows-elf-so = 237
+rows-elf-so = 239
 
 abbrev pub rows-elisp : ℕ
-rows-elisp = 238
+rows-elisp = 240
 
 abbrev pub rows-emf : ℕ
-rows-emf = 239
+rows-emf = 241
 
 abbrev pub rows-eml : ℕ
-rows-eml = 240
+rows-eml = 242
 
 abbrev pub rows-eot : ℕ
-rows-eot = 241
+rows-eot = 243
 
 abbrev pub rows-eps : ℕ
-rows-eps = 242
+rows-eps = 244
 
 abbrev pub rows-eps-pdf-ps : ℕ
-rows-eps-pdf-ps = 243
+rows-eps-pdf-ps = 245
 
 abbrev pub rows-epub : ℕ
-rows-epub = 244
+rows-epub = 246
 
 abbrev pub rows-escript : ℕ
-rows-escript = 245
+rows-escript = 247
 
 abbrev pub rows-evtx : ℕ
-rows-evtx = 246
+rows-evtx = 248
 
 abbrev pub rows-exe : ℕ
-rows-exe = 247
+rows-exe = 249
 
 abbrev pub rows-exe-dll-efi-lx-ne-sys : ℕ
-rows-exe-dll-efi-lx-ne-sys = 248
+rows-exe-dll-efi-lx-ne-sys = 250
 
 abbrev pub rows-exr : ℕ
-rows-exr = 249
+rows-exr = 251
 
 abbrev pub rows-exs : ℕ
-rows-exs = 250
+rows-exs = 252
 
 abbrev pub rows-ext2 : ℕ
-rows-ext2 = 251
+rows-ext2 = 253
 
 abbrev pub rows-f4a : ℕ
-rows-f4a = 252
+rows-f4a = 254
 
 abbrev pub rows-f4v : ℕ
-rows-f4v = 253
+rows-f4v = 255
 
 abbrev pub rows-fb2 : ℕ
-rows-fb2 = 254
+rows-fb2 = 256
 
 abbrev pub rows-fbx-fbxtext : ℕ
-rows-fbx-fbxtext = 255
+rows-fbx-fbxtext = 257
 
 abbrev pub rows-fbz : ℕ
-rows-fbz = 256
+rows-fbz = 258
 
 abbrev pub rows-fccache : ℕ
-rows-fccache = 257
+rows-fccache = 259
 
 abbrev pub rows-fcstd : ℕ
-rows-fcstd = 258
+rows-fcstd = 260
 
 abbrev pub rows-fdf : ℕ
-rows-fdf = 259
+rows-fdf = 261
 
 abbrev pub rows-fds : ℕ
-rows-fds = 260
+rows-fds = 262
 
 abbrev pub rows-ff : ℕ
-rows-ff = 261
+rows-ff = 263
 
 abbrev pub rows-fig : ℕ
-rows-fig = 262
+rows-fig = 264
 
 abbrev pub rows-fish : ℕ
-rows-fish = 263
+rows-fish = 265
 
 abbrev pub rows-fits : ℕ
-rows-fits = 264
+rows-fits = 266
 
 abbrev pub rows-fl : ℕ
-rows-fl = 265
+rows-fl = 267
 
 abbrev pub rows-flac : ℕ
-rows-flac = 266
+rows-flac = 268
 
 abbrev pub rows-flac-ogg-opus : ℕ
-rows-flac-ogg-opus = 267
+rows-flac-ogg-opus = 269
 
 abbrev pub rows-flatpak : ℕ
-rows-flatpak = 268
+rows-flatpak = 270
 
 abbrev pub rows-flatpakref : ℕ
-rows-flatpakref = 269
+rows-flatpakref = 271
 
 abbrev pub rows-flatpakrepo : ℕ
-rows-flatpakrepo = 270
+rows-flatpakrepo = 272
 
 abbrev pub rows-fli : ℕ
-rows-fli = 271
+rows-fli = 273
 
 abbrev pub rows-flif : ℕ
-rows-flif = 272
+rows-flif = 274
 
 abbrev pub rows-flv : ℕ
-rows-flv = 273
+rows-flv = 275
 
 abbrev pub rows-flw : ℕ
-rows-flw = 274
+rows-flw = 276
 
 abbrev pub rows-fm : ℕ
-rows-fm = 275
+rows-fm = 277
 
 abbrev pub rows-fodg : ℕ
-rows-fodg = 276
+rows-fodg = 278
 
 abbrev pub rows-fodp : ℕ
-rows-fodp = 277
+rows-fodp = 279
 
 abbrev pub rows-fods : ℕ
-rows-fods = 278
+rows-fods = 280
 
 abbrev pub rows-fodt : ℕ
-rows-fodt = 279
+rows-fodt = 281
 
 abbrev pub rows-fpx : ℕ
-rows-fpx = 280
+rows-fpx = 282
 
 abbrev pub rows-g64 : ℕ
-rows-g64 = 281
+rows-g64 = 283
 
 abbrev pub rows-gb-gbc : ℕ
-rows-gb-gbc = 282
+rows-gb-gbc = 284
 
 abbrev pub rows-gba : ℕ
-rows-gba = 283
+rows-gba = 285
 
 abbrev pub rows-gbr : ℕ
-rows-gbr = 284
+rows-gbr = 286
 
 abbrev pub rows-gbs : ℕ
-rows-gbs = 285
+rows-gbs = 287
 
 abbrev pub rows-gcda : ℕ
-rows-gcda = 286
+rows-gcda = 288
 
 abbrev pub rows-gcda-gcno : ℕ
-rows-gcda-gcno = 287
+rows-gcda-gcno = 289
 
 abbrev pub rows-gch : ℕ
-rows-gch = 288
+rows-gch = 290
 
 abbrev pub rows-gcm : ℕ
-rows-gcm = 289
+rows-gcm = 291
 
 abbrev pub rows-gconv : ℕ
-rows-gconv = 290
+rows-gconv = 292
 
 abbrev pub rows-gd2 : ℕ
-rows-gd2 = 291
+rows-gd2 = 293
 
 abbrev pub rows-gdbm : ℕ
-rows-gdbm = 292
+rows-gdbm = 294
 
 abbrev pub rows-gdf : ℕ
-rows-gdf = 293
+rows-gdf = 295
 
 abbrev pub rows-ged : ℕ
-rows-ged = 294
+rows-ged = 296
 
 abbrev pub rows-gem : ℕ
-rows-gem = 295
+rows-gem = 297
 
 abbrev pub rows-geojson : ℕ
-rows-geojson = 296
+rows-geojson = 298
 
 abbrev pub rows-gff3 : ℕ
-rows-gff3 = 297
+rows-gff3 = 299
 
 abbrev pub rows-ggr : ℕ
-rows-ggr = 298
+rows-ggr = 300
 
 abbrev pub rows-gguf : ℕ
-rows-gguf = 299
+rows-gguf = 301
 
 abbrev pub rows-gif : ℕ
-rows-gif = 300
+rows-gif = 302
 
 abbrev pub rows-gitbundle : ℕ
-rows-gitbundle = 301
+rows-gitbundle = 303
 
 abbrev pub rows-gitidx : ℕ
-rows-gitidx = 302
+rows-gitidx = 304
 
 abbrev pub rows-gitindex : ℕ
-rows-gitindex = 303
+rows-gitindex = 305
 
 abbrev pub rows-gitpatch : ℕ
-rows-gitpatch = 304
+rows-gitpatch = 306
 
 abbrev pub rows-gjs-js : ℕ
-rows-gjs-js = 305
+rows-gjs-js = 307
 
 abbrev pub rows-glade : ℕ
-rows-glade = 306
+rows-glade = 308
 
 abbrev pub rows-glb : ℕ
-rows-glb = 307
+rows-glb = 309
 
 abbrev pub rows-gltf : ℕ
-rows-gltf = 308
+rows-gltf = 310
 
 abbrev pub rows-gml : ℕ
-rows-gml = 309
+rows-gml = 311
 
 abbrev pub rows-gnd : ℕ
-rows-gnd = 310
+rows-gnd = 312
 
 abbrev pub rows-gnucash : ℕ
-rows-gnucash = 311
+rows-gnucash = 313
 
 abbrev pub rows-gnumeric : ℕ
-rows-gnumeric = 312
+rows-gnumeric = 314
 
 abbrev pub rows-gnuplot : ℕ
-rows-gnuplot = 313
+rows-gnuplot = 315
 
 abbrev pub rows-goobj : ℕ
-rows-goobj = 314
+rows-goobj = 316
 
 abbrev pub rows-gpg-gpgold : ℕ
-rows-gpg-gpgold = 315
+rows-gpg-gpgold = 317
 
 abbrev pub rows-gpgsec : ℕ
-rows-gpgsec = 316
+rows-gpgsec = 318
 
 abbrev pub rows-gpkg : ℕ
-rows-gpkg = 317
+rows-gpkg = 319
 
 abbrev pub rows-gpl : ℕ
-rows-gpl = 318
+rows-gpl = 320
 
 abbrev pub rows-gpx : ℕ
-rows-gpx = 319
+rows-gpx = 321
 
 abbrev pub rows-grib : ℕ
-rows-grib = 320
+rows-grib = 322
 
 abbrev pub rows-grib-grib2 : ℕ
-rows-grib-grib2 = 321
+rows-grib-grib2 = 323
 
 abbrev pub rows-groovy : ℕ
-rows-groovy = 322
+rows-groovy = 324
 
 abbrev pub rows-grp : ℕ
-rows-grp = 323
+rows-grp = 325
 
 abbrev pub rows-grubkbd : ℕ
-rows-grubkbd = 324
+rows-grubkbd = 326
 
 abbrev pub rows-gschema : ℕ
-rows-gschema = 325
+rows-gschema = 327
 
 abbrev pub rows-gtkbuilder : ℕ
-rows-gtkbuilder = 326
+rows-gtkbuilder = 328
 
 abbrev pub rows-gtp : ℕ
-rows-gtp = 327
+rows-gtp = 329
 
 abbrev pub rows-gv : ℕ
-rows-gv = 328
+rows-gv = 330
 
 abbrev pub rows-gvdb : ℕ
-rows-gvdb = 329
+rows-gvdb = 331
 
 abbrev pub rows-gx : ℕ
-rows-gx = 330
+rows-gx = 332
 
 abbrev pub rows-gz : ℕ
-rows-gz = 331
+rows-gz = 333
 
 abbrev pub rows-gz-html-txt-xhtml-xml : ℕ
-rows-gz-html-txt-xhtml-xml = 332
+rows-gz-html-txt-xhtml-xml = 334
 
 abbrev pub rows-gz-kspcrypt-zip : ℕ
-rows-gz-kspcrypt-zip = 333
+rows-gz-kspcrypt-zip = 335
 
 abbrev pub rows-gz-kwdcrypt-zip : ℕ
-rows-gz-kwdcrypt-zip = 334
+rows-gz-kwdcrypt-zip = 336
 
 abbrev pub rows-gz-sqlite-xml : ℕ
-rows-gz-sqlite-xml = 335
+rows-gz-sqlite-xml = 337
 
 abbrev pub rows-gz-txt-xml : ℕ
-rows-gz-txt-xml = 336
+rows-gz-txt-xml = 338
 
 abbrev pub rows-gz-xml : ℕ
-rows-gz-xml = 337
+rows-gz-xml = 339
 
 abbrev pub rows-gz-zip : ℕ
-rows-gz-zip = 338
+rows-gz-zip = 340
 
 abbrev pub rows-gz-zst : ℕ
-rows-gz-zst = 339
+rows-gz-zst = 341
 
 abbrev pub rows-h264 : ℕ
-rows-h264 = 340
+rows-h264 = 342
 
 abbrev pub rows-h265 : ℕ
-rows-h265 = 341
+rows-h265 = 343
 
 abbrev pub rows-hdd : ℕ
-rows-hdd = 342
+rows-hdd = 344
 
 abbrev pub rows-hdf4 : ℕ
-rows-hdf4 = 343
+rows-hdf4 = 345
 
 abbrev pub rows-hdf5 : ℕ
-rows-hdf5 = 344
+rows-hdf5 = 346
 
 abbrev pub rows-hdr : ℕ
-rows-hdr = 345
+rows-hdr = 347
 
 abbrev pub rows-hdt : ℕ
-rows-hdt = 346
+rows-hdt = 348
 
 abbrev pub rows-heic : ℕ
-rows-heic = 347
+rows-heic = 349
 
 abbrev pub rows-heics : ℕ
-rows-heics = 348
+rows-heics = 350
 
 abbrev pub rows-heics-heif : ℕ
-rows-heics-heif = 349
+rows-heics-heif = 351
 
 abbrev pub rows-heif : ℕ
-rows-heif = 350
+rows-heif = 352
 
 abbrev pub rows-heifs : ℕ
-rows-heifs = 351
+rows-heifs = 353
 
 abbrev pub rows-hfe : ℕ
-rows-hfe = 352
+rows-hfe = 354
 
 abbrev pub rows-hgbundle : ℕ
-rows-hgbundle = 353
+rows-hgbundle = 355
 
 abbrev pub rows-hi : ℕ
-rows-hi = 354
+rows-hi = 356
 
 abbrev pub rows-hlp : ℕ
-rows-hlp = 355
+rows-hlp = 357
 
 abbrev pub rows-hprof : ℕ
-rows-hprof = 356
+rows-hprof = 358
 
 abbrev pub rows-hqx : ℕ
-rows-hqx = 357
+rows-hqx = 359
 
 abbrev pub rows-hs : ℕ
-rows-hs = 358
+rows-hs = 360
 
 abbrev pub rows-hsi : ℕ
-rows-hsi = 359
+rows-hsi = 361
 
 abbrev pub rows-html : ℕ
-rows-html = 360
+rows-html = 362
 
 abbrev pub rows-html-json-php-svg-txt-xhtml-xml : ℕ
-rows-html-json-php-svg-txt-xhtml-xml = 361
+rows-html-json-php-svg-txt-xhtml-xml = 363
 
 abbrev pub rows-html-rss-txt-xml : ℕ
-rows-html-rss-txt-xml = 362
+rows-html-rss-txt-xml = 364
 
 abbrev pub rows-html-sh-svg-txt-xhtml-xml : ℕ
-rows-html-sh-svg-txt-xhtml-xml = 363
+rows-html-sh-svg-txt-xhtml-xml = 365
 
 abbrev pub rows-html-txt : ℕ
-rows-html-txt = 364
+rows-html-txt = 366
 
 abbrev pub rows-html-txt-xhtml-xml : ℕ
-rows-html-txt-xhtml-xml = 365
+rows-html-txt-xhtml-xml = 367
 
 abbrev pub rows-html-txt-xml : ℕ
-rows-html-txt-xml = 366
+rows-html-txt-xml = 368
 
 abbrev pub rows-http : ℕ
-rows-http = 367
+rows-http = 369
 
 abbrev pub rows-hwp : ℕ
-rows-hwp = 368
+rows-hwp = 370
 
 abbrev pub rows-iaarc : ℕ
-rows-iaarc = 369
+rows-iaarc = 371
 
 abbrev pub rows-icc : ℕ
-rows-icc = 370
+rows-icc = 372
 
 abbrev pub rows-icns : ℕ
-rows-icns = 371
+rows-icns = 373
 
 abbrev pub rows-ico : ℕ
-rows-ico = 372
+rows-ico = 374
 
 abbrev pub rows-icontheme : ℕ
-rows-icontheme = 373
+rows-icontheme = 375
 
 abbrev pub rows-ics : ℕ
-rows-ics = 374
+rows-ics = 376
 
 abbrev pub rows-icures : ℕ
-rows-icures = 375
+rows-icures = 377
 
 abbrev pub rows-iff : ℕ
-rows-iff = 376
+rows-iff = 378
 
 abbrev pub rows-ifo : ℕ
-rows-ifo = 377
+rows-ifo = 379
 
 abbrev pub rows-igs : ℕ
-rows-igs = 378
+rows-igs = 380
 
 abbrev pub rows-iiq : ℕ
-rows-iiq = 379
+rows-iiq = 381
 
 abbrev pub rows-ilbm : ℕ
-rows-ilbm = 380
+rows-ilbm = 382
 
 abbrev pub rows-imy : ℕ
-rows-imy = 381
+rows-imy = 383
 
 abbrev pub rows-indd : ℕ
-rows-indd = 382
+rows-indd = 384
 
 abbrev pub rows-inf : ℕ
-rows-inf = 383
+rows-inf = 385
 
 abbrev pub rows-info : ℕ
-rows-info = 384
+rows-info = 386
 
 abbrev pub rows-innolog : ℕ
-rows-innolog = 385
+rows-innolog = 387
 
 abbrev pub rows-ips : ℕ
-rows-ips = 386
+rows-ips = 388
 
 abbrev pub rows-ipynb : ℕ
-rows-ipynb = 387
+rows-ipynb = 389
 
 abbrev pub rows-ircam : ℕ
-rows-ircam = 388
+rows-ircam = 390
 
 abbrev pub rows-it : ℕ
-rows-it = 389
+rows-it = 391
 
 abbrev pub rows-it87 : ℕ
-rows-it87 = 390
+rows-it87 = 392
 
 abbrev pub rows-itc : ℕ
-rows-itc = 391
+rows-itc = 393
 
 abbrev pub rows-ivf : ℕ
-rows-ivf = 392
+rows-ivf = 394
 
 abbrev pub rows-j2c : ℕ
-rows-j2c = 393
+rows-j2c = 395
 
 abbrev pub rows-jad : ℕ
-rows-jad = 394
+rows-jad = 396
 
 abbrev pub rows-jar : ℕ
-rows-jar = 395
+rows-jar = 397
 
 abbrev pub rows-jar-zip : ℕ
-rows-jar-zip = 396
+rows-jar-zip = 398
 
 abbrev pub rows-jarmf : ℕ
-rows-jarmf = 397
+rows-jarmf = 399
 
 abbrev pub rows-jbig2 : ℕ
-rows-jbig2 = 398
+rows-jbig2 = 400
 
 abbrev pub rows-jceks : ℕ
-rows-jceks = 399
+rows-jceks = 401
 
 abbrev pub rows-jffs2 : ℕ
-rows-jffs2 = 400
+rows-jffs2 = 402
 
 abbrev pub rows-jfr : ℕ
-rows-jfr = 401
+rows-jfr = 403
 
 abbrev pub rows-jimage : ℕ
-rows-jimage = 402
+rows-jimage = 404
 
 abbrev pub rows-jks : ℕ
-rows-jks = 403
+rows-jks = 405
 
 abbrev pub rows-jl : ℕ
-rows-jl = 404
+rows-jl = 406
 
 abbrev pub rows-jls : ℕ
-rows-jls = 405
+rows-jls = 407
 
 abbrev pub rows-jmod : ℕ
-rows-jmod = 406
+rows-jmod = 408
 
 abbrev pub rows-jng : ℕ
-rows-jng = 407
+rows-jng = 409
 
 abbrev pub rows-jnlp : ℕ
-rows-jnlp = 408
+rows-jnlp = 410
 
 abbrev pub rows-journal : ℕ
-rows-journal = 409
+rows-journal = 411
 
 abbrev pub rows-jp2 : ℕ
-rows-jp2 = 410
+rows-jp2 = 412
 
 abbrev pub rows-jpg : ℕ
-rows-jpg = 411
+rows-jpg = 413
 
 abbrev pub rows-jph : ℕ
-rows-jph = 412
+rows-jph = 414
 
 abbrev pub rows-jph-jpm-jpx-mj2 : ℕ
-rows-jph-jpm-jpx-mj2 = 413
+rows-jph-jpm-jpx-mj2 = 415
 
 abbrev pub rows-jpm : ℕ
-rows-jpm = 414
+rows-jpm = 416
 
 abbrev pub rows-jpx : ℕ
-rows-jpx = 415
+rows-jpx = 417
 
 abbrev pub rows-json : ℕ
-rows-json = 416
+rows-json = 418
 
 abbrev pub rows-json-ndjson-txt : ℕ
-rows-json-ndjson-txt = 417
+rows-json-ndjson-txt = 419
 
 abbrev pub rows-json-plist-txt-xml : ℕ
-rows-json-plist-txt-xml = 418
+rows-json-plist-txt-xml = 420
 
 abbrev pub rows-json-sh-txt : ℕ
-rows-json-sh-txt = 419
+rows-json-sh-txt = 421
 
 abbrev pub rows-json-txt : ℕ
-rows-json-txt = 420
+rows-json-txt = 422
 
 abbrev pub rows-jsonlz4 : ℕ
-rows-jsonlz4 = 421
+rows-jsonlz4 = 423
 
 abbrev pub rows-jxl : ℕ
-rows-jxl = 422
+rows-jxl = 424
 
 abbrev pub rows-jxr : ℕ
-rows-jxr = 423
+rows-jxr = 425
 
 abbrev pub rows-karbon : ℕ
-rows-karbon = 424
+rows-karbon = 426
 
 abbrev pub rows-kate-oga-ogm-ogv-ogx-opus-spx-vorbis : ℕ
-rows-kate-oga-ogm-ogv-ogx-opus-spx-vorbis = 425
+rows-kate-oga-ogm-ogv-ogx-opus-spx-vorbis = 427
 
 abbrev pub rows-kbx : ℕ
-rows-kbx = 426
+rows-kbx = 428
 
 abbrev pub rows-kdb : ℕ
-rows-kdb = 427
+rows-kdb = 429
 
 abbrev pub rows-kdbx : ℕ
-rows-kdbx = 428
+rows-kdbx = 430
 
 abbrev pub rows-kdc : ℕ
-rows-kdc = 429
+rows-kdc = 431
 
 abbrev pub rows-kdump : ℕ
-rows-kdump = 430
+rows-kdump = 432
 
 abbrev pub rows-kfo : ℕ
-rows-kfo = 431
+rows-kfo = 433
 
 abbrev pub rows-kil : ℕ
-rows-kil = 432
+rows-kil = 434
 
 abbrev pub rows-kml : ℕ
-rows-kml = 433
+rows-kml = 435
 
 abbrev pub rows-kmz : ℕ
-rows-kmz = 434
+rows-kmz = 436
 
 abbrev pub rows-kon : ℕ
-rows-kon = 435
+rows-kon = 437
 
 abbrev pub rows-kpr : ℕ
-rows-kpr = 436
+rows-kpr = 438
 
 abbrev pub rows-kra : ℕ
-rows-kra = 437
+rows-kra = 439
 
 abbrev pub rows-ksp : ℕ
-rows-ksp = 438
+rows-ksp = 440
 
 abbrev pub rows-ktx : ℕ
-rows-ktx = 439
+rows-ktx = 441
 
 abbrev pub rows-ktx2 : ℕ
-rows-ktx2 = 440
+rows-ktx2 = 442
 
 abbrev pub rows-kwaj : ℕ
-rows-kwaj = 441
+rows-kwaj = 443
 
 abbrev pub rows-kwd : ℕ
-rows-kwd = 442
+rows-kwd = 444
 
 abbrev pub rows-la : ℕ
-rows-la = 443
+rows-la = 445
 
 abbrev pub rows-las : ℕ
-rows-las = 444
+rows-las = 446
 
 abbrev pub rows-laz : ℕ
-rows-laz = 445
+rows-laz = 447
 
 abbrev pub rows-ldcache : ℕ
-rows-ldcache = 446
+rows-ldcache = 448
 
 abbrev pub rows-ldif : ℕ
-rows-ldif = 447
+rows-ldif = 449
 
 abbrev pub rows-ldml : ℕ
-rows-ldml = 448
+rows-ldml = 450
 
 abbrev pub rows-lfp : ℕ
-rows-lfp = 449
+rows-lfp = 451
 
 abbrev pub rows-lingts : ℕ
-rows-lingts = 450
+rows-lingts = 452
 
 abbrev pub rows-lisp : ℕ
-rows-lisp = 451
+rows-lisp = 453
 
 abbrev pub rows-lit : ℕ
-rows-lit = 452
+rows-lit = 454
 
 abbrev pub rows-ll : ℕ
-rows-ll = 453
+rows-ll = 455
 
 abbrev pub rows-lmdb : ℕ
-rows-lmdb = 454
+rows-lmdb = 456
 
 abbrev pub rows-lnk : ℕ
-rows-lnk = 455
+rows-lnk = 457
 
 abbrev pub rows-lnx : ℕ
-rows-lnx = 456
+rows-lnx = 458
 
 abbrev pub rows-locarch : ℕ
-rows-locarch = 457
+rows-locarch = 459
 
 abbrev pub rows-locate : ℕ
-rows-locate = 458
+rows-locate = 460
 
 abbrev pub rows-lrf : ℕ
-rows-lrf = 459
+rows-lrf = 461
 
 abbrev pub rows-lrz : ℕ
-rows-lrz = 460
+rows-lrz = 462
 
 abbrev pub rows-lss : ℕ
-rows-lss = 461
+rows-lss = 463
 
 abbrev pub rows-lua : ℕ
-rows-lua = 462
+rows-lua = 464
 
 abbrev pub rows-lua-sh-txt : ℕ
-rows-lua-sh-txt = 463
+rows-lua-sh-txt = 465
 
 abbrev pub rows-luac : ℕ
-rows-luac = 464
+rows-luac = 466
 
 abbrev pub rows-luks : ℕ
-rows-luks = 465
+rows-luks = 467
 
 abbrev pub rows-lwo : ℕ
-rows-lwo = 466
+rows-lwo = 468
 
 abbrev pub rows-lwp : ℕ
-rows-lwp = 467
+rows-lwp = 469
 
 abbrev pub rows-ly : ℕ
-rows-ly = 468
+rows-ly = 470
 
 abbrev pub rows-lyx : ℕ
-rows-lyx = 469
+rows-lyx = 471
 
 abbrev pub rows-lz : ℕ
-rows-lz = 470
+rows-lz = 472
 
 abbrev pub rows-lz4 : ℕ
-rows-lz4 = 471
+rows-lz4 = 473
 
 abbrev pub rows-lzfse : ℕ
-rows-lzfse = 472
+rows-lzfse = 474
 
 abbrev pub rows-lzh : ℕ
-rows-lzh = 473
+rows-lzh = 475
 
 abbrev pub rows-lzma : ℕ
-rows-lzma = 474
+rows-lzma = 476
 
 abbrev pub rows-lzo : ℕ
-rows-lzo = 475
+rows-lzo = 477
 
 abbrev pub rows-m : ℕ
-rows-m = 476
+rows-m = 478
 
 abbrev pub rows-m3u8 : ℕ
-rows-m3u8 = 477
+rows-m3u8 = 479
 
 abbrev pub rows-m4 : ℕ
-rows-m4 = 478
+rows-m4 = 480
 
 abbrev pub rows-m4a : ℕ
-rows-m4a = 479
+rows-m4a = 481
 
 abbrev pub rows-m4a-mp4 : ℕ
-rows-m4a-mp4 = 480
+rows-m4a-mp4 = 482
 
 abbrev pub rows-m4b : ℕ
-rows-m4b = 481
+rows-m4b = 483
 
 abbrev pub rows-m4b-m4v-mp4 : ℕ
-rows-m4b-m4v-mp4 = 482
+rows-m4b-m4v-mp4 = 484
 
 abbrev pub rows-m4u : ℕ
-rows-m4u = 483
+rows-m4u = 485
 
 abbrev pub rows-m4v : ℕ
-rows-m4v = 484
+rows-m4v = 486
 
 abbrev pub rows-macbin : ℕ
-rows-macbin = 485
+rows-macbin = 487
 
 abbrev pub rows-mach : ℕ
-rows-mach = 486
+rows-mach = 488
 
 abbrev pub rows-mat : ℕ
-rows-mat = 487
+rows-mat = 489
 
 abbrev pub rows-maud : ℕ
-rows-maud = 488
+rows-maud = 490
 
 abbrev pub rows-mbm : ℕ
-rows-mbm = 489
+rows-mbm = 491
 
 abbrev pub rows-mbox : ℕ
-rows-mbox = 490
+rows-mbox = 492
 
 abbrev pub rows-mbtiles : ℕ
-rows-mbtiles = 491
+rows-mbtiles = 493
 
 abbrev pub rows-md : ℕ
-rows-md = 492
+rows-md = 494
 
 abbrev pub rows-mdb : ℕ
-rows-mdb = 493
+rows-mdb = 495
 
 abbrev pub rows-mdi : ℕ
-rows-mdi = 494
+rows-mdi = 496
 
 abbrev pub rows-mdl : ℕ
-rows-mdl = 495
+rows-mdl = 497
 
 abbrev pub rows-mdraid : ℕ
-rows-mdraid = 496
+rows-mdraid = 498
 
 abbrev pub rows-med : ℕ
-rows-med = 497
+rows-med = 499
 
 abbrev pub rows-memdmp : ℕ
-rows-memdmp = 498
+rows-memdmp = 500
 
 abbrev pub rows-meta4 : ℕ
-rows-meta4 = 499
+rows-meta4 = 501
 
 abbrev pub rows-metalink : ℕ
-rows-metalink = 500
+rows-metalink = 502
 
 abbrev pub rows-mf : ℕ
-rows-mf = 501
+rows-mf = 503
 
 abbrev pub rows-midi : ℕ
-rows-midi = 502
+rows-midi = 504
 
 abbrev pub rows-mids : ℕ
-rows-mids = 503
+rows-mids = 505
 
 abbrev pub rows-mif : ℕ
-rows-mif = 504
+rows-mif = 506
 
 abbrev pub rows-miff : ℕ
-rows-miff = 505
+rows-miff = 507
 
 abbrev pub rows-minisig : ℕ
-rows-minisig = 506
+rows-minisig = 508
 
 abbrev pub rows-mj2 : ℕ
-rows-mj2 = 507
+rows-mj2 = 509
 
 abbrev pub rows-mk : ℕ
-rows-mk = 508
+rows-mk = 510
 
 abbrev pub rows-mkv : ℕ
-rows-mkv = 509
+rows-mkv = 511
 
 abbrev pub rows-ml : ℕ
-rows-ml = 510
+rows-ml = 512
 
 abbrev pub rows-mlp : ℕ
-rows-mlp = 511
+rows-mlp = 513
 
 abbrev pub rows-mm : ℕ
-rows-mm = 512
+rows-mm = 514
 
 abbrev pub rows-mmf : ℕ
-rows-mmf = 513
+rows-mmf = 515
 
 abbrev pub rows-mml : ℕ
-rows-mml = 514
+rows-mml = 516
 
 abbrev pub rows-mmm : ℕ
-rows-mmm = 515
+rows-mmm = 517
 
 abbrev pub rows-mng : ℕ
-rows-mng = 516
+rows-mng = 518
 
 abbrev pub rows-mo : ℕ
-rows-mo = 517
+rows-mo = 519
 
 abbrev pub rows-mo3 : ℕ
-rows-mo3 = 518
+rows-mo3 = 520
 
 abbrev pub rows-mobi : ℕ
-rows-mobi = 519
+rows-mobi = 521
 
 abbrev pub rows-mod : ℕ
-rows-mod = 520
+rows-mod = 522
 
 abbrev pub rows-model-obj : ℕ
-rows-model-obj = 521
+rows-model-obj = 523
 
 abbrev pub rows-model-step : ℕ
-rows-model-step = 522
+rows-model-step = 524
 
 abbrev pub rows-mol2 : ℕ
-rows-mol2 = 523
+rows-mol2 = 525
 
 abbrev pub rows-mov : ℕ
-rows-mov = 524
+rows-mov = 526
 
 abbrev pub rows-movie : ℕ
-rows-movie = 525
+rows-movie = 527
 
 abbrev pub rows-mp3 : ℕ
-rows-mp3 = 526
+rows-mp3 = 528
 
 abbrev pub rows-mp3-mp3old : ℕ
-rows-mp3-mp3old = 527
+rows-mp3-mp3old = 529
 
 abbrev pub rows-mp4 : ℕ
-rows-mp4 = 528
+rows-mp4 = 530
 
 abbrev pub rows-mpc : ℕ
-rows-mpc = 529
+rows-mpc = 531
 
 abbrev pub rows-mpd : ℕ
-rows-mpd = 530
+rows-mpd = 532
 
 abbrev pub rows-mpg : ℕ
-rows-mpg = 531
+rows-mpg = 533
 
 abbrev pub rows-mpp : ℕ
-rows-mpp = 532
+rows-mpp = 534
 
 abbrev pub rows-mpq : ℕ
-rows-mpq = 533
+rows-mpq = 535
 
 abbrev pub rows-mpsub : ℕ
-rows-mpsub = 534
+rows-mpsub = 536
 
 abbrev pub rows-mqv : ℕ
-rows-mqv = 535
+rows-mqv = 537
 
 abbrev pub rows-mrc : ℕ
-rows-mrc = 536
+rows-mrc = 538
 
 abbrev pub rows-mrw : ℕ
-rows-mrw = 537
+rows-mrw = 539
 
 abbrev pub rows-ms3d : ℕ
-rows-ms3d = 538
+rows-ms3d = 540
 
 abbrev pub rows-msa : ℕ
-rows-msa = 539
+rows-msa = 541
 
 abbrev pub rows-msbuild : ℕ
-rows-msbuild = 540
+rows-msbuild = 542
 
 abbrev pub rows-mscx : ℕ
-rows-mscx = 541
+rows-mscx = 543
 
 abbrev pub rows-mscz : ℕ
-rows-mscz = 542
+rows-mscz = 544
 
 abbrev pub rows-msg : ℕ
-rows-msg = 543
+rows-msg = 545
+
+abbrev pub rows-msi : ℕ
+rows-msi = 546
 
 abbrev pub rows-mtl : ℕ
-rows-mtl = 544
+rows-mtl = 547
 
 abbrev pub rows-mtm : ℕ
-rows-mtm = 545
+rows-mtm = 548
 
 abbrev pub rows-mtn : ℕ
-rows-mtn = 546
+rows-mtn = 549
 
 abbrev pub rows-mup : ℕ
-rows-mup = 547
+rows-mup = 550
 
 abbrev pub rows-musicxml : ℕ
-rows-musicxml = 548
+rows-musicxml = 551
 
 abbrev pub rows-mve : ℕ
-rows-mve = 549
+rows-mve = 552
 
 abbrev pub rows-mvg : ℕ
-rows-mvg = 550
+rows-mvg = 553
 
 abbrev pub rows-mxf : ℕ
-rows-mxf = 551
+rows-mxf = 554
 
 abbrev pub rows-myi : ℕ
-rows-myi = 552
+rows-myi = 555
 
 abbrev pub rows-n64 : ℕ
-rows-n64 = 553
+rows-n64 = 556
 
 abbrev pub rows-nbold : ℕ
-rows-nbold = 554
+rows-nbold = 557
 
 abbrev pub rows-nc : ℕ
-rows-nc = 555
+rows-nc = 558
 
 abbrev pub rows-ncch : ℕ
-rows-ncch = 556
+rows-ncch = 559
 
 abbrev pub rows-ncx : ℕ
-rows-ncx = 557
+rows-ncx = 560
 
 abbrev pub rows-ndjson : ℕ
-rows-ndjson = 558
+rows-ndjson = 561
 
 abbrev pub rows-nds : ℕ
-rows-nds = 559
+rows-nds = 562
 
 abbrev pub rows-nef : ℕ
-rows-nef = 560
+rows-nef = 563
 
 abbrev pub rows-neko : ℕ
-rows-neko = 561
+rows-neko = 564
 
 abbrev pub rows-nes : ℕ
-rows-nes = 562
+rows-nes = 565
 
 abbrev pub rows-netmon : ℕ
-rows-netmon = 563
+rows-netmon = 566
 
 abbrev pub rows-news : ℕ
-rows-news = 564
+rows-news = 567
 
 abbrev pub rows-nex : ℕ
-rows-nex = 565
+rows-nex = 568
 
 abbrev pub rows-nft : ℕ
-rows-nft = 566
+rows-nft = 569
 
 abbrev pub rows-ngc : ℕ
-rows-ngc = 567
+rows-ngc = 570
 
 abbrev pub rows-ngp : ℕ
-rows-ngp = 568
+rows-ngp = 571
 
 abbrev pub rows-niff : ℕ
-rows-niff = 569
+rows-niff = 572
 
 abbrev pub rows-nii : ℕ
-rows-nii = 570
+rows-nii = 573
 
 abbrev pub rows-npy : ℕ
-rows-npy = 571
+rows-npy = 574
 
 abbrev pub rows-nsc : ℕ
-rows-nsc = 572
+rows-nsc = 575
 
 abbrev pub rows-nsf : ℕ
-rows-nsf = 573
+rows-nsf = 576
 
 abbrev pub rows-nso : ℕ
-rows-nso = 574
+rows-nso = 577
 
 abbrev pub rows-nsv : ℕ
-rows-nsv = 575
+rows-nsv = 578
 
 abbrev pub rows-nut : ℕ
-rows-nut = 576
+rows-nut = 579
 
 abbrev pub rows-nzb : ℕ
-rows-nzb = 577
+rows-nzb = 580
 
 abbrev pub rows-o : ℕ
-rows-o = 578
+rows-o = 581
 
 abbrev pub rows-obj : ℕ
-rows-obj = 579
+rows-obj = 582
 
 abbrev pub rows-odb : ℕ
-rows-odb = 580
+rows-odb = 583
 
 abbrev pub rows-odc : ℕ
-rows-odc = 581
+rows-odc = 584
 
 abbrev pub rows-odf : ℕ
-rows-odf = 582
+rows-odf = 585
 
 abbrev pub rows-odg : ℕ
-rows-odg = 583
+rows-odg = 586
 
 abbrev pub rows-odg-zip : ℕ
-rows-odg-zip = 584
+rows-odg-zip = 587
 
 abbrev pub rows-odi : ℕ
-rows-odi = 585
+rows-odi = 588
 
 abbrev pub rows-odm : ℕ
-rows-odm = 586
+rows-odm = 589
 
 abbrev pub rows-odm-ott : ℕ
-rows-odm-ott = 587
+rows-odm-ott = 590
 
 abbrev pub rows-odp : ℕ
-rows-odp = 588
+rows-odp = 591
 
 abbrev pub rows-odp-zip : ℕ
-rows-odp-zip = 589
+rows-odp-zip = 592
 
 abbrev pub rows-ods : ℕ
-rows-ods = 590
+rows-ods = 593
 
 abbrev pub rows-ods-zip : ℕ
-rows-ods-zip = 591
+rows-ods-zip = 594
 
 abbrev pub rows-odt : ℕ
-rows-odt = 592
+rows-odt = 595
 
 abbrev pub rows-odt-zip : ℕ
-rows-odt-zip = 593
+rows-odt-zip = 596
 
 abbrev pub rows-oga : ℕ
-rows-oga = 594
+rows-oga = 597
 
 abbrev pub rows-ogg : ℕ
-rows-ogg = 595
+rows-ogg = 598
 
 abbrev pub rows-ogg-ogv : ℕ
-rows-ogg-ogv = 596
+rows-ogg-ogv = 599
 
 abbrev pub rows-ogm : ℕ
-rows-ogm = 597
+rows-ogm = 600
 
 abbrev pub rows-ogv : ℕ
-rows-ogv = 598
+rows-ogv = 601
 
 abbrev pub rows-okt : ℕ
-rows-okt = 599
+rows-okt = 602
 
 abbrev pub rows-omni : ℕ
-rows-omni = 600
+rows-omni = 603
 
 abbrev pub rows-openssh : ℕ
-rows-openssh = 601
+rows-openssh = 604
 
 abbrev pub rows-openssl : ℕ
-rows-openssl = 602
+rows-openssl = 605
 
 abbrev pub rows-opf : ℕ
-rows-opf = 603
+rows-opf = 606
 
 abbrev pub rows-opml : ℕ
-rows-opml = 604
+rows-opml = 607
 
 abbrev pub rows-opus : ℕ
-rows-opus = 605
+rows-opus = 608
 
 abbrev pub rows-ora : ℕ
-rows-ora = 606
+rows-ora = 609
 
 abbrev pub rows-orc : ℕ
-rows-orc = 607
+rows-orc = 610
 
 abbrev pub rows-orf : ℕ
-rows-orf = 608
+rows-orf = 611
 
 abbrev pub rows-os2hlp : ℕ
-rows-os2hlp = 609
+rows-os2hlp = 612
 
 abbrev pub rows-os2inf : ℕ
-rows-os2inf = 610
+rows-os2inf = 613
 
 abbrev pub rows-os2msg : ℕ
-rows-os2msg = 611
+rows-os2msg = 614
 
 abbrev pub rows-osm : ℕ
-rows-osm = 612
+rows-osm = 615
 
 abbrev pub rows-otf : ℕ
-rows-otf = 613
+rows-otf = 616
 
 abbrev pub rows-otg : ℕ
-rows-otg = 614
+rows-otg = 617
 
 abbrev pub rows-otp : ℕ
-rows-otp = 615
+rows-otp = 618
 
 abbrev pub rows-ots : ℕ
-rows-ots = 616
+rows-ots = 619
 
 abbrev pub rows-ott : ℕ
-rows-ott = 617
+rows-ott = 620
 
 abbrev pub rows-owx : ℕ
-rows-owx = 618
+rows-owx = 621
 
 abbrev pub rows-p12 : ℕ
-rows-p12 = 619
+rows-p12 = 622
 
 abbrev pub rows-p7b-p7c : ℕ
-rows-p7b-p7c = 620
+rows-p7b-p7c = 623
 
 abbrev pub rows-p8 : ℕ
-rows-p8 = 621
+rows-p8 = 624
 
 abbrev pub rows-pack : ℕ
-rows-pack = 622
+rows-pack = 625
 
 abbrev pub rows-pack200 : ℕ
-rows-pack200 = 623
+rows-pack200 = 626
 
 abbrev pub rows-paf : ℕ
-rows-paf = 624
+rows-paf = 627
 
 abbrev pub rows-pak : ℕ
-rows-pak = 625
+rows-pak = 628
 
 abbrev pub rows-pam : ℕ
-rows-pam = 626
+rows-pam = 629
 
 abbrev pub rows-par : ℕ
-rows-par = 627
+rows-par = 630
 
 abbrev pub rows-par2 : ℕ
-rows-par2 = 628
+rows-par2 = 631
 
 abbrev pub rows-parquet : ℕ
-rows-parquet = 629
+rows-parquet = 632
 
 abbrev pub rows-pat : ℕ
-rows-pat = 630
+rows-pat = 633
 
 abbrev pub rows-pc : ℕ
-rows-pc = 631
+rows-pc = 634
 
 abbrev pub rows-pcap : ℕ
-rows-pcap = 632
+rows-pcap = 635
 
 abbrev pub rows-pcapng : ℕ
-rows-pcapng = 633
+rows-pcapng = 636
 
 abbrev pub rows-pcd : ℕ
-rows-pcd = 634
+rows-pcd = 637
 
 abbrev pub rows-pcdimg : ℕ
-rows-pcdimg = 635
+rows-pcdimg = 638
 
 abbrev pub rows-pcf : ℕ
-rows-pcf = 636
+rows-pcf = 639
 
 abbrev pub rows-pch : ℕ
-rows-pch = 637
+rows-pch = 640
 
 abbrev pub rows-pcl : ℕ
-rows-pcl = 638
+rows-pcl = 641
 
 abbrev pub rows-pcx : ℕ
-rows-pcx = 639
+rows-pcx = 642
 
 abbrev pub rows-pdb : ℕ
-rows-pdb = 640
+rows-pdb = 643
 
 abbrev pub rows-pdbmol : ℕ
-rows-pdbmol = 641
+rows-pdbmol = 644
 
 abbrev pub rows-pdf : ℕ
-rows-pdf = 642
+rows-pdf = 645
 
 abbrev pub rows-pdn : ℕ
-rows-pdn = 643
+rows-pdn = 646
 
 abbrev pub rows-pef : ℕ
-rows-pef = 644
+rows-pef = 647
 
 abbrev pub rows-pem : ℕ
-rows-pem = 645
+rows-pem = 648
 
 abbrev pub rows-pf2 : ℕ
-rows-pf2 = 646
+rows-pf2 = 649
 
 abbrev pub rows-pfa-pfb : ℕ
-rows-pfa-pfb = 647
+rows-pfa-pfb = 650
 
 abbrev pub rows-pfb : ℕ
-rows-pfb = 648
+rows-pfb = 651
 
 abbrev pub rows-pfmap : ℕ
-rows-pfmap = 649
+rows-pfmap = 652
 
 abbrev pub rows-pgdump : ℕ
-rows-pgdump = 650
+rows-pgdump = 653
 
 abbrev pub rows-pgf : ℕ
-rows-pgf = 651
+rows-pgf = 654
 
 abbrev pub rows-pgn : ℕ
-rows-pgn = 652
+rows-pgn = 655
 
 abbrev pub rows-pgp : ℕ
-rows-pgp = 653
+rows-pgp = 656
 
 abbrev pub rows-pgp-pgpmsg : ℕ
-rows-pgp-pgpmsg = 654
+rows-pgp-pgpmsg = 657
 
 abbrev pub rows-pgpsig-sig : ℕ
-rows-pgpsig-sig = 655
+rows-pgpsig-sig = 658
 
 abbrev pub rows-php : ℕ
-rows-php = 656
+rows-php = 659
 
 abbrev pub rows-php-svg-txt-xhtml-xml : ℕ
-rows-php-svg-txt-xhtml-xml = 657
+rows-php-svg-txt-xhtml-xml = 660
 
 abbrev pub rows-pic : ℕ
-rows-pic = 658
+rows-pic = 661
 
 abbrev pub rows-pict : ℕ
-rows-pict = 659
+rows-pict = 662
 
 abbrev pub rows-pjl : ℕ
-rows-pjl = 660
+rows-pjl = 663
 
 abbrev pub rows-pkgstream : ℕ
-rows-pkgstream = 661
+rows-pkgstream = 664
 
 abbrev pub rows-pkl : ℕ
-rows-pkl = 662
+rows-pkl = 665
 
 abbrev pub rows-pkpass : ℕ
-rows-pkpass = 663
+rows-pkpass = 666
 
 abbrev pub rows-pl : ℕ
-rows-pl = 664
+rows-pl = 667
 
 abbrev pub rows-pla : ℕ
-rows-pla = 665
+rows-pla = 668
 
 abbrev pub rows-plist : ℕ
-rows-plist = 666
+rows-plist = 669
 
 abbrev pub rows-plist-txt-xml : ℕ
-rows-plist-txt-xml = 667
+rows-plist-txt-xml = 670
 
 abbrev pub rows-pls : ℕ
-rows-pls = 668
+rows-pls = 671
 
 abbrev pub rows-ply : ℕ
-rows-ply = 669
+rows-ply = 672
 
 abbrev pub rows-png : ℕ
-rows-png = 670
+rows-png = 673
 
 abbrev pub rows-pnm : ℕ
-rows-pnm = 671
+rows-pnm = 674
 
 abbrev pub rows-po : ℕ
-rows-po = 672
+rows-po = 675
 
 abbrev pub rows-pom : ℕ
-rows-pom = 673
+rows-pom = 676
 
 abbrev pub rows-por : ℕ
-rows-por = 674
+rows-por = 677
 
 abbrev pub rows-ppd : ℕ
-rows-ppd = 675
+rows-ppd = 678
 
 abbrev pub rows-ppf : ℕ
-rows-ppf = 676
+rows-ppf = 679
 
 abbrev pub rows-ppk : ℕ
-rows-ppk = 677
+rows-ppk = 680
 
 abbrev pub rows-ppt : ℕ
-rows-ppt = 678
+rows-ppt = 681
 
 abbrev pub rows-pptm : ℕ
-rows-pptm = 679
+rows-pptm = 682
 
 abbrev pub rows-pptx : ℕ
-rows-pptx = 680
+rows-pptx = 683
 
 abbrev pub rows-ppu : ℕ
-rows-ppu = 681
+rows-ppu = 684
 
 abbrev pub rows-profdata : ℕ
-rows-profdata = 682
+rows-profdata = 685
 
 abbrev pub rows-profraw : ℕ
-rows-profraw = 683
+rows-profraw = 686
 
 abbrev pub rows-ps : ℕ
-rows-ps = 684
+rows-ps = 687
 
 abbrev pub rows-ps-sh-txt : ℕ
-rows-ps-sh-txt = 685
+rows-ps-sh-txt = 688
 
 abbrev pub rows-ps-txt : ℕ
-rows-ps-txt = 686
+rows-ps-txt = 689
 
 abbrev pub rows-ps1 : ℕ
-rows-ps1 = 687
+rows-ps1 = 690
 
 abbrev pub rows-psd : ℕ
-rows-psd = 688
+rows-psd = 691
 
 abbrev pub rows-psf : ℕ
-rows-psf = 689
+rows-psf = 692
 
 abbrev pub rows-psf1-psf2 : ℕ
-rows-psf1-psf2 = 690
+rows-psf1-psf2 = 693
 
 abbrev pub rows-psp : ℕ
-rows-psp = 691
+rows-psp = 694
 
 abbrev pub rows-pst : ℕ
-rows-pst = 692
+rows-pst = 695
 
 abbrev pub rows-psw : ℕ
-rows-psw = 693
+rows-psw = 696
 
 abbrev pub rows-psx : ℕ
-rows-psx = 694
+rows-psx = 697
 
 abbrev pub rows-ptm : ℕ
-rows-ptm = 695
+rows-ptm = 698
 
 abbrev pub rows-pub : ℕ
-rows-pub = 696
+rows-pub = 699
 
 abbrev pub rows-puml : ℕ
-rows-puml = 697
+rows-puml = 700
 
 abbrev pub rows-pvf : ℕ
-rows-pvf = 698
+rows-pvf = 701
 
 abbrev pub rows-pvr : ℕ
-rows-pvr = 699
+rows-pvr = 702
 
 abbrev pub rows-pwg : ℕ
-rows-pwg = 700
+rows-pwg = 703
 
 abbrev pub rows-py : ℕ
-rows-py = 701
+rows-py = 704
 
 abbrev pub rows-py-sh-zip : ℕ
-rows-py-sh-zip = 702
+rows-py-sh-zip = 705
 
 abbrev pub rows-pyc : ℕ
-rows-pyc = 703
+rows-pyc = 706
 
 abbrev pub rows-pysu : ℕ
-rows-pysu = 704
+rows-pysu = 707
 
 abbrev pub rows-qcow2 : ℕ
-rows-qcow2 = 705
+rows-qcow2 = 708
 
 abbrev pub rows-qed : ℕ
-rows-qed = 706
+rows-qed = 709
 
 abbrev pub rows-qgz : ℕ
-rows-qgz = 707
+rows-qgz = 710
 
 abbrev pub rows-qml : ℕ
-rows-qml = 708
+rows-qml = 711
 
 abbrev pub rows-qoi : ℕ
-rows-qoi = 709
+rows-qoi = 712
 
 abbrev pub rows-qp : ℕ
-rows-qp = 710
+rows-qp = 713
 
 abbrev pub rows-qrc : ℕ
-rows-qrc = 711
+rows-qrc = 714
 
 abbrev pub rows-qti : ℕ
-rows-qti = 712
+rows-qti = 715
 
 abbrev pub rows-qtif : ℕ
-rows-qtif = 713
+rows-qtif = 716
 
 abbrev pub rows-qtl : ℕ
-rows-qtl = 714
+rows-qtl = 717
 
 abbrev pub rows-r : ℕ
-rows-r = 715
+rows-r = 718
 
 abbrev pub rows-r3d : ℕ
-rows-r3d = 716
+rows-r3d = 719
 
 abbrev pub rows-ra : ℕ
-rows-ra = 717
+rows-ra = 720
 
 abbrev pub rows-raf : ℕ
-rows-raf = 718
+rows-raf = 721
 
 abbrev pub rows-raku : ℕ
-rows-raku = 719
+rows-raku = 722
 
 abbrev pub rows-raml : ℕ
-rows-raml = 720
+rows-raml = 723
 
 abbrev pub rows-rar : ℕ
-rows-rar = 721
+rows-rar = 724
 
 abbrev pub rows-ras : ℕ
-rows-ras = 722
+rows-ras = 725
 
 abbrev pub rows-rb : ℕ
-rows-rb = 723
+rows-rb = 726
 
 abbrev pub rows-rdata : ℕ
-rows-rdata = 724
+rows-rdata = 727
 
 abbrev pub rows-rdb : ℕ
-rows-rdb = 725
+rows-rdb = 728
 
 abbrev pub rows-rdf : ℕ
-rows-rdf = 726
+rows-rdf = 729
 
 abbrev pub rows-reg : ℕ
-rows-reg = 727
+rows-reg = 730
 
 abbrev pub rows-regf : ℕ
-rows-regf = 728
+rows-regf = 731
 
 abbrev pub rows-res : ℕ
-rows-res = 729
+rows-res = 732
 
 abbrev pub rows-rf64 : ℕ
-rows-rf64 = 730
+rows-rf64 = 733
 
 abbrev pub rows-rifx-wav : ℕ
-rows-rifx-wav = 731
+rows-rifx-wav = 734
 
 abbrev pub rows-rkt : ℕ
-rows-rkt = 732
+rows-rkt = 735
 
 abbrev pub rows-rm : ℕ
-rows-rm = 733
+rows-rm = 736
 
 abbrev pub rows-rmeta : ℕ
-rows-rmeta = 734
+rows-rmeta = 737
 
 abbrev pub rows-rmi : ℕ
-rows-rmi = 735
+rows-rmi = 738
 
 abbrev pub rows-rng : ℕ
-rows-rng = 736
+rows-rng = 739
 
 abbrev pub rows-roff : ℕ
-rows-roff = 737
+rows-roff = 740
 
 abbrev pub rows-romfs : ℕ
-rows-romfs = 738
+rows-romfs = 741
 
 abbrev pub rows-root : ℕ
-rows-root = 739
+rows-root = 742
 
 abbrev pub rows-roq : ℕ
-rows-roq = 740
+rows-roq = 743
 
 abbrev pub rows-rpm : ℕ
-rows-rpm = 741
+rows-rpm = 744
 
 abbrev pub rows-rq : ℕ
-rows-rq = 742
+rows-rq = 745
 
 abbrev pub rows-rrd : ℕ
-rows-rrd = 743
+rows-rrd = 746
 
 abbrev pub rows-rss : ℕ
-rows-rss = 744
+rows-rss = 747
 
 abbrev pub rows-rtf : ℕ
-rows-rtf = 745
+rows-rtf = 748
 
 abbrev pub rows-rvz : ℕ
-rows-rvz = 746
+rows-rvz = 749
 
 abbrev pub rows-rw2 : ℕ
-rows-rw2 = 747
+rows-rw2 = 750
 
 abbrev pub rows-rz : ℕ
-rows-rz = 748
+rows-rz = 751
 
 abbrev pub rows-s3m : ℕ
-rows-s3m = 749
+rows-s3m = 752
 
 abbrev pub rows-safetensors : ℕ
-rows-safetensors = 750
+rows-safetensors = 753
 
 abbrev pub rows-sam : ℕ
-rows-sam = 751
+rows-sam = 754
 
 abbrev pub rows-sami : ℕ
-rows-sami = 752
+rows-sami = 755
 
 abbrev pub rows-sap : ℕ
-rows-sap = 753
+rows-sap = 756
 
 abbrev pub rows-sar : ℕ
-rows-sar = 754
+rows-sar = 757
 
 abbrev pub rows-sav : ℕ
-rows-sav = 755
+rows-sav = 758
 
 abbrev pub rows-sbml : ℕ
-rows-sbml = 756
+rows-sbml = 759
 
 abbrev pub rows-scala : ℕ
-rows-scala = 757
+rows-scala = 760
 
 abbrev pub rows-scc : ℕ
-rows-scc = 758
+rows-scc = 761
 
 abbrev pub rows-scf : ℕ
-rows-scf = 759
+rows-scf = 762
 
 abbrev pub rows-sch : ℕ
-rows-sch = 760
+rows-sch = 763
 
 abbrev pub rows-scm : ℕ
-rows-scm = 761
+rows-scm = 764
 
 abbrev pub rows-scsyn : ℕ
-rows-scsyn = 762
+rows-scsyn = 765
 
 abbrev pub rows-sdb : ℕ
-rows-sdb = 763
+rows-sdb = 766
 
 abbrev pub rows-sdi : ℕ
-rows-sdi = 764
+rows-sdi = 767
 
 abbrev pub rows-sdp : ℕ
-rows-sdp = 765
+rows-sdp = 768
 
 abbrev pub rows-sds : ℕ
-rows-sds = 766
+rows-sds = 769
 
 abbrev pub rows-sdw : ℕ
-rows-sdw = 767
+rows-sdw = 770
 
 abbrev pub rows-sed : ℕ
-rows-sed = 768
+rows-sed = 771
 
 abbrev pub rows-sereal : ℕ
-rows-sereal = 769
+rows-sereal = 772
 
 abbrev pub rows-sf2 : ℕ
-rows-sf2 = 770
+rows-sf2 = 773
 
 abbrev pub rows-sfd : ℕ
-rows-sfd = 771
+rows-sfd = 774
 
 abbrev pub rows-sgf : ℕ
-rows-sgf = 772
+rows-sgf = 775
 
 abbrev pub rows-sgi : ℕ
-rows-sgi = 773
+rows-sgi = 776
 
 abbrev pub rows-sh : ℕ
-rows-sh = 774
+rows-sh = 777
 
 abbrev pub rows-sh-txt : ℕ
-rows-sh-txt = 775
+rows-sh-txt = 778
+
+abbrev pub rows-shar : ℕ
+rows-shar = 779
 
 abbrev pub rows-shn : ℕ
-rows-shn = 776
+rows-shn = 780
 
 abbrev pub rows-shp : ℕ
-rows-shp = 777
+rows-shp = 781
 
 abbrev pub rows-shw : ℕ
-rows-shw = 778
+rows-shw = 782
 
 abbrev pub rows-shx : ℕ
-rows-shx = 779
+rows-shx = 783
 
 abbrev pub rows-sid : ℕ
-rows-sid = 780
+rows-sid = 784
 
 abbrev pub rows-sig : ℕ
-rows-sig = 781
+rows-sig = 785
 
 abbrev pub rows-simg : ℕ
-rows-simg = 782
+rows-simg = 786
 
 abbrev pub rows-sis : ℕ
-rows-sis = 783
+rows-sis = 787
 
 abbrev pub rows-sisx : ℕ
-rows-sisx = 784
+rows-sisx = 788
 
 abbrev pub rows-sit : ℕ
-rows-sit = 785
+rows-sit = 789
 
 abbrev pub rows-sk : ℕ
-rows-sk = 786
+rows-sk = 790
 
 abbrev pub rows-sla : ℕ
-rows-sla = 787
+rows-sla = 791
 
 abbrev pub rows-slk : ℕ
-rows-slk = 788
+rows-slk = 792
 
 abbrev pub rows-smil : ℕ
-rows-smil = 789
+rows-smil = 793
 
 abbrev pub rows-smk : ℕ
-rows-smk = 790
+rows-smk = 794
 
 abbrev pub rows-smp : ℕ
-rows-smp = 791
+rows-smp = 795
 
 abbrev pub rows-snoop : ℕ
-rows-snoop = 792
+rows-snoop = 796
 
 abbrev pub rows-so : ℕ
-rows-so = 793
+rows-so = 797
 
 abbrev pub rows-spc : ℕ
-rows-spc = 794
+rows-spc = 798
 
 abbrev pub rows-spd : ℕ
-rows-spd = 795
+rows-spd = 799
 
 abbrev pub rows-spec : ℕ
-rows-spec = 796
+rows-spec = 800
 
 abbrev pub rows-sph : ℕ
-rows-sph = 797
+rows-sph = 801
 
 abbrev pub rows-spv : ℕ
-rows-spv = 798
+rows-spv = 802
 
 abbrev pub rows-spx : ℕ
-rows-spx = 799
+rows-spx = 803
 
 abbrev pub rows-sqlite : ℕ
-rows-sqlite = 800
+rows-sqlite = 804
 
 abbrev pub rows-sqlite2 : ℕ
-rows-sqlite2 = 801
+rows-sqlite2 = 805
 
 abbrev pub rows-squashfs : ℕ
-rows-squashfs = 802
+rows-squashfs = 806
 
 abbrev pub rows-srpm : ℕ
-rows-srpm = 803
+rows-srpm = 807
 
 abbrev pub rows-srt : ℕ
-rows-srt = 804
+rows-srt = 808
 
 abbrev pub rows-srx : ℕ
-rows-srx = 805
+rows-srx = 809
 
 abbrev pub rows-ssa : ℕ
-rows-ssa = 806
+rows-ssa = 810
 
 abbrev pub rows-ssh1 : ℕ
-rows-ssh1 = 807
+rows-ssh1 = 811
 
 abbrev pub rows-ssh2pub-sshpub : ℕ
-rows-ssh2pub-sshpub = 808
+rows-ssh2pub-sshpub = 812
 
 abbrev pub rows-stex : ℕ
-rows-stex = 809
+rows-stex = 813
 
 abbrev pub rows-stl : ℕ
-rows-stl = 810
+rows-stl = 814
 
 abbrev pub rows-stm : ℕ
-rows-stm = 811
+rows-stm = 815
 
 abbrev pub rows-subviewer : ℕ
-rows-subviewer = 812
+rows-subviewer = 816
 
 abbrev pub rows-svg : ℕ
-rows-svg = 813
+rows-svg = 817
 
 abbrev pub rows-svm : ℕ
-rows-svm = 814
+rows-svm = 818
 
 abbrev pub rows-svndump : ℕ
-rows-svndump = 815
+rows-svndump = 819
 
 abbrev pub rows-swap : ℕ
-rows-swap = 816
+rows-swap = 820
 
 abbrev pub rows-swf : ℕ
-rows-swf = 817
+rows-swf = 821
 
 abbrev pub rows-swf-swfz : ℕ
-rows-swf-swfz = 818
+rows-swf-swfz = 822
 
 abbrev pub rows-sxc : ℕ
-rows-sxc = 819
+rows-sxc = 823
 
 abbrev pub rows-sxd : ℕ
-rows-sxd = 820
+rows-sxd = 824
 
 abbrev pub rows-sxi : ℕ
-rows-sxi = 821
+rows-sxi = 825
 
 abbrev pub rows-sxm : ℕ
-rows-sxm = 822
+rows-sxm = 826
 
 abbrev pub rows-sxw : ℕ
-rows-sxw = 823
+rows-sxw = 827
 
 abbrev pub rows-syzygy : ℕ
-rows-syzygy = 824
+rows-syzygy = 828
 
 abbrev pub rows-sz : ℕ
-rows-sz = 825
+rows-sz = 829
 
 abbrev pub rows-szdd : ℕ
-rows-szdd = 826
+rows-szdd = 830
 
 abbrev pub rows-szx : ℕ
-rows-szx = 827
+rows-szx = 831
 
 abbrev pub rows-t2t : ℕ
-rows-t2t = 828
+rows-t2t = 832
 
 abbrev pub rows-t602 : ℕ
-rows-t602 = 829
+rows-t602 = 833
 
 abbrev pub rows-tar : ℕ
-rows-tar = 830
+rows-tar = 834
 
 abbrev pub rows-tbi : ℕ
-rows-tbi = 831
+rows-tbi = 835
 
 abbrev pub rows-tcb : ℕ
-rows-tcb = 832
+rows-tcb = 836
 
 abbrev pub rows-tcf : ℕ
-rows-tcf = 833
+rows-tcf = 837
 
 abbrev pub rows-tch : ℕ
-rows-tch = 834
+rows-tch = 838
 
 abbrev pub rows-tcl : ℕ
-rows-tcl = 835
+rows-tcl = 839
 
 abbrev pub rows-tct : ℕ
-rows-tct = 836
+rows-tct = 840
 
 abbrev pub rows-tdb : ℕ
-rows-tdb = 837
+rows-tdb = 841
 
 abbrev pub rows-tei : ℕ
-rows-tei = 838
+rows-tei = 842
 
 abbrev pub rows-terminfo : ℕ
-rows-terminfo = 839
+rows-terminfo = 843
 
 abbrev pub rows-tex : ℕ
-rows-tex = 840
+rows-tex = 844
 
 abbrev pub rows-texi : ℕ
-rows-texi = 841
+rows-texi = 845
 
 abbrev pub rows-texlua : ℕ
-rows-texlua = 842
+rows-texlua = 846
 
 abbrev pub rows-tga : ℕ
-rows-tga = 843
+rows-tga = 847
 
 abbrev pub rows-tgif : ℕ
-rows-tgif = 844
+rows-tgif = 848
 
 abbrev pub rows-thomsap : ℕ
-rows-thomsap = 845
+rows-thomsap = 849
 
 abbrev pub rows-tib : ℕ
-rows-tib = 846
+rows-tib = 850
 
 abbrev pub rows-tif : ℕ
-rows-tif = 847
+rows-tif = 851
 
 abbrev pub rows-tnef : ℕ
-rows-tnef = 848
+rows-tnef = 852
 
 abbrev pub rows-toc : ℕ
-rows-toc = 849
+rows-toc = 853
 
 abbrev pub rows-torrent : ℕ
-rows-torrent = 850
+rows-torrent = 854
 
 abbrev pub rows-trd : ℕ
-rows-trd = 851
+rows-trd = 855
 
 abbrev pub rows-tres : ℕ
-rows-tres = 852
+rows-tres = 856
 
 abbrev pub rows-trustdb : ℕ
-rows-trustdb = 853
+rows-trustdb = 857
 
 abbrev pub rows-ts : ℕ
-rows-ts = 854
+rows-ts = 858
 
 abbrev pub rows-tscn : ℕ
-rows-tscn = 855
+rows-tscn = 859
 
 abbrev pub rows-tta : ℕ
-rows-tta = 856
+rows-tta = 860
 
 abbrev pub rows-ttc : ℕ
-rows-ttc = 857
+rows-ttc = 861
 
 abbrev pub rows-ttf : ℕ
-rows-ttf = 858
+rows-ttf = 862
 
 abbrev pub rows-ttl : ℕ
-rows-ttl = 859
+rows-ttl = 863
 
 abbrev pub rows-ttml : ℕ
-rows-ttml = 860
+rows-ttml = 864
 
 abbrev pub rows-ttx : ℕ
-rows-ttx = 861
+rows-ttx = 865
 
 abbrev pub rows-txt : ℕ
-rows-txt = 862
+rows-txt = 866
 
 abbrev pub rows-txt-xml : ℕ
-rows-txt-xml = 863
+rows-txt-xml = 867
 
 abbrev pub rows-txt-yaml : ℕ
-rows-txt-yaml = 864
+rows-txt-yaml = 868
 
 abbrev pub rows-txw : ℕ
-rows-txw = 865
+rows-txw = 869
 
 abbrev pub rows-typelib : ℕ
-rows-typelib = 866
+rows-typelib = 870
 
 abbrev pub rows-tzif : ℕ
-rows-tzif = 867
+rows-tzif = 871
 
 abbrev pub rows-tzx : ℕ
-rows-tzx = 868
+rows-tzx = 872
 
 abbrev pub rows-ubi : ℕ
-rows-ubi = 869
+rows-ubi = 873
 
 abbrev pub rows-ubifs : ℕ
-rows-ubifs = 870
+rows-ubifs = 874
 
 abbrev pub rows-uf2 : ℕ
-rows-uf2 = 871
+rows-uf2 = 875
 
 abbrev pub rows-ui : ℕ
-rows-ui = 872
+rows-ui = 876
 
 abbrev pub rows-uimage : ℕ
-rows-uimage = 873
+rows-uimage = 877
 
 abbrev pub rows-ult : ℕ
-rows-ult = 874
+rows-ult = 878
 
 abbrev pub rows-ulx : ℕ
-rows-ulx = 875
+rows-ulx = 879
 
 abbrev pub rows-umx : ℕ
-rows-umx = 876
+rows-umx = 880
 
 abbrev pub rows-unit : ℕ
-rows-unit = 877
+rows-unit = 881
 
 abbrev pub rows-ups : ℕ
-rows-ups = 878
+rows-ups = 882
 
 abbrev pub rows-url : ℕ
-rows-url = 879
+rows-url = 883
 
 abbrev pub rows-usda : ℕ
-rows-usda = 880
+rows-usda = 884
 
 abbrev pub rows-usdc : ℕ
-rows-usdc = 881
+rows-usdc = 885
 
 abbrev pub rows-uu : ℕ
-rows-uu = 882
+rows-uu = 886
 
 abbrev pub rows-vcdiff : ℕ
-rows-vcdiff = 883
+rows-vcdiff = 887
 
 abbrev pub rows-vcf : ℕ
-rows-vcf = 884
+rows-vcf = 888
 
 abbrev pub rows-vcfg : ℕ
-rows-vcfg = 885
+rows-vcfg = 889
 
 abbrev pub rows-vdex : ℕ
-rows-vdex = 886
+rows-vdex = 890
 
 abbrev pub rows-vdi : ℕ
-rows-vdi = 887
+rows-vdi = 891
 
 abbrev pub rows-vdr : ℕ
-rows-vdr = 888
+rows-vdr = 892
 
 abbrev pub rows-vgm : ℕ
-rows-vgm = 889
+rows-vgm = 893
 
 abbrev pub rows-vhd : ℕ
-rows-vhd = 890
+rows-vhd = 894
 
 abbrev pub rows-vhdx : ℕ
-rows-vhdx = 891
+rows-vhdx = 895
 
 abbrev pub rows-vips : ℕ
-rows-vips = 892
+rows-vips = 896
 
 abbrev pub rows-vmdk-vmdkcow : ℕ
-rows-vmdk-vmdkcow = 893
+rows-vmdk-vmdkcow = 897
 
 abbrev pub rows-vnt : ℕ
-rows-vnt = 894
+rows-vnt = 898
 
 abbrev pub rows-voc : ℕ
-rows-voc = 895
+rows-voc = 899
 
 abbrev pub rows-vpk : ℕ
-rows-vpk = 896
+rows-vpk = 900
 
 abbrev pub rows-vpnpcf : ℕ
-rows-vpnpcf = 897
+rows-vpnpcf = 901
 
 abbrev pub rows-vsd : ℕ
-rows-vsd = 898
+rows-vsd = 902
 
 abbrev pub rows-vsdx : ℕ
-rows-vsdx = 899
+rows-vsdx = 903
 
 abbrev pub rows-vsdx-zip : ℕ
-rows-vsdx-zip = 900
+rows-vsdx-zip = 904
 
 abbrev pub rows-vtf : ℕ
-rows-vtf = 901
+rows-vtf = 905
 
 abbrev pub rows-vtt : ℕ
-rows-vtt = 902
+rows-vtt = 906
 
 abbrev pub rows-w64 : ℕ
-rows-w64 = 903
+rows-w64 = 907
 
 abbrev pub rows-wad : ℕ
-rows-wad = 904
+rows-wad = 908
 
 abbrev pub rows-warc : ℕ
-rows-warc = 905
+rows-warc = 909
 
 abbrev pub rows-wasm-wasmc : ℕ
-rows-wasm-wasmc = 906
+rows-wasm-wasmc = 910
 
 abbrev pub rows-wav : ℕ
-rows-wav = 907
+rows-wav = 911
 
 abbrev pub rows-wbfs : ℕ
-rows-wbfs = 908
+rows-wbfs = 912
 
 abbrev pub rows-webm : ℕ
-rows-webm = 909
+rows-webm = 913
 
 abbrev pub rows-webp : ℕ
-rows-webp = 910
+rows-webp = 914
 
 abbrev pub rows-wiiwad : ℕ
-rows-wiiwad = 911
+rows-wiiwad = 915
 
 abbrev pub rows-wim : ℕ
-rows-wim = 912
+rows-wim = 916
 
 abbrev pub rows-wk1 : ℕ
-rows-wk1 = 913
+rows-wk1 = 917
 
 abbrev pub rows-wmf : ℕ
-rows-wmf = 914
+rows-wmf = 918
 
 abbrev pub rows-wmv : ℕ
-rows-wmv = 915
+rows-wmv = 919
 
 abbrev pub rows-woff : ℕ
-rows-woff = 916
+rows-woff = 920
 
 abbrev pub rows-woff2 : ℕ
-rows-woff2 = 917
+rows-woff2 = 921
 
 abbrev pub rows-wpd : ℕ
-rows-wpd = 918
+rows-wpd = 922
 
 abbrev pub rows-wpg : ℕ
-rows-wpg = 919
+rows-wpg = 923
 
 abbrev pub rows-wpl : ℕ
-rows-wpl = 920
+rows-wpl = 924
 
 abbrev pub rows-wpm : ℕ
-rows-wpm = 921
+rows-wpm = 925
 
 abbrev pub rows-wps : ℕ
-rows-wps = 922
+rows-wps = 926
 
 abbrev pub rows-wreg : ℕ
-rows-wreg = 923
+rows-wreg = 927
 
 abbrev pub rows-wri : ℕ
-rows-wri = 924
+rows-wri = 928
 
 abbrev pub rows-wrl : ℕ
-rows-wrl = 925
+rows-wrl = 929
 
 abbrev pub rows-wsdl : ℕ
-rows-wsdl = 926
+rows-wsdl = 930
 
 abbrev pub rows-wtv : ℕ
-rows-wtv = 927
+rows-wtv = 931
 
 abbrev pub rows-wv : ℕ
-rows-wv = 928
+rows-wv = 932
 
 abbrev pub rows-wve : ℕ
-rows-wve = 929
+rows-wve = 933
 
 abbrev pub rows-x3d : ℕ
-rows-x3d = 930
+rows-x3d = 934
 
 abbrev pub rows-x3dv : ℕ
-rows-x3dv = 931
+rows-x3dv = 935
 
 abbrev pub rows-x3f : ℕ
-rows-x3f = 932
+rows-x3f = 936
 
 abbrev pub rows-xap : ℕ
-rows-xap = 933
+rows-xap = 937
 
 abbrev pub rows-xar : ℕ
-rows-xar = 934
+rows-xar = 938
 
 abbrev pub rows-xbe : ℕ
-rows-xbe = 935
+rows-xbe = 939
 
 abbrev pub rows-xbel : ℕ
-rows-xbel = 936
+rows-xbel = 940
 
 abbrev pub rows-xbm : ℕ
-rows-xbm = 937
+rows-xbm = 941
 
 abbrev pub rows-xbt : ℕ
-rows-xbt = 938
+rows-xbt = 942
 
 abbrev pub rows-xcf : ℕ
-rows-xcf = 939
+rows-xcf = 943
 
 abbrev pub rows-xex : ℕ
-rows-xex = 940
+rows-xex = 944
 
 abbrev pub rows-xhtml : ℕ
-rows-xhtml = 941
+rows-xhtml = 945
 
 abbrev pub rows-xi : ℕ
-rows-xi = 942
+rows-xi = 946
 
 abbrev pub rows-xib : ℕ
-rows-xib = 943
+rows-xib = 947
 
 abbrev pub rows-xisf : ℕ
-rows-xisf = 944
+rows-xisf = 948
 
 abbrev pub rows-xliff : ℕ
-rows-xliff = 945
+rows-xliff = 949
 
 abbrev pub rows-xls : ℕ
-rows-xls = 946
+rows-xls = 950
 
 abbrev pub rows-xlsb : ℕ
-rows-xlsb = 947
+rows-xlsb = 951
 
 abbrev pub rows-xlsm : ℕ
-rows-xlsm = 948
+rows-xlsm = 952
 
 abbrev pub rows-xlsx : ℕ
-rows-xlsx = 949
+rows-xlsx = 953
 
 abbrev pub rows-xm : ℕ
-rows-xm = 950
+rows-xm = 954
 
 abbrev pub rows-xmcd : ℕ
-rows-xmcd = 951
+rows-xmcd = 955
 
 abbrev pub rows-xmf : ℕ
-rows-xmf = 952
+rows-xmf = 956
 
 abbrev pub rows-xmi : ℕ
-rows-xmi = 953
+rows-xmi = 957
 
 abbrev pub rows-xml : ℕ
-rows-xml = 954
+rows-xml = 958
 
 abbrev pub rows-xmp : ℕ
-rows-xmp = 955
+rows-xmp = 959
 
 abbrev pub rows-xpm : ℕ
-rows-xpm = 956
+rows-xpm = 960
 
 abbrev pub rows-xpm-xpm2 : ℕ
-rows-xpm-xpm2 = 957
+rows-xpm-xpm2 = 961
 
 abbrev pub rows-xsd : ℕ
-rows-xsd = 958
+rows-xsd = 962
 
 abbrev pub rows-xslt : ℕ
-rows-xslt = 959
+rows-xslt = 963
 
 abbrev pub rows-xspf : ℕ
-rows-xspf = 960
+rows-xspf = 964
 
 abbrev pub rows-xwd : ℕ
-rows-xwd = 961
+rows-xwd = 965
 
 abbrev pub rows-xz : ℕ
-rows-xz = 962
+rows-xz = 966
 
 abbrev pub rows-y4m : ℕ
-rows-y4m = 963
+rows-y4m = 967
 
 abbrev pub rows-yaml : ℕ
-rows-yaml = 964
+rows-yaml = 968
 
 abbrev pub rows-zck : ℕ
-rows-zck = 965
+rows-zck = 969
 
 abbrev pub rows-zim : ℕ
-rows-zim = 966
+rows-zim = 970
 
 abbrev pub rows-zimage : ℕ
-rows-zimage = 967
+rows-zimage = 971
 
 abbrev pub rows-zip : ℕ
-rows-zip = 968
+rows-zip = 972
 
 abbrev pub rows-zoo : ℕ
-rows-zoo = 969
+rows-zoo = 973
 
 abbrev pub rows-zpaq : ℕ
-rows-zpaq = 970
+rows-zpaq = 974
 
 abbrev pub rows-zst : ℕ
-rows-zst = 971
+rows-zst = 975
 
 abbrev pub rows-zst-zstold : ℕ
-rows-zst-zstold = 972
+rows-zst-zstold = 976
 
 unfoldable pub lead_lists : List (List (List ℕ))
 lead_lists =
@@ -3000,6 +3012,7 @@ sets_0 =
     ∷ (codes "aa" ∷ [])
     ∷ (codes "aac" ∷ [])
     ∷ (codes "aac" ∷ codes "adif" ∷ [])
+    ∷ (codes "aaf" ∷ [])
     ∷ (codes "aax" ∷ [])
     ∷ (codes "abc" ∷ [])
     ∷ (codes "abw" ∷ [])
@@ -3063,6 +3076,7 @@ sets_0 =
     ∷ (codes "avr" ∷ [])
     ∷ (codes "avro" ∷ [])
     ∷ (codes "aw" ∷ [])
+    ∷ (codes "awb" ∷ [])
     ∷ (codes "awbm" ∷ [])
     ∷ (codes "awk" ∷ [])
     ∷ (codes "axml" ∷ [])
@@ -3105,13 +3119,13 @@ sets_0 =
     ∷ (codes "bz3" ∷ [])
     ∷ (codes "bzimage" ∷ [])
     ∷ (codes "cab" ∷ [])
-    ∷ (codes "caf" ∷ [])
-    ∷ (codes "cbor" ∷ [])
     ∷ []
 
 unfoldable pub sets_1 : List (List (List ℕ))
 sets_1 =
-    (codes "cci" ∷ [])
+    (codes "caf" ∷ [])
+    ∷ (codes "cbor" ∷ [])
+    ∷ (codes "cci" ∷ [])
     ∷ (codes "ccmx" ∷ [])
     ∷ (codes "cdf" ∷ [])
     ∷ (codes "cdr" ∷ [])
@@ -3237,13 +3251,13 @@ sets_1 =
     ∷ (codes "ext2" ∷ [])
     ∷ (codes "f4a" ∷ [])
     ∷ (codes "f4v" ∷ [])
-    ∷ (codes "fb2" ∷ [])
-    ∷ (codes "fbx" ∷ codes "fbxtext" ∷ [])
     ∷ []
 
 unfoldable pub sets_2 : List (List (List ℕ))
 sets_2 =
-    (codes "fbz" ∷ [])
+    (codes "fb2" ∷ [])
+    ∷ (codes "fbx" ∷ codes "fbxtext" ∷ [])
+    ∷ (codes "fbz" ∷ [])
     ∷ (codes "fccache" ∷ [])
     ∷ (codes "fcstd" ∷ [])
     ∷ (codes "fdf" ∷ [])
@@ -3369,13 +3383,13 @@ sets_2 =
     ∷ (codes "iiq" ∷ [])
     ∷ (codes "ilbm" ∷ [])
     ∷ (codes "imy" ∷ [])
-    ∷ (codes "indd" ∷ [])
-    ∷ (codes "inf" ∷ [])
     ∷ []
 
 unfoldable pub sets_3 : List (List (List ℕ))
 sets_3 =
-    (codes "info" ∷ [])
+    (codes "indd" ∷ [])
+    ∷ (codes "inf" ∷ [])
+    ∷ (codes "info" ∷ [])
     ∷ (codes "innolog" ∷ [])
     ∷ (codes "ips" ∷ [])
     ∷ (codes "ipynb" ∷ [])
@@ -3501,13 +3515,13 @@ sets_3 =
     ∷ (codes "mj2" ∷ [])
     ∷ (codes "mk" ∷ [])
     ∷ (codes "mkv" ∷ [])
-    ∷ (codes "ml" ∷ [])
-    ∷ (codes "mlp" ∷ [])
     ∷ []
 
 unfoldable pub sets_4 : List (List (List ℕ))
 sets_4 =
-    (codes "mm" ∷ [])
+    (codes "ml" ∷ [])
+    ∷ (codes "mlp" ∷ [])
+    ∷ (codes "mm" ∷ [])
     ∷ (codes "mmf" ∷ [])
     ∷ (codes "mml" ∷ [])
     ∷ (codes "mmm" ∷ [])
@@ -3539,6 +3553,7 @@ sets_4 =
     ∷ (codes "mscx" ∷ [])
     ∷ (codes "mscz" ∷ [])
     ∷ (codes "msg" ∷ [])
+    ∷ (codes "msi" ∷ [])
     ∷ (codes "mtl" ∷ [])
     ∷ (codes "mtm" ∷ [])
     ∷ (codes "mtn" ∷ [])
@@ -3632,14 +3647,14 @@ sets_4 =
     ∷ (codes "pcd" ∷ [])
     ∷ (codes "pcdimg" ∷ [])
     ∷ (codes "pcf" ∷ [])
-    ∷ (codes "pch" ∷ [])
-    ∷ (codes "pcl" ∷ [])
-    ∷ (codes "pcx" ∷ [])
     ∷ []
 
 unfoldable pub sets_5 : List (List (List ℕ))
 sets_5 =
-    (codes "pdb" ∷ [])
+    (codes "pch" ∷ [])
+    ∷ (codes "pcl" ∷ [])
+    ∷ (codes "pcx" ∷ [])
+    ∷ (codes "pdb" ∷ [])
     ∷ (codes "pdbmol" ∷ [])
     ∷ (codes "pdf" ∷ [])
     ∷ (codes "pdn" ∷ [])
@@ -3764,14 +3779,14 @@ sets_5 =
     ∷ (codes "scsyn" ∷ [])
     ∷ (codes "sdb" ∷ [])
     ∷ (codes "sdi" ∷ [])
-    ∷ (codes "sdp" ∷ [])
-    ∷ (codes "sds" ∷ [])
-    ∷ (codes "sdw" ∷ [])
     ∷ []
 
 unfoldable pub sets_6 : List (List (List ℕ))
 sets_6 =
-    (codes "sed" ∷ [])
+    (codes "sdp" ∷ [])
+    ∷ (codes "sds" ∷ [])
+    ∷ (codes "sdw" ∷ [])
+    ∷ (codes "sed" ∷ [])
     ∷ (codes "sereal" ∷ [])
     ∷ (codes "sf2" ∷ [])
     ∷ (codes "sfd" ∷ [])
@@ -3779,6 +3794,7 @@ sets_6 =
     ∷ (codes "sgi" ∷ [])
     ∷ (codes "sh" ∷ [])
     ∷ (codes "sh" ∷ codes "txt" ∷ [])
+    ∷ (codes "shar" ∷ [])
     ∷ (codes "shn" ∷ [])
     ∷ (codes "shp" ∷ [])
     ∷ (codes "shw" ∷ [])
@@ -3895,15 +3911,15 @@ sets_6 =
     ∷ (codes "vgm" ∷ [])
     ∷ (codes "vhd" ∷ [])
     ∷ (codes "vhdx" ∷ [])
-    ∷ (codes "vips" ∷ [])
-    ∷ (codes "vmdk" ∷ codes "vmdkcow" ∷ [])
-    ∷ (codes "vnt" ∷ [])
-    ∷ (codes "voc" ∷ [])
     ∷ []
 
 unfoldable pub sets_7 : List (List (List ℕ))
 sets_7 =
-    (codes "vpk" ∷ [])
+    (codes "vips" ∷ [])
+    ∷ (codes "vmdk" ∷ codes "vmdkcow" ∷ [])
+    ∷ (codes "vnt" ∷ [])
+    ∷ (codes "voc" ∷ [])
+    ∷ (codes "vpk" ∷ [])
     ∷ (codes "vpnpcf" ∷ [])
     ∷ (codes "vsd" ∷ [])
     ∷ (codes "vsdx" ∷ [])

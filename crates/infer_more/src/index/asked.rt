@@ -769,27 +769,27 @@ fn bucket_at(buckets: &'static [&'static [Named]], i: usize) -> &'static [Named]
     }
 }
 
-/// The least of the rows with the name of the script's program, or their count.
-fn least_program(buckets: &'static [&'static [Named]], buf: &[u8]) -> usize
+/// The least of the number before and of the rows with the name of the script's program.
+fn least_program(buckets: &'static [&'static [Named]], buf: &[u8], before: usize) -> usize
     requires { IsTrue (all_ascend named_row buckets.now) }
-    ensures { IsLeast (IsOfProgram buf.now buckets.now) FURTHER_COUNT result }
+    ensures { IsLeast (IsOfProgram buf.now buckets.now) before result }
 {
     match program(buf) {
-        Some(name) => least_named(bucket_of(buckets, name), name, FURTHER_COUNT),
-        None => FURTHER_COUNT,
+        Some(name) => least_named(bucket_of(buckets, name), name, before),
+        None => before,
     }
 }
 
-/// The least of the rows with the class id of the compound file, or their count.
+/// The least of the number before and of the rows with the class id of the compound file.
 #[inline(always)]
-fn least_class(ids: &[Named], buf: &[u8]) -> usize
+fn least_class(ids: &[Named], buf: &[u8], before: usize) -> usize
     requires long { AreClassIds ids.now }
     requires ascend { IsTrue (ascends named_row ids.now) }
-    ensures { IsLeast (IsNamed (λ id. HasClassId id buf.now) ids.now) FURTHER_COUNT result }
+    ensures { IsLeast (IsNamed (λ id. HasClassId id buf.now) ids.now) before result }
 {
     match class_id(buf) {
-        Some(id) => least_named(ids, id, FURTHER_COUNT),
-        None => FURTHER_COUNT,
+        Some(id) => least_named(ids, id, before),
+        None => before,
     }
 }
 
@@ -892,8 +892,14 @@ fn least_found(below: &Below, row: usize, buf: &[u8]) -> usize
     match below {
         Below::Nothing => FURTHER_COUNT,
         Below::Entries(entries) => least_in_halves(entries, Some(row), buf, FURTHER_COUNT),
-        Below::ClassIds(ids) => least_class(ids, buf),
-        Below::Programs(buckets) => least_program(buckets, buf),
+        Below::ClassIds(entries, ids) => {
+            let tried = least_in_halves(entries, Some(row), buf, FURTHER_COUNT);
+            least_class(ids, buf, tried)
+        }
+        Below::Programs(entries, buckets) => {
+            let tried = least_in_halves(entries, Some(row), buf, FURTHER_COUNT);
+            least_program(buckets, buf, tried)
+        }
         Below::Roots(roots) => least_root(roots, buf, FURTHER_COUNT),
         Below::Packages(entries, excepts, folders) => {
             let tried = least_in_halves(entries, Some(row), buf, FURTHER_COUNT);

@@ -802,9 +802,9 @@ fn widens_before_768(i: usize, parent: Option<usize>, buf: &[u8]) -> bool
     }
 }
 
-/// [`widens`] for the rows before 921.
+/// [`widens`] for the rows before 924.
 #[inline(always)]
-fn widens_before_921(i: usize, parent: Option<usize>, buf: &[u8]) -> bool
+fn widens_before_924(i: usize, parent: Option<usize>, buf: &[u8]) -> bool
     ensures { IsTrue result ↔ WidensAt parent buf.now i }
 {
     match i {
@@ -961,6 +961,9 @@ fn widens_before_921(i: usize, parent: Option<usize>, buf: &[u8]) -> bool
         918 => widens_row::<918>(parent, buf),
         919 => widens_row::<919>(parent, buf),
         920 => widens_row::<920>(parent, buf),
+        921 => widens_row::<921>(parent, buf),
+        922 => widens_row::<922>(parent, buf),
+        923 => widens_row::<923>(parent, buf),
         _ => widens_any(i, parent, buf),
     }
 }
@@ -979,5 +982,5 @@ pub(crate) fn widens(i: usize, parent: Option<usize>, buf: &[u8]) -> bool
     if i < 768 {
         return widens_before_768(i, parent, buf);
     }
-    widens_before_921(i, parent, buf)
+    widens_before_924(i, parent, buf)
 }

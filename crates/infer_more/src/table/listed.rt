@@ -1808,13 +1808,13 @@ fn rows_from_744() -> &'static [FurtherRow]
 
 static ROWS_FROM_752: &[FurtherRow] = rows![
     Image "image/x-phaseone-iiq" "iiq": TIFF => [12, At(8, b"IIII")];
+    Video "application/x-aaf" "aaf": MSI => [16, At(8, b"AAFB\r\0OM")];
+    Archive "application/x-shar" "shar": SHELLSCRIPT => [35, At(10, b"# This is a shell archive")];
+    Audio "audio/amr-wb" "awb": SHELLSCRIPT => [9, At(0, b"#!AMR-WB\n")];
     Text "application/yaml" "yaml": => [TextFirst(b"%YAML ")];
     Text "application/raml+yaml" "raml": => [TextFirst(b"#%RAML ")];
     Audio "audio/x-scpls" "pls": => [TextFirst(b"[playlist]")] [TextFirst(b"[Playlist]")] [TextFirst(b"[PLAYLIST]")];
     Text "video/x-ms-asf" "asxref": => [TextFirstWith(b"[Reference]", b"Ref1=")];
-    Text "application/x-netshow-channel" "nsc": => [TextFirstWith(b"[Address]", b"NSC Format")];
-    Text "application/x-godot-scene" "tscn": => [TextFirst(b"[gd_scene ")];
-    Text "application/x-godot-resource" "tres": => [TextFirst(b"[gd_resource ")];
 ];
 
 #[inline(always)]
@@ -1826,14 +1826,14 @@ fn rows_from_752() -> &'static [FurtherRow]
 }
 
 static ROWS_FROM_760: &[FurtherRow] = rows![
+    Text "application/x-netshow-channel" "nsc": => [TextFirstWith(b"[Address]", b"NSC Format")];
+    Text "application/x-godot-scene" "tscn": => [TextFirst(b"[gd_scene ")];
+    Text "application/x-godot-resource" "tres": => [TextFirst(b"[gd_resource ")];
     Text "application/x-go-sgf" "sgf": => [TextFirst(b"(;FF[")] [TextFirst(b"(;GM[")];
     Text "application/sparql-query" "rq": => [TextFirstWith(b"PREFIX ", b"SELECT")] [TextFirstWith(b"PREFIX ", b"CONSTRUCT")] [TextFirstWith(b"PREFIX ", b"ASK")];
     Image "model/vrml" "wrl": => [TextFirst(b"#VRML V")];
     Image "model/step" "stp": => [TextFirst(b"ISO-10303-21;")];
     Image "application/x-fbx-text" "fbxtext": => [TextFirstWith(b"; FBX ", b"FBXHeaderExtension")];
-    Image "model/stl" "stl": => [TextFirstWith(b"solid", b"facet normal ")] [TextFirstWith(b"SOLID", b"FACET NORMAL ")];
-    Image "image/x-xfig" "fig": => [TextFirst(b"#FIG 3.")] [TextFirst(b"#FIG 2.")] [TextFirst(b"#FIG 1.")];
-    Image "image/x-skencil" "sk": => [TextFirst(b"##Sketch ")];
 ];
 
 #[inline(always)]
@@ -1845,14 +1845,14 @@ fn rows_from_760() -> &'static [FurtherRow]
 }
 
 static ROWS_FROM_768: &[FurtherRow] = rows![
+    Image "model/stl" "stl": => [TextFirstWith(b"solid", b"facet normal ")] [TextFirstWith(b"SOLID", b"FACET NORMAL ")];
+    Image "image/x-xfig" "fig": => [TextFirst(b"#FIG 3.")] [TextFirst(b"#FIG 2.")] [TextFirst(b"#FIG 1.")];
+    Image "image/x-skencil" "sk": => [TextFirst(b"##Sketch ")];
     Text "text/x-texinfo" "texi": => [TextFirst(b"\\input texinfo")];
     Text "text/x-info" "info": => [TextFirstWith(b"This is ", b"produced by makeinfo")];
     Text "application/x-lyx" "lyx": => [TextFirst(b"#LyX ")];
     Text "application/x-mozilla-bookmarks" "bookmarks": => [TextFirst(b"<!DOCTYPE NETSCAPE-Bookmark-file-1>")];
     Doc "text/spreadsheet" "slk": => [TextFirst(b"ID;P")];
-    Text "text/x-ssa" "ssa": => [TextFirst(b"[Script Info]")];
-    Text "text/x-subviewer" "subviewer": => [TextFirstWith(b"[INFORMATION]", b"[SUBTITLE]")];
-    Text "text/x-scc" "scc": => [TextFirst(b"Scenarist_SCC V1.0")];
 ];
 
 #[inline(always)]
@@ -1864,14 +1864,14 @@ fn rows_from_768() -> &'static [FurtherRow]
 }
 
 static ROWS_FROM_776: &[FurtherRow] = rows![
+    Text "text/x-ssa" "ssa": => [TextFirst(b"[Script Info]")];
+    Text "text/x-subviewer" "subviewer": => [TextFirstWith(b"[INFORMATION]", b"[SUBTITLE]")];
+    Text "text/x-scc" "scc": => [TextFirst(b"Scenarist_SCC V1.0")];
     Text "text/x-plantuml" "puml": => [TextFirst(b"@startuml")];
     Text "text/x-java-manifest" "jarmf": => [TextFirst(b"Manifest-Version: 1")] [TextFirst(b"Signature-Version: 1")];
     Text "text/vnd.sun.j2me.app-descriptor" "jad": => [TextFirst(b"MIDlet-")];
     Text "text/x-debian-copyright" "dep5": => [TextFirstWith(b"Format: http", b"copyright-format/1.0")];
     Text "text/x-python-metadata" "pkginfo": => [TextFirst(b"Metadata-Version: ")];
-    Text "application/x-fluid" "fl": => [TextFirst(b"# data file for the Fltk")];
-    Text "text/x-gcode-gx" "gx": => [TextFirst(b"xgcode 1.0")];
-    Text "application/x-pyspread-spreadsheet" "pysu": => [TextFirst(b"[Pyspread save file version]")];
 ];
 
 #[inline(always)]
@@ -1883,14 +1883,14 @@ fn rows_from_776() -> &'static [FurtherRow]
 }
 
 static ROWS_FROM_784: &[FurtherRow] = rows![
+    Text "application/x-fluid" "fl": => [TextFirst(b"# data file for the Fltk")];
+    Text "text/x-gcode-gx" "gx": => [TextFirst(b"xgcode 1.0")];
+    Text "application/x-pyspread-spreadsheet" "pysu": => [TextFirst(b"[Pyspread save file version]")];
     Text "text/x-vnote" "vnt": => [TextFirst(b"BEGIN:VNOTE")];
     Audio "application/vnd.ms-wpl" "wpl": => [TextFirst(b"<?wpl ")];
     Text "text/x-devicetree" "dtsi": => [TextFirst(b"/dts-v1/;")];
     Video "application/x-quicktime-media-link" "qtl": => [TextFirst(b"RTSPtext")] [TextFirst(b"rtsptext")] [TextFirst(b"SMILtext")];
     Image "image/x-mvg" "mvg": => [TextFirst(b"push graphic-context")];
-    Text "text/cloud-config" "cloudcfg": => [14, At(0, b"#cloud-config\n")] [17, At(0, b"\xEF\xBB\xBF#cloud-config\n")] [15, At(0, b"#cloud-config\r\n")] [18, At(0, b"\xEF\xBB\xBF#cloud-config\r\n")];
-    Text "application/vnd.flatpak.ref" "flatpakref": => [14, At(0, b"[Flatpak Ref]\n")] [17, At(0, b"\xEF\xBB\xBF[Flatpak Ref]\n")];
-    Text "application/vnd.flatpak.repo" "flatpakrepo": => [15, At(0, b"[Flatpak Repo]\n")] [18, At(0, b"\xEF\xBB\xBF[Flatpak Repo]\n")];
 ];
 
 #[inline(always)]
@@ -1902,14 +1902,14 @@ fn rows_from_784() -> &'static [FurtherRow]
 }
 
 static ROWS_FROM_792: &[FurtherRow] = rows![
+    Text "text/cloud-config" "cloudcfg": => [14, At(0, b"#cloud-config\n")] [17, At(0, b"\xEF\xBB\xBF#cloud-config\n")] [15, At(0, b"#cloud-config\r\n")] [18, At(0, b"\xEF\xBB\xBF#cloud-config\r\n")];
+    Text "application/vnd.flatpak.ref" "flatpakref": => [14, At(0, b"[Flatpak Ref]\n")] [17, At(0, b"\xEF\xBB\xBF[Flatpak Ref]\n")];
+    Text "application/vnd.flatpak.repo" "flatpakrepo": => [15, At(0, b"[Flatpak Repo]\n")] [18, At(0, b"\xEF\xBB\xBF[Flatpak Repo]\n")];
     Text "application/x-mswinurl" "url": => [18, At(0, b"[InternetShortcut]")] [21, At(0, b"\xEF\xBB\xBF[InternetShortcut]")] [19, At(0, b"[DEFAULT]\r\nBASEURL=")] [22, At(0, b"\xEF\xBB\xBF[DEFAULT]\r\nBASEURL=")];
     Text "application/vnd.chess-pgn" "pgn": => [8, At(0, b"[Event \"")] [11, At(0, b"\xEF\xBB\xBF[Event \"")];
     Image "model/x3d-vrml" "x3dv": => [TextFirst(b"#X3D V")];
     Image "model/vnd.usda" "usda": => [TextFirst(b"#usda 1")];
     Image "model/x-ply" "ply": => [11, At(0, b"ply\nformat ")] [14, At(0, b"\xEF\xBB\xBFply\nformat ")] [12, At(0, b"ply\r\nformat ")] [15, At(0, b"\xEF\xBB\xBFply\r\nformat ")] [11, At(0, b"ply\rformat ")] [14, At(0, b"\xEF\xBB\xBFply\rformat ")];
-    Image "application/x-tgif" "tgif": => [TextFirst(b"%TGIF ")];
-    Text "text/x-gimp-gpl" "gpl": => [13, At(0, b"GIMP Palette\n")] [16, At(0, b"\xEF\xBB\xBFGIMP Palette\n")] [14, At(0, b"GIMP Palette\r\n")] [17, At(0, b"\xEF\xBB\xBFGIMP Palette\r\n")];
-    Text "text/x-gimp-ggr" "ggr": => [14, At(0, b"GIMP Gradient\n")] [17, At(0, b"\xEF\xBB\xBFGIMP Gradient\n")] [15, At(0, b"GIMP Gradient\r\n")] [18, At(0, b"\xEF\xBB\xBFGIMP Gradient\r\n")];
 ];
 
 #[inline(always)]
@@ -1921,14 +1921,14 @@ fn rows_from_792() -> &'static [FurtherRow]
 }
 
 static ROWS_FROM_800: &[FurtherRow] = rows![
+    Image "application/x-tgif" "tgif": => [TextFirst(b"%TGIF ")];
+    Text "text/x-gimp-gpl" "gpl": => [13, At(0, b"GIMP Palette\n")] [16, At(0, b"\xEF\xBB\xBFGIMP Palette\n")] [14, At(0, b"GIMP Palette\r\n")] [17, At(0, b"\xEF\xBB\xBFGIMP Palette\r\n")];
+    Text "text/x-gimp-ggr" "ggr": => [14, At(0, b"GIMP Gradient\n")] [17, At(0, b"\xEF\xBB\xBFGIMP Gradient\n")] [15, At(0, b"GIMP Gradient\r\n")] [18, At(0, b"\xEF\xBB\xBFGIMP Gradient\r\n")];
     Image "image/x-xpixmap" "xpm2": => [7, At(0, b"! XPM2\n")] [10, At(0, b"\xEF\xBB\xBF! XPM2\n")];
     Text "text/troff" "roff": => [3, At(0, b".\\\"")] [6, At(0, b"\xEF\xBB\xBF.\\\"")] [3, At(0, b"'\\\"")] [6, At(0, b"\xEF\xBB\xBF'\\\"")] [4, At(0, b".TH ")] [7, At(0, b"\xEF\xBB\xBF.TH ")] [4, At(0, b".Dd ")] [7, At(0, b"\xEF\xBB\xBF.Dd ")] [7, At(0, b".so man")] [10, At(0, b"\xEF\xBB\xBF.so man")];
     Text "text/x-ms-regedit" "reg": => [10, At(0, b"REGEDIT4\r\n")] [13, At(0, b"\xEF\xBB\xBFREGEDIT4\r\n")] [36, At(0, b"Windows Registry Editor Version 5.00")] [39, At(0, b"\xEF\xBB\xBFWindows Registry Editor Version 5.00")] [9, At(0, b"REGEDIT\r\n")] [12, At(0, b"\xEF\xBB\xBFREGEDIT\r\n")] [14, At(0, b"\xFF\xFEW\0i\0n\0d\0o\0w\0")];
     Text "text/x-wine-extension-reg" "wreg": => [TextFirst(b"WINE REGISTRY Version ")];
     Doc "application/x-dif" "dif": => [9, At(0, b"TABLE\r\n0,")] [12, At(0, b"\xEF\xBB\xBFTABLE\r\n0,")] [8, At(0, b"TABLE\n0,")] [11, At(0, b"\xEF\xBB\xBFTABLE\n0,")];
-    Text "text/x-xmcd" "xmcd": => [TextFirst(b"# xmcd")];
-    Text "text/vnd.familysearch.gedcom" "ged": => [7, At(0, b"0 HEAD\n")] [10, At(0, b"\xEF\xBB\xBF0 HEAD\n")] [7, At(0, b"0 HEAD\r")] [10, At(0, b"\xEF\xBB\xBF0 HEAD\r")];
-    Video "video/vnd.mpegurl" "m4u": => [TextFirst(b"#EXTM4U")];
 ];
 
 #[inline(always)]
@@ -1940,14 +1940,14 @@ fn rows_from_800() -> &'static [FurtherRow]
 }
 
 static ROWS_FROM_808: &[FurtherRow] = rows![
+    Text "text/x-xmcd" "xmcd": => [TextFirst(b"# xmcd")];
+    Text "text/vnd.familysearch.gedcom" "ged": => [7, At(0, b"0 HEAD\n")] [10, At(0, b"\xEF\xBB\xBF0 HEAD\n")] [7, At(0, b"0 HEAD\r")] [10, At(0, b"\xEF\xBB\xBF0 HEAD\r")];
+    Video "video/vnd.mpegurl" "m4u": => [TextFirst(b"#EXTM4U")];
     Text "text/x-microdvd" "microdvd": => [TextFirst(b"{1}{")] [TextFirst(b"{0}{")];
     Text "text/x-mpl2" "mpl2": => [TextFirst(b"[1][")] [TextFirst(b"[0][")];
     Text "text/x-iptables" "iptables": => [28, At(0, b"# Generated by iptables-save")] [31, At(0, b"\xEF\xBB\xBF# Generated by iptables-save")] [29, At(0, b"# Generated by ip6tables-save")] [32, At(0, b"\xEF\xBB\xBF# Generated by ip6tables-save")] [27, At(0, b"# Generated by xtables-save")] [30, At(0, b"\xEF\xBB\xBF# Generated by xtables-save")] [15, At(0, b"*filter\n:INPUT ")] [18, At(0, b"\xEF\xBB\xBF*filter\n:INPUT ")];
     Text "text/cache-manifest" "mf": => [15, At(0, b"CACHE MANIFEST\n")] [18, At(0, b"\xEF\xBB\xBFCACHE MANIFEST\n")] [15, At(0, b"CACHE MANIFEST\r")] [18, At(0, b"\xEF\xBB\xBFCACHE MANIFEST\r")] [15, At(0, b"CACHE MANIFEST ")] [18, At(0, b"\xEF\xBB\xBFCACHE MANIFEST ")];
     Text "text/x-modulefile" "modulefile": => [TextFirst(b"#%Module")];
-    Text "text/x-mup" "mup": => [TextFirst(b"//!Mup")];
-    Archive "application/x-svr4-package" "pkgstream": => [TextFirst(b"# PaCkAgE DaTaStReAm")];
-    Text "application/x-abook-addressbook" "abook": => [TextFirst(b"# abook addressbook file")];
 ];
 
 #[inline(always)]
@@ -1959,14 +1959,14 @@ fn rows_from_808() -> &'static [FurtherRow]
 }
 
 static ROWS_FROM_816: &[FurtherRow] = rows![
+    Text "text/x-mup" "mup": => [TextFirst(b"//!Mup")];
+    Archive "application/x-svr4-package" "pkgstream": => [TextFirst(b"# PaCkAgE DaTaStReAm")];
+    Text "application/x-abook-addressbook" "abook": => [TextFirst(b"# abook addressbook file")];
     Text "text/vnd.abc" "abc": => [4, At(0, b"%abc")] [7, At(0, b"\xEF\xBB\xBF%abc")] [6, At(0, b"X:1\nT:")] [9, At(0, b"\xEF\xBB\xBFX:1\nT:")] [7, At(0, b"X: 1\nT:")] [10, At(0, b"\xEF\xBB\xBFX: 1\nT:")];
     Text "application/sdp" "sdp": => [7, At(0, b"v=0\r\no=")] [10, At(0, b"\xEF\xBB\xBFv=0\r\no=")] [6, At(0, b"v=0\no=")] [9, At(0, b"\xEF\xBB\xBFv=0\no=")];
     Text "text/x-msdos-batch" "bat": => [10, At(0, b"@echo off\r")] [13, At(0, b"\xEF\xBB\xBF@echo off\r")] [10, At(0, b"@ECHO OFF\r")] [13, At(0, b"\xEF\xBB\xBF@ECHO OFF\r")] [10, At(0, b"@Echo off\r")] [13, At(0, b"\xEF\xBB\xBF@Echo off\r")] [10, At(0, b"@echo off\n")] [13, At(0, b"\xEF\xBB\xBF@echo off\n")] [10, At(0, b"@ECHO OFF\n")] [13, At(0, b"\xEF\xBB\xBF@ECHO OFF\n")];
     Text "text/x-m4" "m4": => [TextFirst(b"dnl ")];
     Text "text/x-gimp-curve" "gcurve": => [TextFirst(b"# GIMP Curves File")];
-    Text "text/x-diff" "diff": => [TextFirst(b"diff --git ")] [TextFirstWith(b"diff -", b"\n+++ ")] [TextFirstWith(b"diff -", b"\n< ")] [TextFirstWithAll(b"--- ", b"\n+++ ", b"\n@@ -", b"")] [TextFirstWithAll(b"Index: ", b"\n=======", b"\n+++ ", b"")] [TextFirstWithAll(b"*** ", b"\n--- ", b"\n***************", b"")];
-    Text "application/mbox" "mbox": => [TextFirstWith(b"From ", b"\nReceived: ")] [TextFirstWith(b"From ", b"\nFrom: ")] [TextFirstWith(b"From ", b"\nMessage-I")];
-    Text "message/rfc822" "eml": => [TextFirst(b"Return-Path: <")] [TextFirst(b"Return-path: <")] [TextFirstWith(b"Delivered-To: ", b"\nReceived: ")] [TextFirst(b"Received: from ")] [TextFirst(b"Received: by ")] [TextFirst(b"Received: (")] [TextFirstWith(b"MIME-Version: 1.0", b"\nContent-")] [TextFirst(b"Message-ID: <")] [TextFirstWithAll(b"From: ", b"\nDate: ", b"\nTo: ", b"")] [TextFirstWith(b"From: ", b"\nMIME-Version: 1.0")] [TextFirst(b"X-Mozilla-Status: ")] [TextFirstWithAll(b"Date: ", b"\nFrom: ", b"\nTo: ", b"")] [TextFirstWithAll(b"Subject: ", b"\nFrom: ", b"\nTo: ", b"")];
 ];
 
 #[inline(always)]
@@ -1978,14 +1978,14 @@ fn rows_from_816() -> &'static [FurtherRow]
 }
 
 static ROWS_FROM_824: &[FurtherRow] = rows![
+    Text "text/x-diff" "diff": => [TextFirst(b"diff --git ")] [TextFirstWith(b"diff -", b"\n+++ ")] [TextFirstWith(b"diff -", b"\n< ")] [TextFirstWithAll(b"--- ", b"\n+++ ", b"\n@@ -", b"")] [TextFirstWithAll(b"Index: ", b"\n=======", b"\n+++ ", b"")] [TextFirstWithAll(b"*** ", b"\n--- ", b"\n***************", b"")];
+    Text "application/mbox" "mbox": => [TextFirstWith(b"From ", b"\nReceived: ")] [TextFirstWith(b"From ", b"\nFrom: ")] [TextFirstWith(b"From ", b"\nMessage-I")];
+    Text "message/rfc822" "eml": => [TextFirst(b"Return-Path: <")] [TextFirst(b"Return-path: <")] [TextFirstWith(b"Delivered-To: ", b"\nReceived: ")] [TextFirst(b"Received: from ")] [TextFirst(b"Received: by ")] [TextFirst(b"Received: (")] [TextFirstWith(b"MIME-Version: 1.0", b"\nContent-")] [TextFirst(b"Message-ID: <")] [TextFirstWithAll(b"From: ", b"\nDate: ", b"\nTo: ", b"")] [TextFirstWith(b"From: ", b"\nMIME-Version: 1.0")] [TextFirst(b"X-Mozilla-Status: ")] [TextFirstWithAll(b"Date: ", b"\nFrom: ", b"\nTo: ", b"")] [TextFirstWithAll(b"Subject: ", b"\nFrom: ", b"\nTo: ", b"")];
     Text "message/news" "news": => [TextFirstWith(b"Path: ", b"\nNewsgroups: ")] [TextFirstWith(b"Xref: ", b"\nNewsgroups: ")];
     Text "text/x-ldif" "ldif": => [TextFirstWith(b"dn: ", b"\nobjectClass: ")] [TextFirstWith(b"dn: ", b"\nobjectclass: ")] [TextFirstWith(b"dn: ", b"\nchangetype: ")] [TextFirstWith(b"version: 1\n", b"\ndn: ")];
     Text "application/x-desktop" "desktop": => [TextFirst(b"[Desktop Entry]\n")] [TextFirst(b"[Desktop Entry]\r\n")] [TextFirstWith(b"#", b"\n[Desktop Entry]\n")] [TextFirst(b"\n[Desktop Entry]\n")] [TextFirst(b"[KDE Desktop Entry]\n")];
     Text "text/x-systemd-unit" "unit": => [TextFirst(b"[Unit]\n")] [TextFirstWith(b"#", b"\n[Unit]\n")] [TextFirst(b"\n[Unit]\n")] [TextFirst(b"[Socket]\n")] [TextFirst(b"[Service]\n")] [TextFirst(b"[Timer]\n")] [TextFirst(b"[Mount]\n")];
     Text "text/x-dbus-service" "dbusservice": => [TextFirst(b"[D-BUS Service]\n")] [TextFirstWith(b"#", b"\n[D-BUS Service]\n")];
-    Text "text/x-icon-theme" "icontheme": => [TextFirst(b"[Icon Theme]\n")] [TextFirstWith(b"#", b"\n[Icon Theme]\n")];
-    Text "text/turtle" "ttl": => [TextFirstWith(b"@prefix ", b"<")] [TextFirst(b"@base <")] [TextFirstWith(b"#", b"\n@prefix ")];
-    Image "model/x-pcd" "pcd": => [TextFirst(b"# .PCD v")] [TextFirstWith(b"VERSION .", b"\nFIELDS ")];
 ];
 
 #[inline(always)]
@@ -1997,14 +1997,14 @@ fn rows_from_824() -> &'static [FurtherRow]
 }
 
 static ROWS_FROM_832: &[FurtherRow] = rows![
+    Text "text/x-icon-theme" "icontheme": => [TextFirst(b"[Icon Theme]\n")] [TextFirstWith(b"#", b"\n[Icon Theme]\n")];
+    Text "text/turtle" "ttl": => [TextFirstWith(b"@prefix ", b"<")] [TextFirst(b"@base <")] [TextFirstWith(b"#", b"\n@prefix ")];
+    Image "model/x-pcd" "pcd": => [TextFirst(b"# .PCD v")] [TextFirstWith(b"VERSION .", b"\nFIELDS ")];
     Image "image/vnd.dxf" "dxf": => [TextFirst(b"AutoCAD Binary DXF\r\n")] [TextFirst(b"0\nSECTION")] [TextFirst(b"  0\nSECTION")] [TextFirst(b"0\r\nSECTION")] [TextFirst(b"  0\r\nSECTION")] [TextFirstWith(b"999\n", b"\nSECTION")] [TextFirstWith(b"999\r\n", b"SECTION")];
     Image "image/x-xbitmap" "xbm": => [TextFirstWithAll(b"#define ", b"_width ", b"_bits[]", b"")];
     Text "text/x-bibtex" "bib": => [TextFirst(b"% This file was created with JabRef")] [TextFirstWith(b"% Encoding: ", b"\n@")] [TextFirst(b"@article{")] [TextFirst(b"@book{")] [TextFirst(b"@inproceedings{")] [TextFirst(b"@misc{")] [TextFirst(b"@Article{")] [TextFirst(b"@ARTICLE{")];
     Text "text/x-tex" "tex": => [TextFirst(b"\\documentclass")] [TextFirst(b"\\documentstyle")] [TextFirstWith(b"%", b"\n\\documentclass")] [TextFirstWith(b"%", b"\n\\NeedsTeXFormat")] [TextFirstWith(b"%", b"\n\\ProvidesPackage")];
     Text "application/x-setupscript" "inf": => [TextFirstWith(b"[Version]", b"ignature")] [TextFirstWithAll(b";", b"\n[Version]", b"ignature", b"")];
-    Text "application/x-cdrdao-toc" "toc": => [TextFirst(b"CD_ROM\n")] [TextFirst(b"CD_DA\n")] [TextFirst(b"CD_ROM_XA\n")] [TextFirstWith(b"CATALOG \"", b"\nCD_")];
-    Text "application/x-cue" "cue": => [TextFirstWith(b"FILE \"", b"TRACK ")] [TextFirstWith(b"PERFORMER \"", b"TRACK ")] [TextFirstWithAll(b"REM ", b"FILE \"", b"TRACK ", b"")] [TextFirstWith(b"TITLE \"", b"TRACK ")] [TextFirstWithAll(b"CATALOG ", b"FILE \"", b"TRACK ", b"")];
-    Text "text/x-mpsub" "mpsub": => [TextFirstWith(b"TITLE=", b"\nFORMAT=")] [TextFirst(b"FORMAT=TIME")];
 ];
 
 #[inline(always)]
@@ -2016,14 +2016,14 @@ fn rows_from_832() -> &'static [FurtherRow]
 }
 
 static ROWS_FROM_840: &[FurtherRow] = rows![
+    Text "application/x-cdrdao-toc" "toc": => [TextFirst(b"CD_ROM\n")] [TextFirst(b"CD_DA\n")] [TextFirst(b"CD_ROM_XA\n")] [TextFirstWith(b"CATALOG \"", b"\nCD_")];
+    Text "application/x-cue" "cue": => [TextFirstWith(b"FILE \"", b"TRACK ")] [TextFirstWith(b"PERFORMER \"", b"TRACK ")] [TextFirstWithAll(b"REM ", b"FILE \"", b"TRACK ", b"")] [TextFirstWith(b"TITLE \"", b"TRACK ")] [TextFirstWithAll(b"CATALOG ", b"FILE \"", b"TRACK ", b"")];
+    Text "text/x-mpsub" "mpsub": => [TextFirstWith(b"TITLE=", b"\nFORMAT=")] [TextFirst(b"FORMAT=TIME")];
     Text "text/vnd.graphviz" "gv": => [TextFirstWith(b"digraph ", b"{")] [TextFirstWith(b"strict digraph ", b"{")] [TextFirstWith(b"strict graph ", b"{")] [TextFirstWithAll(b"graph ", b"{", b" -- ", b"")] [TextFirst(b"digraph{")];
     Text "text/x-po" "po": => [TextFirst(b"msgid \"\"\nmsgstr \"")] [TextFirstWith(b"#", b"\nmsgid \"\"\nmsgstr \"\"\n")];
     Text "text/x-rpm-spec" "spec": => [TextFirstWith(b"Summary: ", b"\n%description")] [TextFirstWithAll(b"Name:", b"\nVersion:", b"\n%description", b"")] [TextFirstWith(b"%define ", b"\n%description")] [TextFirstWith(b"%global ", b"\nName:")] [TextFirstWithAll(b"#", b"\nName:", b"\n%description", b"")];
     Text "text/x-debian-control" "dsc": => [TextFirstWith(b"Format: 3.0 (", b"\nSource: ")] [TextFirst(b"Format: 1.0\nSource: ")] [TextFirstWithAll(b"Package: ", b"\nVersion: ", b"\nArchitecture: ", b"")] [TextFirstWithAll(b"Source: ", b"\nPackage: ", b"\nMaintainer: ", b"")];
     Text "text/x-pkg-config" "pc": => [TextFirstWithAll(b"prefix=", b"\nName: ", b"\nVersion:", b"")] [TextFirstWithAll(b"Name: ", b"\nDescription: ", b"\nLibs:", b"")];
-    Text "application/x-shared-library-la" "la": => [TextFirstWith(b"# ", b" - a libtool library file\n")];
-    Text "application/x-cisco-vpn-settings" "vpnpcf": => [TextFirstWith(b"[main]", b"\nAuthType=")];
-    Text "text/x-lilypond" "ly": => [TextFirst(b"\\version \"")] [TextFirstWith(b"%", b"\n\\version \"")];
 ];
 
 #[inline(always)]
@@ -2035,14 +2035,14 @@ fn rows_from_840() -> &'static [FurtherRow]
 }
 
 static ROWS_FROM_848: &[FurtherRow] = rows![
+    Text "application/x-shared-library-la" "la": => [TextFirstWith(b"# ", b" - a libtool library file\n")];
+    Text "application/x-cisco-vpn-settings" "vpnpcf": => [TextFirstWith(b"[main]", b"\nAuthType=")];
+    Text "text/x-lilypond" "ly": => [TextFirst(b"\\version \"")] [TextFirstWith(b"%", b"\n\\version \"")];
     Text "text/x-emacs-lisp" "elisp": => [TextFirstWithAll(b";;; ", b" --- ", b"\n;;; Code:", b"")];
     Text "text/x-dockerfile" "docker": => [TextFirstWith(b"FROM ", b"\nRUN ")] [TextFirst(b"# syntax=docker/dockerfile")] [TextFirst(b"FROM scratch\n")];
     Text "application/x-ipynb+json" "ipynb": => [FirstKey(b"cells")];
     Text "application/geo+json" "geojson": => [FirstKeyWith(b"type", b"FeatureCollection")] [FirstKeyWith(b"type", b"Feature")] [FirstKeyWith(b"type", b"Point")] [FirstKeyWith(b"type", b"Polygon")] [FirstKeyWith(b"type", b"LineString")] [FirstKeyWith(b"type", b"MultiPolygon")] [FirstKeyWith(b"type", b"GeometryCollection")];
     Text "application/vnd.cyclonedx+json" "cdx": => [FirstKey(b"bomFormat")];
-    Image "model/gltf+json" "gltf": => [FirstKey(b"asset")];
-    App "application/x-gnupg-private-key" "gpgsec": => [TextFirst(b"(21:protected-private-key")] [TextFirst(b"(11:private-key")] [TextFirstWith(b"Created: ", b"\nKey: (")] [TextFirst(b"Key: (")] [TextFirst(b"(20:shadowed-private-key")];
-    Text "application/x-age-key" "agekey": => [TextFirst(b"AGE-SECRET-KEY-1")] [TextFirstWith(b"# created: ", b"\nAGE-SECRET-KEY-1")];
 ];
 
 #[inline(always)]
@@ -2054,14 +2054,14 @@ fn rows_from_848() -> &'static [FurtherRow]
 }
 
 static ROWS_FROM_856: &[FurtherRow] = rows![
+    Image "model/gltf+json" "gltf": => [FirstKey(b"asset")];
+    App "application/x-gnupg-private-key" "gpgsec": => [TextFirst(b"(21:protected-private-key")] [TextFirst(b"(11:private-key")] [TextFirstWith(b"Created: ", b"\nKey: (")] [TextFirst(b"Key: (")] [TextFirst(b"(20:shadowed-private-key")];
+    Text "application/x-age-key" "agekey": => [TextFirst(b"AGE-SECRET-KEY-1")] [TextFirstWith(b"# created: ", b"\nAGE-SECRET-KEY-1")];
     Image "model/obj" "obj": => [TextFirstWith(b"mtllib ", b"\nv ")] [TextFirstWithAll(b"#", b"\nmtllib ", b"\nv ", b"")] [TextFirstWithAll(b"#", b"\nv ", b"\nvn ", b"\nf ")];
     Image "model/mtl" "mtl": => [TextFirst(b"newmtl ")] [TextFirstWith(b"#", b"\nnewmtl ")];
     Image "image/x-pict" "pict": => [528, At(522, b"\0\x11\x02\xFF\x0C\0")];
     Image "image/x-mrc" "mrc": => [214, At(208, b"MAP "), OneOf(212, b"\x11D"), OneOf(213, b"\x11AD")];
     Audio "audio/x-s3m" "s3m": => [48, At(28, b"\x1A\x10"), At(44, b"SCRM")];
-    Audio "audio/x-mod" "mod": => [1084, At(1080, b"M.K.")] [1084, At(1080, b"M!K!")] [1084, At(1080, b"FLT"), OneOf(1083, b"48")] [1084, OneOf(1080, b"468"), At(1081, b"CHN")] [1084, At(1080, b"CD81")] [1084, At(1080, b"OKTA")] [1084, At(1080, b"16CN")] [1084, At(1080, b"32CN")];
-    Audio "audio/x-stm" "stm": => [30, At(20, b"!Scream!\x1A"), Between(29, 0x01, 0x02)] [30, At(20, b"!SCREAM!\x1A"), Between(29, 0x01, 0x02)] [30, At(20, b"BMOD2STM\x1A"), Between(29, 0x01, 0x02)];
-    Audio "audio/x-ptm" "ptm": => [48, is!(28, 0x1A), At(44, b"PTMF")];
 ];
 
 #[inline(always)]
@@ -2073,14 +2073,14 @@ fn rows_from_856() -> &'static [FurtherRow]
 }
 
 static ROWS_FROM_864: &[FurtherRow] = rows![
+    Audio "audio/x-mod" "mod": => [1084, At(1080, b"M.K.")] [1084, At(1080, b"M!K!")] [1084, At(1080, b"FLT"), OneOf(1083, b"48")] [1084, OneOf(1080, b"468"), At(1081, b"CHN")] [1084, At(1080, b"CD81")] [1084, At(1080, b"OKTA")] [1084, At(1080, b"16CN")] [1084, At(1080, b"32CN")];
+    Audio "audio/x-stm" "stm": => [30, At(20, b"!Scream!\x1A"), Between(29, 0x01, 0x02)] [30, At(20, b"!SCREAM!\x1A"), Between(29, 0x01, 0x02)] [30, At(20, b"BMOD2STM\x1A"), Between(29, 0x01, 0x02)];
+    Audio "audio/x-ptm" "ptm": => [48, is!(28, 0x1A), At(44, b"PTMF")];
     Audio "audio/vnd.dolby.mlp" "mlp": => [8, At(4, b"\xF8ro"), OneOf(7, b"\xBA\xBB")];
     Audio "audio/vnd.audible" "aa": => [8, At(4, b"W\x90u6")];
     Archive "application/x-swap" "swap": => [4096, At(4086, b"SWAPSPACE2")];
     Archive "application/x-bcachefs" "bcachefs": => [4136, At(4120, b"\xC6\x85s\xF6N\x1AE\xCA\x82e\xF5\x7FH\xBAm\x81")];
     Archive "application/x-md-raid" "mdraid": => [4104, At(4096, b"\xFCN+\xA9\x01\0\0\0")];
-    Image "image/x-photo-cd" "pcdimg": => [2055, At(2048, b"PCD_IPI")];
-    Video "video/x-flic" "fli": => [16, OneOf(4, b"\x11\x12"), is!(5, 0xAF), At(12, b"\x08\0"), is!(15, 0x00)];
-    Audio "audio/vnd.audible.aax" "aax": => [12, At(4, b"ftypaax ")];
 ];
 
 #[inline(always)]
@@ -2092,14 +2092,14 @@ fn rows_from_864() -> &'static [FurtherRow]
 }
 
 static ROWS_FROM_872: &[FurtherRow] = rows![
+    Image "image/x-photo-cd" "pcdimg": => [2055, At(2048, b"PCD_IPI")];
+    Video "video/x-flic" "fli": => [16, OneOf(4, b"\x11\x12"), is!(5, 0xAF), At(12, b"\x08\0"), is!(15, 0x00)];
+    Audio "audio/vnd.audible.aax" "aax": => [12, At(4, b"ftypaax ")];
     Audio "audio/mp4" "f4a": => [12, At(4, b"ftypF4A ")] [12, At(4, b"ftypF4B ")] [12, At(4, b"ftypM4P ")];
     Video "video/vnd.dvb.file" "dvb": => [12, At(4, b"ftypdvr1")] [12, At(4, b"ftypdvt1")];
     Video "video/quicktime" "mqv": => [12, At(4, b"ftypmqt ")];
     Video "video/mp4" "mp4": => [12, At(4, b"ftypiso"), Between(11, 0x37, 0x39)] [12, At(4, b"ftypisml")];
     Image "image/heif-sequence" "heifs": => [12, At(4, b"ftypmsf1")] [12, At(4, b"ftyphevm")] [12, At(4, b"ftyphevs")];
-    Archive "application/x-ace-compressed" "ace": => [14, At(7, b"**ACE**")];
-    App "application/vnd.symbian.install" "sis": => [12, At(8, b"\x19\x04\0\x10")];
-    Archive "application/x-f2fs-filesystem" "f2fs": => [1028, At(1024, b"\x10 \xF5\xF2")];
 ];
 
 #[inline(always)]
@@ -2111,14 +2111,14 @@ fn rows_from_872() -> &'static [FurtherRow]
 }
 
 static ROWS_FROM_880: &[FurtherRow] = rows![
+    Archive "application/x-ace-compressed" "ace": => [14, At(7, b"**ACE**")];
+    App "application/vnd.symbian.install" "sis": => [12, At(8, b"\x19\x04\0\x10")];
+    Archive "application/x-f2fs-filesystem" "f2fs": => [1028, At(1024, b"\x10 \xF5\xF2")];
     Archive "application/x-ntfs-filesystem" "ntfs": => [512, At(3, b"NTFS    "), At(510, b"U\xAA")];
     Archive "application/x-exfat-filesystem" "exfat": => [512, At(3, b"EXFAT   \0\0\0\0\0"), At(510, b"U\xAA")];
     Archive "application/x-gpt-disk" "gpt": => [520, At(510, b"U\xAAEFI PART")];
     Archive "application/x-hfsplus-filesystem" "hfsplus": => [1028, At(1024, b"H+\0\x04")] [1028, At(1024, b"HX\0\x05")];
     Archive "application/x-apfs-filesystem" "apfs": => [36, At(8, b"\x01\0\0\0"), At(32, b"NXSB")];
-    Archive "application/x-lvm2" "lvm": => [544, At(512, b"LABELONE"), At(536, b"LVM2 001")];
-    Archive "application/x-erofs" "erofs": => [1028, At(1024, b"\xE2\xE1\xF5\xE0")];
-    App "application/x-linux-kernel" "zimage": => [40, At(36, b"\x18(o\x01")] [40, At(36, b"\x01o(\x18")];
 ];
 
 #[inline(always)]
@@ -2130,14 +2130,14 @@ fn rows_from_880() -> &'static [FurtherRow]
 }
 
 static ROWS_FROM_888: &[FurtherRow] = rows![
+    Archive "application/x-lvm2" "lvm": => [544, At(512, b"LABELONE"), At(536, b"LVM2 001")];
+    Archive "application/x-erofs" "erofs": => [1028, At(1024, b"\xE2\xE1\xF5\xE0")];
+    App "application/x-linux-kernel" "zimage": => [40, At(36, b"\x18(o\x01")] [40, At(36, b"\x01o(\x18")];
     App "application/x-linux-kernel" "bzimage": => [518, At(510, b"U\xAA"), At(514, b"HdrS")];
     Archive "application/x-wii-rom" "wbfs": => [5, At(0, b"WBFS\0")] [28, At(24, b"]\x1C\x9E\xA3")];
     Archive "application/x-thomson-sap-image" "thomsap": => [27, At(1, b"SYSTEME D'ARCHIVAGE PUKALL")];
     Archive "application/x-zip" "omni": => [8, At(4, b"PK\x01\x02")];
     App "application/x-icu-data" "icures": => [16, At(2, b"\xDA'"), At(12, b"ResB")] [16, At(2, b"\xDA'"), At(12, b"CvAl")] [16, At(2, b"\xDA'"), At(12, b"cnvt")] [16, At(2, b"\xDA'"), At(12, b"CmnD")] [16, At(2, b"\xDA'"), At(12, b"Brk ")];
-    Audio "audio/x-iriver-pla" "pla": => [18, At(4, b"iriver UMS PLA")];
-    App "application/x-lmdb" "lmdb": => [24, At(16, b"\xDE\xC0\xEF\xBE\x01\0\0\0")];
-    App "application/x-ms-sdb" "sdb": => [14, At(8, b"sdbf\x02x")];
 ];
 
 #[inline(always)]
@@ -2149,14 +2149,14 @@ fn rows_from_888() -> &'static [FurtherRow]
 }
 
 static ROWS_FROM_896: &[FurtherRow] = rows![
+    Audio "audio/x-iriver-pla" "pla": => [18, At(4, b"iriver UMS PLA")];
+    App "application/x-lmdb" "lmdb": => [24, At(16, b"\xDE\xC0\xEF\xBE\x01\0\0\0")];
+    App "application/x-ms-sdb" "sdb": => [14, At(8, b"sdbf\x02x")];
     App "application/x-spss-por" "por": => [60, At(40, b"ASCII SPSS PORT FILE")];
     Book "application/x-aportisdoc" "aportis": => [68, At(60, b"TEXtREAd")] [68, At(60, b"TEXtTlDc")];
     Book "application/prs.plucker" "plucker": => [68, At(60, b"DataPlkr")];
     App "application/x-gnupg-keybox" "kbx": => [12, is!(4, 0x01), At(8, b"KBXf")];
     App "application/x-gameboy-rom" "gb": => [324, At(260, b"\xCE\xEDff\xCC\r\0\x0B"), Between(323, 0x00, 0x7F)];
-    App "application/x-gameboy-color-rom" "gbc": => [324, At(260, b"\xCE\xEDff\xCC\r\0\x0B"), Between(323, 0x80, 0xFF)];
-    App "application/x-gba-rom" "gba": => [12, At(4, b"$\xFF\xAEQi\x9A\xA2!")];
-    App "application/x-nintendo-ds-rom" "nds": => [200, At(192, b"$\xFF\xAEQi\x9A\xA2!")];
 ];
 
 #[inline(always)]
@@ -2168,14 +2168,14 @@ fn rows_from_896() -> &'static [FurtherRow]
 }
 
 static ROWS_FROM_904: &[FurtherRow] = rows![
+    App "application/x-gameboy-color-rom" "gbc": => [324, At(260, b"\xCE\xEDff\xCC\r\0\x0B"), Between(323, 0x80, 0xFF)];
+    App "application/x-gba-rom" "gba": => [12, At(4, b"$\xFF\xAEQi\x9A\xA2!")];
+    App "application/x-nintendo-ds-rom" "nds": => [200, At(192, b"$\xFF\xAEQi\x9A\xA2!")];
     App "application/x-sega-cd-rom" "segacd": => [14, At(0, b"SEGADISCSYSTEM")] [30, At(16, b"SEGADISCSYSTEM")];
     App "application/x-genesis-rom" "md": => [271, At(256, b"SEGA"), OneOf(260, b" _"), At(261, b"MEGA"), OneOf(265, b" _"), At(266, b"DRIVE")] [268, At(256, b"SEGA GENESIS")] [644, At(640, b"EAGN")] [644, At(640, b"EAMG")];
     App "application/x-genesis-32x-rom" "32x": => [264, At(256, b"SEGA 32X")];
     App "application/x-sega-pico-rom" "pico": => [265, At(256, b"SEGA PICO")];
     App "application/x-saturn-rom" "saturn": => [16, At(0, b"SEGA SEGASATURN ")] [32, At(16, b"SEGA SEGASATURN ")];
-    App "application/x-dc-rom" "dc": => [16, At(0, b"SEGA SEGAKATANA ")] [32, At(16, b"SEGA SEGAKATANA ")];
-    App "application/x-neo-geo-pocket-rom" "ngp": => [36, At(10, b"BY SNK CORPORATION"), is!(35, 0x00)];
-    App "application/x-neo-geo-pocket-color-rom" "ngc": => [36, At(10, b"BY SNK CORPORATION"), is!(35, 0x10)];
 ];
 
 #[inline(always)]
@@ -2187,14 +2187,14 @@ fn rows_from_904() -> &'static [FurtherRow]
 }
 
 static ROWS_FROM_912: &[FurtherRow] = rows![
+    App "application/x-dc-rom" "dc": => [16, At(0, b"SEGA SEGAKATANA ")] [32, At(16, b"SEGA SEGAKATANA ")];
+    App "application/x-neo-geo-pocket-rom" "ngp": => [36, At(10, b"BY SNK CORPORATION"), is!(35, 0x00)];
+    App "application/x-neo-geo-pocket-color-rom" "ngc": => [36, At(10, b"BY SNK CORPORATION"), is!(35, 0x10)];
     App "application/x-gamecube-rom" "gcm": => [32, At(28, b"\xC23\x9F=")];
     App "application/x-nintendo-3ds-rom" "cci": => [260, At(256, b"NCSD")];
     App "application/x-nintendo-ncch" "ncch": => [260, At(256, b"NCCH")];
     Image "image/x-tga" "tga": => [18, is!(1, 0x00), OneOf(2, b"\x02\x03\n\x0B"), At(3, b"\0\0\0\0\0"), Between(13, 0x00, 0x1F), Between(15, 0x00, 0x1F), OneOf(16, b"\x08\x10\x18 "), OneOf(17, b"\0\x08 (")] [18, is!(1, 0x01), OneOf(2, b"\x01\t"), At(3, b"\0\0"), Between(6, 0x00, 0x01), OneOf(7, b"\x0F\x10\x18 "), Between(13, 0x00, 0x1F), Between(15, 0x00, 0x1F), is!(16, 0x08), OneOf(17, b"\0 ")];
     Image "model/iges" "igs": => [80, At(72, b"S      1")] [80, At(72, b"S0000001")];
-    Text "application/x-ebu-stl" "stlsub": => [11, At(3, b"STL"), Between(6, 0x30, 0x39), Between(7, 0x30, 0x39), At(8, b".01")];
-    Text "application/x-ndjson" "ndjson": => [JsonLines];
-    Text "application/json" "json": => [JsonText];
 ];
 
 #[inline(always)]
@@ -2206,6 +2206,9 @@ fn rows_from_912() -> &'static [FurtherRow]
 }
 
 static ROWS_FROM_920: &[FurtherRow] = rows![
+    Text "application/x-ebu-stl" "stlsub": => [11, At(3, b"STL"), Between(6, 0x30, 0x39), Between(7, 0x30, 0x39), At(8, b".01")];
+    Text "application/x-ndjson" "ndjson": => [JsonLines];
+    Text "application/json" "json": => [JsonText];
     Text "text/plain" "txt": => [PlainText];
 ];
 

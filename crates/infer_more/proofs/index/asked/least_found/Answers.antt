@@ -5,7 +5,7 @@ use Rattle.infer_more.proofs.LeastLemmas.{least_both, tried_more}
 use Rattle.infer_more.proofs.index.asked.least_found.Goals as goal
 
 pub least_class-requires-clause-long : goal.least_class-requires-clause-long
-least_class-requires-clause-long c = are_class_ids c.args.row c.in-ClassIds.ids (subst (λ (way : Below). is_true_below c.args.row way ≡ true) c.in-ClassIds.is c.requires)
+least_class-requires-clause-long c = are_class_ids c.args.row c.in-ClassIds.entries c.in-ClassIds.ids (subst (λ (way : Below). is_true_below c.args.row way ≡ true) c.in-ClassIds.is c.requires)
 
 pub least_class-requires-clause-ascend : goal.least_class-requires-clause-ascend
 least_class-requires-clause-ascend c = both_left _ _ (subst (λ (way : Below). is_true_below c.args.row way ≡ true) c.in-ClassIds.is c.requires)
@@ -14,7 +14,13 @@ pub least_in_halves-requires : goal.least_in_halves-requires
 least_in_halves-requires c = subst (λ (way : Below). is_true_below c.args.row way ≡ true) c.in-Entries.is c.requires
 
 pub least_in_halves-tried-requires : goal.least_in_halves-tried-requires
-least_in_halves-tried-requires c = both_right _ _ (both_right _ _ (subst (λ (way : Below). is_true_below c.args.row way ≡ true) c.in-Packages.is c.requires))
+least_in_halves-tried-requires c = both_right _ _ (both_right _ _ (subst (λ (way : Below). is_true_below c.args.row way ≡ true) c.in-ClassIds.is c.requires))
+
+pub least_in_halves-tried-requires-in-Programs : goal.least_in_halves-tried-requires-in-Programs
+least_in_halves-tried-requires-in-Programs c = both_right _ _ (both_right _ _ (subst (λ (way : Below). is_true_below c.args.row way ≡ true) c.in-Programs.is c.requires))
+
+pub least_in_halves-tried-requires-in-Packages : goal.least_in_halves-tried-requires-in-Packages
+least_in_halves-tried-requires-in-Packages c = both_right _ _ (both_right _ _ (subst (λ (way : Below). is_true_below c.args.row way ≡ true) c.in-Packages.is c.requires))
 
 pub least_program-requires : goal.least_program-requires
 least_program-requires c = both_left _ _ (subst (λ (way : Below). is_true_below c.args.row way ≡ true) c.in-Programs.is c.requires)
@@ -29,10 +35,14 @@ pub least_folder-requires-clause-application : goal.least_folder-requires-clause
 least_folder-requires-clause-application c = all_applications c.args.row c.in-Packages.entries c.in-Packages.excepts c.in-Packages.folders (subst (λ (way : Below). is_true_below c.args.row way ≡ true) c.in-Packages.is c.requires)
 
 pub returns-in-ClassIds : goal.returns-in-ClassIds
-returns-in-ClassIds c = subst (λ (way : Below). IsLeast (IsFoundBelow way c.args.row c.args.buf.now) FURTHER_COUNT c.least_class.result) (sym c.in-ClassIds.is) c.least_class.ensures
+returns-in-ClassIds c =
+    subst (λ (way : Below). IsLeast (IsFoundBelow way c.args.row c.args.buf.now) FURTHER_COUNT c.least_class.result) (sym c.in-ClassIds.is)
+    (least_both _ _ FURTHER_COUNT _ _ c.least_in_halves-tried.ensures c.least_class.ensures)
 
 pub returns-in-Programs : goal.returns-in-Programs
-returns-in-Programs c = subst (λ (way : Below). IsLeast (IsFoundBelow way c.args.row c.args.buf.now) FURTHER_COUNT c.least_program.result) (sym c.in-Programs.is) c.least_program.ensures
+returns-in-Programs c =
+    subst (λ (way : Below). IsLeast (IsFoundBelow way c.args.row c.args.buf.now) FURTHER_COUNT c.least_program.result) (sym c.in-Programs.is)
+    (least_both _ _ FURTHER_COUNT _ _ c.least_in_halves-tried-in-Programs.ensures c.least_program.ensures)
 
 pub returns-in-Roots : goal.returns-in-Roots
 returns-in-Roots c = subst (λ (way : Below). IsLeast (IsFoundBelow way c.args.row c.args.buf.now) FURTHER_COUNT c.least_root.result) (sym c.in-Roots.is) c.least_root.ensures
@@ -40,4 +50,4 @@ returns-in-Roots c = subst (λ (way : Below). IsLeast (IsFoundBelow way c.args.r
 pub returns-in-Packages : goal.returns-in-Packages
 returns-in-Packages c =
     subst (λ (way : Below). IsLeast (IsFoundBelow way c.args.row c.args.buf.now) FURTHER_COUNT c.least_folder.result) (sym c.in-Packages.is)
-    (least_both _ _ FURTHER_COUNT _ _ (tried_more (Some c.args.row) c.args.buf.now _ _ _ _ _ c.least_in_halves-tried.ensures c.least_excepted-least.ensures) c.least_folder.ensures)
+    (least_both _ _ FURTHER_COUNT _ _ (tried_more (Some c.args.row) c.args.buf.now _ _ _ _ _ c.least_in_halves-tried-in-Packages.ensures c.least_excepted-least.ensures) c.least_folder.ensures)

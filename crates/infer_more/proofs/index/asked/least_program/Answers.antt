@@ -1,4 +1,4 @@
-use Rattle.infer_more.proofs.Common.{◌≡◌, refl, subst, sym, true, IsNamed, IsOfProgram, ascends, named_row, bucket_of, FURTHER_COUNT}
+use Rattle.infer_more.proofs.Common.{◌≡◌, refl, subst, sym, true, IsNamed, IsOfProgram, ascends, named_row, bucket_of}
 use Rattle.infer_more.proofs.FoundLemmas.{listed_in_bucket}
 use Rattle.infer_more.proofs.LeastLemmas.{least_none, least_same}
 use Rattle.infer_more.proofs.index.asked.least_program.Goals as goal
@@ -11,7 +11,7 @@ returns-in-Some c =
     let b = c.args.buf.now in
     let name = c.in-Some.name.now in
     let lists = c.args.buckets.now in
-    least_same (IsNamed (λ other. other ≡ name) c.bucket_of.result.now) (IsOfProgram b lists) FURTHER_COUNT _
+    least_same (IsNamed (λ other. other ≡ name) c.bucket_of.result.now) (IsOfProgram b lists) c.args.before _
     (λ i is. (name, c.in-Some.ensures.found, subst (λ n. IsNamed (λ other. other ≡ name) n i) c.bucket_of.ensures is))
     (λ i (other, p, is).
     let same = c.in-Some.ensures.only other p in
@@ -19,4 +19,4 @@ returns-in-Some c =
     c.least_named.ensures
 
 pub returns-in-None : goal.returns-in-None
-returns-in-None c = least_none (IsOfProgram c.args.buf.now c.args.buckets.now) FURTHER_COUNT (λ i (name, p, is). c.in-None.ensures.found name p)
+returns-in-None c = least_none (IsOfProgram c.args.buf.now c.args.buckets.now) c.args.before (λ i (name, p, is). c.in-None.ensures.found name p)
