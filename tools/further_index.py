@@ -35,10 +35,10 @@ use crate::index::{{
 /// How many further rows there are.
 pub const FURTHER_COUNT: usize = {};
 
-/// The last place at which the guards, the gate, the ranges and the spots look.
+/// The last place but one at which the guards, the gate, the ranges and the spots look.
 pub(super) const LAST_PLACE: usize = {};
 
-/// The last of these places before the far ones.
+/// The last of the places at which they look that are near the front.
 pub(super) const NEAR_PLACE: usize = {};
 
 """
@@ -194,16 +194,16 @@ BUCKETS, ROOT_BUCKETS = 32, 8
 # Of how many spans a second byte picks one.
 PICKS = 16
 # How many first bytes have a third byte: every buffer without an answer is asked for each of them.
-MOST_THIRDS = 4
+MOST_THIRDS = 3
 # What one entry costs, what a loop over more does, and each of them in it.
 ONE, LOOP, EACH = 14, 36, 11
-# Places behind this are far: few headers are as long.
-FAR = 64
+# Places behind this are far: few headers are as long. Most have the places up to the other.
+FAR, FRONT = 64, 32
 # How many marks there are at most, one for each spot.
 MARKS = 64
 # How many rows a near spot tells at most, a far one and one of a zero, unless more have one byte: the fewer, the more spots are
 # asked for, and the fewer rows. A buffer with far places is asked for all spots, and one that begins with a zero for those of it.
-NEAR_SEEN, FAR_SEEN, ZERO_SEEN = 3, 1, 3
+NEAR_SEEN, FAR_SEEN, ZERO_SEEN = 4, 1, 4
 # The kinds of ways below a parent that stand in one list: they have no list inside a list.
 LISTED = {"Nothing", "Entries"}
 # What is told last, without being tried.
@@ -615,13 +615,14 @@ def told_alone(place, told):
     return len({number for number, it in told if all(by_byte[byte] == {number} for byte in it[place])})
 
 
-def spots_of(left, near, far):
+def spots_of(left, near, far, apart):
     """The places that tell these alternatives, each with some that it tells, so many near rows and far ones at most: next comes
-    what tells the most rows apart."""
+    what tells the most, or the most rows apart."""
     spots = []
     while left:
         told = {place: [(number, it) for number, it in left if is_told_at(place, it)] for place in sorted({place for _, it in left for place in it})}
-        place = min(told, key=lambda place: (-told_alone(place, told[place]), -len(told[place])))
+        common = {place: len(COMMON.intersection(set().union(*(it[place] for _, it in some)))) for place, some in told.items() if some}
+        place = min(common, key=lambda place: (-told_alone(place, told[place]) * apart, -len(told[place]), common[place]))
         spots += groups_at(place, told[place], near if place <= FAR else far)
         left = [it for it in left if it not in told[place]]
     return sorted(spots, key=lambda it: it[0])
@@ -631,7 +632,7 @@ def all_spots(rows, zeros, gate):
     """The spots of all buffers, and those of a zero. What stands behind the gate has none."""
     first, zeroed = first_spotted(rows), begun_by(rows, zeros)[1]
     others = [(number, it) for number, it in free_of(rows, zeros) if number >= first and not is_behind(gate, it)]
-    spots, own = spots_of(others, NEAR_SEEN, FAR_SEEN), spots_of(zeroed, ZERO_SEEN, ZERO_SEEN)
+    spots, own = spots_of(others, NEAR_SEEN, FAR_SEEN, True), spots_of(zeroed, ZERO_SEEN, ZERO_SEEN, False)
     if len(spots) + len(own) > MARKS:
         raise ValueError(f"{len(spots) + len(own)} spots, and there are {MARKS} marks: let each tell more rows")
     return spots, own
@@ -1035,5 +1036,5 @@ def by_number(rows):
 
 def text(rows, parents):
     """The file of the index."""
-    places = looked_at(rows)
-    return HEAD.format(len(rows), max(places), max(it for it in places if it <= FAR)) + "\n".join(lists(rows, parents)) + "\n" + by_parent(rows, parents)
+    places = sorted(looked_at(rows))
+    return HEAD.format(len(rows), places[-2], max(it for it in places if it <= FRONT)) + "\n".join(lists(rows, parents)) + "\n" + by_parent(rows, parents)

@@ -146,7 +146,7 @@ fn least_each(entries: &[Entry], buf: &[u8], before: usize) -> usize
 }
 
 /// [`least_each`], without a loop if there is one entry, as mostly.
-#[inline(never)]
+#[inline(always)]
 fn least_few(entries: &[Entry], buf: &[u8], before: usize) -> usize
     ensures { IsLeast (IsTried None buf.now (candidates buf.now entries.now)) before result }
 {
@@ -154,6 +154,14 @@ fn least_few(entries: &[Entry], buf: &[u8], before: usize) -> usize
         Some(entry) => least_at(entry, None, buf, before),
         None => least_each(entries, buf, before),
     }
+}
+
+/// [`least_few`] as a function of its own.
+#[inline(never)]
+fn least_few_apart(entries: &[Entry], buf: &[u8], before: usize) -> usize
+    ensures { IsLeast (IsTried None buf.now (candidates buf.now entries.now)) before result }
+{
+    least_few(entries, buf, before)
 }
 
 /// Whether this is one entry, whose row is not before that number: told without a loop, as most guards have one entry.
@@ -177,7 +185,7 @@ fn least_after(entries: &[Entry], buf: &[u8], before: usize) -> usize
     if is_late(entries, before) {
         return before;
     }
-    least_few(entries, buf, before)
+    least_few_apart(entries, buf, before)
 }
 
 /// [`least_after`] that number, of the entries behind a guard: the number before if the buffer lacks the guard's byte.
@@ -292,7 +300,27 @@ fn least_all_seen(marks: &[u64], spots: &[Spot], buf: &[u8], before: usize) -> u
     least
 }
 
-/// [`least_all_seen`] of the spots of a zero: the number before if the buffer begins otherwise.
+/// [`least_all_seen`] half by half, as the compiler writes out a walk over few spots alone.
+#[inline(always)]
+fn least_half_seen(marks: &[u64], spots: &[Spot], buf: &[u8], before: usize) -> usize
+    ensures { IsLeast (IsTried None buf.now (all_seen marks.now buf.now spots.now)) before result }
+{
+    let (first, last) = spots.split_at(spots.len() / 2);
+    let least = least_all_seen(marks, first, buf, before);
+    least_all_seen(marks, last, buf, least)
+}
+
+/// [`least_half_seen`] of either half.
+#[inline(always)]
+fn least_quarter_seen(marks: &[u64], spots: &[Spot], buf: &[u8], before: usize) -> usize
+    ensures { IsLeast (IsTried None buf.now (all_seen marks.now buf.now spots.now)) before result }
+{
+    let (first, last) = spots.split_at(spots.len() / 2);
+    let least = least_half_seen(marks, first, buf, before);
+    least_half_seen(marks, last, buf, least)
+}
+
+/// [`least_half_seen`] of the spots of a zero: the number before if the buffer begins otherwise.
 #[tactic(auto, using(crate::proofs::LeastLemmas::tried_behind, crate::proofs::LeastLemmas::tried_shut))]
 #[inline(always)]
 fn least_zeroed(spots: &Spots, buf: &[u8], before: usize) -> usize
@@ -301,10 +329,10 @@ fn least_zeroed(spots: &Spots, buf: &[u8], before: usize) -> usize
     if !has_byte(buf, 0, 0) {
         return before;
     }
-    least_all_seen(spots.marks, spots.zeros, buf, before)
+    least_half_seen(spots.marks, spots.zeros, buf, before)
 }
 
-/// [`least_all_seen`] of the far spots, none of which a short buffer has.
+/// [`least_quarter_seen`] of the far spots, none of which a short buffer has.
 #[inline(always)]
 fn least_far(spots: &Spots, buf: &[u8], before: usize) -> usize
     requires { IsTrue (list_all (is_far spots.now.beyond) spots.now.far.now) }
@@ -314,7 +342,7 @@ fn least_far(spots: &Spots, buf: &[u8], before: usize) -> usize
     if buf.len() <= spots.beyond as usize {
         return before;
     }
-    least_all_seen(spots.marks, spots.far, buf, before)
+    least_quarter_seen(spots.marks, spots.far, buf, before)
 }
 
 /// The least of the number before and of the rows of all spots that widen the answer.
@@ -326,7 +354,7 @@ fn least_spotted(spots: &Spots, buf: &[u8], before: usize) -> usize
     if before <= usize::from(spots.from) {
         return before;
     }
-    let near = least_all_seen(spots.marks, spots.near, buf, before);
+    let near = least_quarter_seen(spots.marks, spots.near, buf, before);
     least_far(spots, buf, near)
 }
 
@@ -474,6 +502,16 @@ fn least_picked(lists: &Begun, second: &Second, buf: &[u8], before: usize) -> us
     least_listed(entries_picked(lists, second, buf), buf, before)
 }
 
+/// [`least_picked`] as a function of its own, so that a buffer with another first byte takes one test.
+#[inline(never)]
+fn least_picked_apart(lists: &Begun, second: &Second, buf: &[u8], before: usize) -> usize
+    requires { IsTrue (are_spans lists.now) }
+    ensures { IsLeast (IsTried None buf.now
+        (candidates buf.now (picked lists.now second.now buf.now))) before result }
+{
+    least_picked(lists, second, buf, before)
+}
+
 /// [`least_picked`] by a third byte: the number before if the buffer begins with another byte.
 #[tactic(auto, using(crate::proofs::LeastLemmas::tried_behind, crate::proofs::LeastLemmas::tried_shut))]
 #[inline(always)]
@@ -484,7 +522,7 @@ fn least_third(lists: &Begun, own: &Third, buf: &[u8], before: usize) -> usize
     if !has_byte(buf, 0, own.byte) {
         return before;
     }
-    least_picked(lists, &own.second, buf, before)
+    least_picked_apart(lists, &own.second, buf, before)
 }
 
 /// The least of the number before and of the rows that a third byte picks and that widen the answer.
@@ -514,8 +552,8 @@ fn least_elsewhere<const COPY: usize>(index: &Parentless, buf: &[u8], before: us
     least_spotted(&index.spots, buf, ranged)
 }
 
-/// [`least_elsewhere`], by copies of its own for buffers that have each place that is looked at, and for those that have each
-/// near one: there the compiler knows so.
+/// [`least_elsewhere`], by copies of its own for buffers that have nearly each place that is looked at, and for those that have
+/// most of the near ones: there the compiler knows so.
 #[inline(always)]
 fn least_placed(index: &Parentless, buf: &[u8], before: usize) -> usize
     requires { IsTrue (are_spots index.now.spots) }

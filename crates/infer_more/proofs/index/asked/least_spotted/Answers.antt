@@ -16,4 +16,4 @@ least_far-requires c =
     both_right (list_all (is_late spots.from) spots.near.now && list_all (is_late spots.from) spots.far.now) _ c.requires
 
 pub returns : goal.returns
-returns c = tried_more None c.args.buf.now _ _ _ _ _ c.least_all_seen-near.ensures c.least_far.ensures
+returns c = tried_more None c.args.buf.now _ _ _ _ _ c.least_quarter_seen-near.ensures c.least_far.ensures
