@@ -1,4 +1,7 @@
-use crate::json::{has_first_key, has_first_key_with, may_have_first_key, may_have_first_key_with};
+use crate::json::{
+    first_dark, first_key, has_first_key, has_first_key_with, may_have_first_key,
+    may_have_first_key_with,
+};
 
 // By hand. What stands behind the colon may be anything.
 #[test]
@@ -63,4 +66,28 @@ fn first_keys_far(rt: HostRuntime) {
     open[1] = b'"';
     assert!(rt; !has_first_key(&open, b"cells"));
     assert!(rt; !has_first_key_with(&open, b"c", b"c"));
+}
+
+// A key that is read for all rows ends at the next quote.
+#[test]
+fn first_keys_for_all(rt: HostRuntime) {
+    let cases: [(&[u8], &[u8], &[u8]); 4] = [
+        (b"{\"type\":\"Point\"", b"type", b"\"Point\""),
+        (b"\xEF\xBB\xBF {\n\"\" : 1", b"", b" 1"),
+        (b"{\"a\\\":", b"a\\", b""),
+        (b" { \"cells\" :", b"cells", b""),
+    ];
+    for (buf, text, rest) in cases {
+        match first_key(buf) {
+            Some(key) => {
+                assert!(rt; key.text == text);
+                assert!(rt; key.rest == rest);
+                assert_eq!(rt; key.has_value(b"Point"), text.len() == 4);
+            }
+            None => assert!(rt; false),
+        }
+    }
+    assert!(rt; first_key(b"{\"cells\"").is_none());
+    assert_eq!(rt; first_dark(b" \t\r\n<"), Some(b'<'));
+    assert_eq!(rt; first_dark(b" \n"), None);
 }
