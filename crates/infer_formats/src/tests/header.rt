@@ -33,7 +33,7 @@ fn later_headers_far(rt: HostRuntime) {
     buf[1] = b'Z';
     assert!(rt; !has_later_header(&buf, b"PE", 0xFFFF, 0, 0xFFFF));
     assert!(rt; may_have_later_header(&buf, b"PE", 0xFFFF, 0, 0xFFFF));
-    for bit in 0..32 {
+    for bit in 0..32u32 {
         let place = (1u32 << bit).to_le_bytes();
         buf[60] = place[0];
         buf[61] = place[1];
