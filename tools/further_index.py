@@ -203,7 +203,7 @@ FAR, FRONT = 64, 32
 MARKS = 64
 # How many rows a near spot tells at most, a far one and one of a zero, unless more have one byte: the fewer, the more spots are
 # asked for, and the fewer rows. A buffer with far places is asked for all spots, and one that begins with a zero for those of it.
-NEAR_SEEN, FAR_SEEN, ZERO_SEEN = 4, 1, 4
+NEAR_SEEN, FAR_SEEN, ZERO_SEEN = 4, 3, 4
 # The kinds of ways below a parent that stand in one list: they have no list inside a list.
 LISTED = {"Nothing", "Entries"}
 # What is told last, without being tried.
