@@ -16,10 +16,13 @@ pub enum Text<'a> {
     Pieces(Joined),
 }
 
+/// How many bytes pieces have at most.
+const ROOM: usize = 64;
+
 /// Bytes that were joined: the first `count`.
 #[derive(Clone, Copy)]
 pub struct Joined {
-    pub bytes: [u8; 64],
+    pub bytes: [u8; ROOM],
     pub count: usize,
 }
 
@@ -92,7 +95,7 @@ fn join(tokens: &[Token<'_>]) -> Option<Joined>
     ensures { option_map joined_listed result ≡ option_and_then in_room (pieces_of (map token_listed tokens.now)) }
 {
     let mut joined = Joined {
-        bytes: [0; 64],
+        bytes: [0; ROOM],
         count: 0,
     };
     for token in tokens {
@@ -157,7 +160,7 @@ fn with_byte(joined: Joined, byte: u8) -> Option<Joined>
     ensures { option_map joined_listed result ≡ in_room (joined_listed joined ++ byte ∷ []) }
 {
     let mut joined = joined;
-    if joined.count >= 64 {
+    if joined.count >= ROOM {
         return None;
     }
     joined.bytes[joined.count] = byte;
