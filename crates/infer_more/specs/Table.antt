@@ -990,7 +990,7 @@ mended =
     ∷ row App (codes "application/vnd.microsoft.portable-executable") (codes "dll") (Some EXE) (related (header (codes "PE" ++ 0x00 ∷ 0x00 ∷ []) 0x16 0x2000 0x3FFF) ∷ related (header (codes "PE" ++ 0x00 ∷ 0x00 ∷ []) 0x16 0xA000 0xBFFF) ∷ [])
     ∷ row App (codes "application/x-ms-ne-executable") (codes "ne") (Some EXE) (related (header (codes "NE") 0x01 0x145 0xFF45) ∷ [])
     ∷ row App (codes "application/x-lx-executable") (codes "lx") (Some EXE) (related (header (codes "LX") 0x02 0x00 0x00) ∷ related (header (codes "LE") 0x02 0x00 0x00) ∷ [])
-    ∷ row Image (codes "image/x-nikon-nef") (codes "nef") (Some TIFF) (related (directory_tag_and_make 0x014A (codes "NIKON")) ∷ [])
+    ∷ row Image (codes "image/x-nikon-nef") (codes "nef") (Some TIFF) (related (directory_tag_and_make 0x014A (codes "NIKON CORPORATION")) ∷ [])
     ∷ row Image (codes "image/x-sony-arw") (codes "arw") (Some TIFF) (related (directory_tag_and_make 0x014A (codes "SONY")) ∷ [])
     ∷ row Image (codes "image/x-kodak-kdc") (codes "kdc") (Some TIFF) (at_least 263 (text 242 (codes "EASTMAN KODAK COMPANY") ∷ []) ∷ [])
     ∷ row Image (codes "image/x-phaseone-iiq") (codes "iiq") (Some TIFF) (at_least 12 (text 8 (codes "IIII") ∷ []) ∷ [])

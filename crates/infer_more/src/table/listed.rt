@@ -1793,7 +1793,7 @@ static ROWS_FROM_744: &[FurtherRow] = rows![
     App "application/vnd.microsoft.portable-executable" "dll": EXE => [Header(b"PE\0\0", 0x0016, 0x2000, 0x3FFF)] [Header(b"PE\0\0", 0x0016, 0xA000, 0xBFFF)];
     App "application/x-ms-ne-executable" "ne": EXE => [Header(b"NE", 0x0001, 0x0145, 0xFF45)];
     App "application/x-lx-executable" "lx": EXE => [Header(b"LX", 0x0002, 0x0000, 0x0000)] [Header(b"LE", 0x0002, 0x0000, 0x0000)];
-    Image "image/x-nikon-nef" "nef": TIFF => [DirectoryTagAndMake(0x014A, b"NIKON")];
+    Image "image/x-nikon-nef" "nef": TIFF => [DirectoryTagAndMake(0x014A, b"NIKON CORPORATION")];
     Image "image/x-sony-arw" "arw": TIFF => [DirectoryTagAndMake(0x014A, b"SONY")];
     Image "image/x-kodak-kdc" "kdc": TIFF => [263, At(242, b"EASTMAN KODAK COMPANY")];
 ];
