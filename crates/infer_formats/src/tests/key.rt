@@ -48,6 +48,10 @@ fn first_keys_with_values(rt: HostRuntime) {
         assert_eq!(rt; has_first_key_with(buf, b"type", b"Point"), expected);
         assert!(rt; may_have_first_key_with(buf, b"type", b"Point"));
     }
+    let never: [&[u8]; 2] = [b"\"type\":\"Point\"", b"\x0B{\"type\":\"Point\""];
+    for buf in never {
+        assert!(rt; !may_have_first_key_with(buf, b"type", b"Point"));
+    }
 }
 
 // Long white space, and a key without an end.

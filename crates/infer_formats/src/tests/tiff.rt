@@ -1,5 +1,5 @@
 use crate::tiff::{
-    first_directory_has_tag, first_directory_has_tag_and_make,
+    first_directory_has_tag, first_directory_has_tag_and_make, first_directory_may_have_tag,
     first_directory_may_have_tag_and_make,
 };
 
@@ -67,6 +67,8 @@ fn makes(rt: HostRuntime) {
         assert!(rt; !first_directory_has_tag_and_make(buf, 0x014A, b"NIKON\0\0"));
         assert!(rt; !first_directory_has_tag_and_make(buf, 0xC612, b"NIKON"));
         assert!(rt; !first_directory_has_tag_and_make(&buf[..38], 0x014A, b"NIKON"));
+        assert!(rt; !first_directory_may_have_tag(buf, 0xC612));
+        assert!(rt; first_directory_may_have_tag(buf, 0x014A));
         assert!(rt; !first_directory_may_have_tag_and_make(buf, 0xC612, b"NIKON"));
         for length in 0..buf.len() {
             assert!(rt; first_directory_may_have_tag_and_make(&buf[..length], 0x014A, b"NIKON"));
