@@ -15,7 +15,7 @@ NAMES = {
     "FirstEntryHasExtra": lambda it: f"first entry: has extra {spaced(it)}",
     "ClassId": lambda it: f"class id: {spaced(it)}",
     "DirectoryTag": lambda it: f"first directory has tag {int(it, 0):04X}",
-    "DirectoryTagAndMake": lambda it: f"first directory has tag {int(it.split(',')[0], 0):04X} and make {quoted(texts(it)[0])}",
+    "DirectoryTagAndMake": lambda it: f"first directory has tag {int(it.split(',')[0], 0):04X} and make {pieces(texts(it)[0])}",
     "Program": lambda it: f"program: {bytes_of(it).decode()}",
     "TextFirst": lambda it: f"begins: {pieces(it)}",
     "TextFirstWith": lambda it: "begins: " + " has ".join(map(pieces, texts(it))),

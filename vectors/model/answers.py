@@ -77,7 +77,7 @@ def has_tag(buf: bytes, words: list[bytes]) -> bool:
     places = range(start + 2, min(start + 2 + 12 * count, len(buf) - 11), 12)
     tagged = lambda tag: [at for at in places if buf[at : at + 2] == tag.to_bytes(2, order)]
     # Behind the tag perhaps `and make "MAKE"`.
-    made = lambda at: buf[int.from_bytes(buf[at + 8 : at + 12], order) :].startswith(words[3][1:-1])
+    made = lambda at: buf[int.from_bytes(buf[at + 8 : at + 12], order) :].startswith(notation.texts(words[3:])[0])
     return tagged(int(words[0], 16)) != [] and (len(words) == 1 or any(map(made, tagged(0x010F))))
 
 

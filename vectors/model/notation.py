@@ -307,7 +307,7 @@ RELATIONS = [
     ('JSON', rb"", None),
     ('text', rb"", lambda buf, words: is_text(buf)),
     ('first directory has tag', HEX + HEX, None),
-    ('first directory has tag', HEX + HEX + rb"\0and\0make\0" + QUOTED, None),
+    ('first directory has tag', HEX + HEX + rb"\0and\0make\0" + PIECES, None),
     ('package with :', QUOTED, None),
     ('behind an ID3 tag :', QUOTED, lambda buf, words: behind_tag(buf).startswith(words[0][1:-1])),
     ('entry :', QUOTED, lambda buf, words: has_entry(buf, words[0][1:-1])),
@@ -347,6 +347,8 @@ def is_taken(name, words):
     """Whether texts and numbers are no longer and no greater than they may be."""
     if name == "begins :":
         return texts(words) is not None
+    if name == "first directory has tag":
+        return texts(words[3:]) is not None
     return name != "later header :" or texts(words[:-6]) is not None and max(numbers(words)) <= MOST_NUMBER
 
 

@@ -19,7 +19,7 @@ use Rattle.infer_formats.specs.declared.relation.OfText.{OfText}
 use Rattle.infer_formats.specs.declared.relation.Takes.TheVariants.{Begins, ClassId, Entry, FirstKey, Header, OneText, Root, Tag}
 use Rattle.infer_notation.proofs.OptionLemmas.{bind_some, cond_given, map_some}
 use Rattle.infer_notation.proofs.RelationLemmas.{begins_not}
-use Rattle.infer_notation.proofs.TextLemmas.{AreLeft, before_so, each_first, each_so, last_read, more_left, none_left, read_before, word_is, writes_so}
+use Rattle.infer_notation.proofs.TextLemmas.{AreLeft, before_so, each_first, each_so, last_read, more_left, none_left, read_before, so_writes, word_is, writes_so}
 use Rattle.infer_notation.specs.Texts.{text_before, text_in}
 
 -- ---- groups
@@ -183,23 +183,24 @@ tag_so (w ∷ x ∷ y ∷ z ∷ []) n e =
     subst (λ m. Asks Tag (bare (w ∷ x ∷ y ∷ z ∷ []) ∷ []) (directory_tag m)) same (a_tag w x y z h l is-high is-low)
 tag_so w n e = absurd cc
 
-tag_and_make_so : (w make : List ℕ) (n : ℕ) → tag_of w ≡ Some n
-    → Asks Tag (bare w ∷ bare (codes "and") ∷ bare (codes "make") ∷ quoted make ∷ []) (directory_tag_and_make n make)
-tag_and_make_so (w ∷ x ∷ y ∷ z ∷ []) make n e =
+tag_and_make_so : (w : List ℕ) (ts : List Token) (make : List ℕ) (n : ℕ) → tag_of w ≡ Some n → Writes ts make
+    → Asks Tag (bare w ∷ bare (codes "and") ∷ bare (codes "make") ∷ ts) (directory_tag_and_make n make)
+tag_and_make_so (w ∷ x ∷ y ∷ z ∷ []) ts make n e writes =
     let (h, is-high, some) = bind_some (byte_with w x) _ n e in
     let (l, is-low, same) = map_some (λ l. 256 * h + l) (byte_with y z) n some in
-    subst (λ m. Asks Tag (bare (w ∷ x ∷ y ∷ z ∷ []) ∷ bare (codes "and") ∷ bare (codes "make") ∷ quoted make ∷ []) (directory_tag_and_make m make)) same
-    (a_tag_and_make w x y z h l make is-high is-low)
-tag_and_make_so w make n e = absurd cc
+    subst (λ m. Asks Tag (bare (w ∷ x ∷ y ∷ z ∷ []) ∷ bare (codes "and") ∷ bare (codes "make") ∷ ts) (directory_tag_and_make m make)) same
+    (a_tag_and_make w x y z h l ts make is-high is-low writes)
+tag_and_make_so w ts make n e writes = absurd cc
 
 behind_tag_so : (w : List ℕ) (n : ℕ) → tag_of w ≡ Some n → (ts : List Token) (a : Relation) → behind_tag n ts ≡ Some a → Asks Tag (bare w ∷ ts) a
 behind_tag_so w n is [] a e = let same : directory_tag n ≡ a = cc in subst (Asks Tag (bare w ∷ [])) same (tag_so w n is)
-behind_tag_so w n is (t ∷ u ∷ quoted make ∷ []) a e =
-    let both = cond_some (is_word (codes "and") t && is_word (codes "make") u) (directory_tag_and_make n make) a e in
-    let words = and_parts (is_word (codes "and") t) (is_word (codes "make") u) both.0 in
-    subst (λ v. Asks Tag (bare w ∷ v ∷ u ∷ quoted make ∷ []) a) (sym (word_is (codes "and") t words.0))
-    (subst (λ v. Asks Tag (bare w ∷ bare (codes "and") ∷ v ∷ quoted make ∷ []) a) (sym (word_is (codes "make") u words.1))
-    (subst (Asks Tag (bare w ∷ bare (codes "and") ∷ bare (codes "make") ∷ quoted make ∷ [])) both.1 (tag_and_make_so w make n is)))
+behind_tag_so w n is (t ∷ u ∷ ts) a e =
+    let (so, some) = cond_given (is_word (codes "and") t && is_word (codes "make") u) (option_map (directory_tag_and_make n) (text_in ts)) a e in
+    let (make, made, same) = map_some (directory_tag_and_make n) (text_in ts) a some in
+    let words = and_parts (is_word (codes "and") t) (is_word (codes "make") u) so in
+    subst (λ v. Asks Tag (bare w ∷ v ∷ u ∷ ts) a) (sym (word_is (codes "and") t words.0))
+    (subst (λ v. Asks Tag (bare w ∷ bare (codes "and") ∷ v ∷ ts) a) (sym (word_is (codes "make") u words.1))
+    (subst (Asks Tag (bare w ∷ bare (codes "and") ∷ bare (codes "make") ∷ ts)) same (tag_and_make_so w ts make n is (writes_so ts make made))))
 behind_tag_so w n is ts a e = absurd cc
 
 directory_so : (ts : List Token) (a : Relation) → directory_of ts ≡ Some a → Asks Tag ts a
@@ -413,7 +414,7 @@ fourth_read ts t u v w each =
 
 asks_so : (takes : Takes) (ts : List Token) (a : Relation) → Asks takes ts a → items_of takes ts ≡ Some (related a ∷ [])
 asks_so takes ts a (a_tag w x y z high low is-high is-low) = rw (is-high, is-low) refl
-asks_so takes ts a (a_tag_and_make w x y z high low make is-high is-low) = rw (is-high, is-low) refl
+asks_so takes ts a (a_tag_and_make w x y z high low us make is-high is-low writes) = rw (is-high, is-low, so_writes us make writes) refl
 asks_so takes ts a (an_extra v w x y is-x is-y) = rw (is-x, is-y) refl
 asks_so takes ts a (an_id ws id long bytes) = rw (length-map ws bare ∙ long, so_words ws id bytes) refl
 asks_so takes ts a (a_beginning _ t each) = ap (option_map one_of) (first_read ts t each)

@@ -73,8 +73,8 @@ pub data Asks : Takes → List Token → Relation → Type 0 where
   nothing : (r : relations.Relation) → Asks (Nothing r) [] (relation_listed r)
   a_tag : (a b c d x y : ℕ) → byte_with a b ≡ Some x → byte_with c d ≡ Some y
       → Asks Tag (bare (a ∷ b ∷ c ∷ d ∷ []) ∷ []) (directory_tag (256 * x + y))
-  a_tag_and_make : (a b c d x y : ℕ) (make : List ℕ) → byte_with a b ≡ Some x → byte_with c d ≡ Some y
-      → Asks Tag (bare (a ∷ b ∷ c ∷ d ∷ []) ∷ bare (codes "and") ∷ bare (codes "make") ∷ quoted make ∷ []) (directory_tag_and_make (256 * x + y) make)
+  a_tag_and_make : (a b c d x y : ℕ) (ts : List Token) (make : List ℕ) → byte_with a b ≡ Some x → byte_with c d ≡ Some y → Writes ts make
+      → Asks Tag (bare (a ∷ b ∷ c ∷ d ∷ []) ∷ bare (codes "and") ∷ bare (codes "make") ∷ ts) (directory_tag_and_make (256 * x + y) make)
   a_text : (which : OfText) (text : List ℕ) → Asks (OneText which) (quoted text ∷ []) (of_text which text)
   a_program : (w : List ℕ) → Asks Program (bare w ∷ []) (program w)
   a_name : (name : List ℕ) → Asks Entry (bare (codes "is") ∷ quoted name ∷ []) (first_entry_is name)

@@ -77,8 +77,8 @@ tag_of other = None
 -- behind that nothing, or the make of the camera
 abbrev pub behind_tag : ℕ → List Token → Option Relation
 behind_tag n [] = Some (directory_tag n)
-behind_tag n (t ∷ u ∷ quoted make ∷ []) =
-    if is_word (codes "and") t && is_word (codes "make") u then Some (directory_tag_and_make n make) else None
+behind_tag n (t ∷ u ∷ ts) =
+    if is_word (codes "and") t && is_word (codes "make") u then option_map (λ make. directory_tag_and_make n make) (text_in ts) else None
 behind_tag n other = None
 
 abbrev pub directory_of : List Token → Option Relation

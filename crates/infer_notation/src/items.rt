@@ -20,7 +20,7 @@ pub fn has_relation(takes: Takes, tokens: &[Token<'_>], buf: &[u8]) -> Option<bo
     match takes {
         Takes::Nothing(relation) => seen(alone(relation, tokens), buf),
         Takes::OneText(which) => seen(one_text(which, tokens), buf),
-        Takes::Tag => seen(directory(tokens), buf),
+        Takes::Tag => has_directory(tokens, buf),
         Takes::Program => seen(program(tokens), buf),
         Takes::Entry => seen(entry(tokens), buf),
         Takes::FirstKey => seen(key(tokens), buf),
@@ -55,23 +55,26 @@ fn alone<'a>(relation: Relation<'a>, tokens: &[Token<'_>]) -> Option<Relation<'a
 }
 
 /// A tag, as in `C612`, and perhaps `and make "MAKE"`.
-fn directory<'a>(tokens: &[Token<'a>]) -> Option<Relation<'a>>
-    ensures { option_map relation_listed result ≡ directory_of (map token_listed tokens.now) }
+fn has_directory(tokens: &[Token<'_>], buf: &[u8]) -> Option<bool>
+    ensures { IsSeen (option_map (λ r. related r ∷ []) (directory_of
+        (map token_listed tokens.now))) buf.now result }
 {
     match tokens {
-        [Word(digits), behind @ ..] => behind_tag(tag(digits)?, behind),
+        [Word(digits), behind @ ..] => has_tag(tag(digits)?, behind, buf),
         _ => None,
     }
 }
 
 /// What stands behind the tag: nothing, or `and make "MAKE"`.
-fn behind_tag<'a>(tag: u16, tokens: &[Token<'a>]) -> Option<Relation<'a>>
-    ensures { option_map relation_listed result ≡ behind_tag tag (map token_listed tokens.now) }
+fn has_tag(tag: u16, tokens: &[Token<'_>], buf: &[u8]) -> Option<bool>
+    ensures { IsSeen (option_map (λ r. related r ∷ []) (behind_tag tag
+        (map token_listed tokens.now))) buf.now result }
 {
     match tokens {
-        [] => Some(Relation::DirectoryTag(tag)),
-        [and, make, Quoted(text)] if is_word(*and, b"and") && is_word(*make, b"make") => {
-            Some(Relation::DirectoryTagAndMake(tag, text))
+        [] => Some(Relation::DirectoryTag(tag).fits(buf)),
+        [and, make, text @ ..] if is_word(*and, b"and") && is_word(*make, b"make") => {
+            let make = read_text(text)?;
+            Some(Relation::DirectoryTagAndMake(tag, make.read()).fits(buf))
         }
         _ => None,
     }
