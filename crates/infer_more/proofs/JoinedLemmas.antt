@@ -1,5 +1,5 @@
 -- Elements of lists that are joined, and of parts of a list.
-use Rattle.infer_more.proofs.Common.{◌≡◌, ◌+◌, ◌-◌, ◌<◌, ◌≤◌, ℕ, zero, suc, List, [], ◌∷◌, ◌++◌, Option, None, Some, length, map, option_map, drop, take, ap, sym, subst, ◌∙◌, refl, arith, slice_get-map, Further, FurtherRow, ended_shown, further, row_listed}
+use Rattle.infer_more.proofs.Common.{◌≡◌, ◌+◌, ◌-◌, ◌<◌, ◌≤◌, ℕ, zero, suc, List, [], ◌∷◌, ◌++◌, Option, None, Some, length, option_map, drop, take, ap, sym, ◌∙◌, refl, arith, slice_get-map, FurtherRow, ended_shown, further, row_listed}
 use Rattle.std.proofs.Common.{slice_get}
 use Rattle.infer_more.specs.Ended.{ended_listed}
 use Rattle.infer_more.specs.Listed.{AreEnded, AreRows}

@@ -14,6 +14,7 @@ pub mod TableLemmas
 pub mod ShownLemmas
 pub mod RowLemmas
 pub mod LawLemmas
+pub mod BeginningLemmas
 pub mod BelowLemmas
 pub mod RefusalLemmas
 pub mod SampleLemmas

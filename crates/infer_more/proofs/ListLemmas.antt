@@ -3,9 +3,7 @@ use Rattle.infer_more.proofs.Common.{◌≡◌, ℕ, Bool, true, false, IsTrue, 
 use Rattle.std.proofs.Common.{slice_get}
 use Rattle.std.proofs.lemmas.List.{take_all}
 use Rattle.std.proofs.lemmas.List.Folds.{list_all_more, list_any_more}
-use Rattle.std.proofs.lemmas.List.Elements.{All-cons, All-nil}
 use Rattle.std.proofs.lemmas.List.Sums.{AllPass-from_list_all}
-use Rattle.std.specs.List.{All}
 
 module _ {A B : Type 0} (p : B → Bool) (f : A → B) where
   pub list_all_map : (xs : List A) → list_all p (map f xs) ≡ list_all (λ x. p (f x)) xs

@@ -43,13 +43,16 @@ abbrev pub NoneFails : (ℕ → Bool) → ℕ → ℕ → Type 0
 NoneFails test s zero = Unit {0}
 NoneFails test s (suc k) = (refused_at test s ≡ []) × NoneFails test (s + 1) k
 
--- none of 256 from s on, in sixteens
-abbrev pub NoneOf256 : (ℕ → Bool) → ℕ → Type 0
-NoneOf256 test s =
-    NoneFails test s 16 × NoneFails test (s + 16) 16 × NoneFails test (s + 32) 16 × NoneFails test (s + 48) 16 × NoneFails test (s + 64) 16
-    × NoneFails test (s + 80) 16 × NoneFails test (s + 96) 16 × NoneFails test (s + 112) 16 × NoneFails test (s + 128) 16 × NoneFails test (s + 144) 16
-    × NoneFails test (s + 160) 16 × NoneFails test (s + 176) 16 × NoneFails test (s + 192) 16 × NoneFails test (s + 208) 16
-    × NoneFails test (s + 224) 16 × NoneFails test (s + 240) 16
+-- none of the first j, and of k behind them
+pub none_joined : (test : ℕ → Bool) (s j k : ℕ) → NoneFails test s j → NoneFails test (s + j) k → NoneFails test s (j + k)
+none_joined test s zero k here behind =
+    let same : s + zero ≡ s = omega arith in
+    let many : k ≡ zero + k = omega arith in
+    subst (NoneFails test s) many (subst (λ t. NoneFails test t k) same behind)
+none_joined test s (suc j) k here behind =
+    let same : s + suc j ≡ (s + 1) + j = omega arith in
+    let many : suc (j + k) ≡ suc j + k = omega arith in
+    subst (NoneFails test s) many (here.0, none_joined test (s + 1) j k here.1 (subst (λ t. NoneFails test t k) same behind))
 
 not_refused : (r : Bool) (i : ℕ) → (if r then [] else i ∷ []) ≡ [] → IsTrue r
 not_refused true i e = refl
@@ -65,39 +68,10 @@ none_fails test s (suc k) none i low high lt = elim (cases_lt s i) [
   | inr le ↦ let same : s ≡ i = omega arith in passes_at test i lt (subst (λ j. refused_at test j ≡ []) same none.0)
 ]
 
-none_of_256 : (test : ℕ → Bool) (s : ℕ) → NoneOf256 test s → (i : ℕ) → s ≤ i → i < s + 256 → i < FURTHER_COUNT → IsTrue (test i)
-none_of_256 test s (a, b, c, d, e, f, g, h, j, k, l, m, n, o, p, q) i low high lt =
-    let at = λ (from : ℕ) (some : NoneFails test from 16) (first : from ≤ i) (last : i < from + 16). none_fails test from 16 some i first last lt in
-    elim (cases_lt i (s + 128)) [
-      | inl lower ↦ elim (cases_lt i (s + 64)) [
-        | inl under ↦ elim (cases_lt i (s + 32)) [
-          | inl x ↦ elim (cases_lt i (s + 16)) [ inl y ↦ at s a low y | inr y ↦ at (s + 16) b y (omega arith) ]
-          | inr x ↦ elim (cases_lt i (s + 48)) [ inl y ↦ at (s + 32) c x (omega arith) | inr y ↦ at (s + 48) d y (omega arith) ]
-        ]
-        | inr over ↦ elim (cases_lt i (s + 96)) [
-          | inl x ↦ elim (cases_lt i (s + 80)) [ inl y ↦ at (s + 64) e over (omega arith) | inr y ↦ at (s + 80) f y (omega arith) ]
-          | inr x ↦ elim (cases_lt i (s + 112)) [ inl y ↦ at (s + 96) g x (omega arith) | inr y ↦ at (s + 112) h y (omega arith) ]
-        ]
-      ]
-      | inr upper ↦ elim (cases_lt i (s + 192)) [
-        | inl under ↦ elim (cases_lt i (s + 160)) [
-          | inl x ↦ elim (cases_lt i (s + 144)) [ inl y ↦ at (s + 128) j upper (omega arith) | inr y ↦ at (s + 144) k y (omega arith) ]
-          | inr x ↦ elim (cases_lt i (s + 176)) [ inl y ↦ at (s + 160) l x (omega arith) | inr y ↦ at (s + 176) m y (omega arith) ]
-        ]
-        | inr over ↦ elim (cases_lt i (s + 224)) [
-          | inl x ↦ elim (cases_lt i (s + 208)) [ inl y ↦ at (s + 192) n over (omega arith) | inr y ↦ at (s + 208) o y (omega arith) ]
-          | inr x ↦ elim (cases_lt i (s + 240)) [ inl y ↦ at (s + 224) p x (omega arith) | inr y ↦ at (s + 240) q y (omega arith) ]
-        ]
-      ]
-    ]
-
-pub each_alone : (test : ℕ → Bool) → NoneOf256 test 0 → NoneOf256 test 256 → NoneOf256 test 512 → NoneOf256 test 768 → (i : ℕ) → i < length further → IsTrue (test i)
-each_alone test first second third last i lt =
+pub each_alone : (test : ℕ → Bool) → NoneFails test 0 1024 → (i : ℕ) → i < length further → IsTrue (test i)
+each_alone test none i lt =
     let many = length-further in
-    elim (cases_lt i 512) [
-      | inl lower ↦ elim (cases_lt i 256) [ inl x ↦ none_of_256 test 0 first i (omega arith) (omega arith) (omega arith) | inr x ↦ none_of_256 test 256 second i x (omega arith) (omega arith) ]
-      | inr upper ↦ elim (cases_lt i 768) [ inl x ↦ none_of_256 test 512 third i upper (omega arith) (omega arith) | inr x ↦ none_of_256 test 768 last i x (omega arith) (omega arith) ]
-    ]
+    none_fails test 0 1024 none i (omega arith) (omega arith) (omega arith)
 
 -- a test of every row, whose refusal shows the numbers of the rows that fail, counted from 0
 pub all_numbered : (test : Further → Bool) → ((d : Further) → NoRowFails (λ i. test (get_or further i d))) → IsTrue (list_all test further)

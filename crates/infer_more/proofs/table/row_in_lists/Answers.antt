@@ -1,4 +1,4 @@
-use Rattle.infer_more.proofs.Common.{◌≡◌, ◌∙◌, ◌-◌, None, Some, arith, further, is_row_closed, length, refl, row_listed, slice_get_past, slice_get_read, sym}
+use Rattle.infer_more.proofs.Common.{◌≡◌, ◌-◌, None, Some, arith, further, is_row_closed, refl, row_listed, slice_get_past, slice_get_read, sym}
 use Rattle.std.proofs.Common.{slice_get}
 use Rattle.infer_more.proofs.JoinedLemmas.{ended_here, found_in}
 use Rattle.infer_more.proofs.NamedLemmas.{row_passes}
