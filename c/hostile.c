@@ -6,7 +6,7 @@
 #include <stdio.h>
 #include <string.h>
 
-enum { ROOM = 16384, ROUNDS = 20000 };
+enum { ROOM = 40960, GROWN = 16384, LONG = 8192, ROUNDS = 20000 };
 static unsigned char *end; /* of the room, right before the page that may not be touched */
 static struct infer_named_answer *answer; /* in a room of its own */
 static infer_range *last_range;           /* in another, behind whose end is such a page too */
@@ -114,8 +114,9 @@ static size_t behind_range(const infer_range *range) {
 /* Another buffer with the same bytes in the ranges, of a length that the needs allow: its answer has to be the same. */
 static void ask_alike(position_of *position, int32_t row, const unsigned char *buf, size_t len, const infer_range *ranges, const infer_needs *needs) {
     static unsigned char changed[ROOM + 64];
+    const size_t most = (len > GROWN ? len : GROWN) + 64;
     size_t least = needs->least;
-    for (size_t i = 0; i < sizeof changed; i++)
+    for (size_t i = 0; i < most; i++)
         changed[i] = (unsigned char)next();
     for (size_t i = 0; i < needs->wanted; i++) {
         const size_t behind = behind_range(ranges + i);
@@ -123,7 +124,7 @@ static void ask_alike(position_of *position, int32_t row, const unsigned char *b
             changed[k] = buf[k];
         if (behind > least) least = behind;
     }
-    wants(position(changed, needs->is_exact ? len : least + next() % (sizeof changed - least)) == row);
+    wants(position(changed, needs->is_exact ? len : least + next() % (most - least)) == row);
 }
 
 /* What decides the answer, with any room. */
@@ -194,7 +195,7 @@ static void ask(const void *buf, size_t len) {
 
 /* A sample, or nothing, with random bytes in and after it, in a room that ends with it. */
 static void ask_some(void) {
-    static const size_t lengths[] = {0, 1, 2, 8, 64, 640, 1023, 1024, 1025, 4096, 8192, ROOM};
+    static const size_t lengths[] = {0, 1, 2, 8, 64, 640, 1023, 1024, 1025, 4096, 8192, 16384, 32775};
     size_t len = lengths[next() % (sizeof lengths / sizeof *lengths)];
     len -= len ? next() % len % 40 : 0;
     unsigned char sample[INFER_SAMPLE_SIZE], *buf = end - len;
@@ -234,6 +235,8 @@ static void write_samples(int32_t row) {
     unsigned char sample[INFER_SAMPLE_SIZE];
     size_t len = infer_sample(row, sample, sizeof sample);
     for (size_t size = 0; size <= len + 1; size++) {
+        /* The sizes between the ends of a long one are alike. */
+        if (size == LONG / 2 && len > LONG) size = len - LONG / 2;
         unsigned char *out = end - size;
         memset(out - 1, '.', size + 1);
         wants(infer_sample(row, out, size) == len && out[-1] == '.');

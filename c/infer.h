@@ -247,7 +247,7 @@ void infer_find_class_name(int32_t class_code, struct infer_text *out);
  * one. It is 0 if the row is never the answer or there is no such row. The sample is written to `out`, with no zero after
  * it, if `size` bytes are room for all of it, and otherwise nothing is written. INFER_SAMPLE_SIZE bytes are always enough,
  * and with `size` 0 `out` may be null. */
-#define INFER_SAMPLE_SIZE 4136
+#define INFER_SAMPLE_SIZE 32774
 size_t infer_sample(int32_t row, void *out, size_t size);
 
 /* TYPES OF YOUR OWN, in a text: a line a type, as in

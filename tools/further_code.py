@@ -1,4 +1,4 @@
-"""Writes the further rows as the code has them, from their definitions: eight rows a list, and each list behind a function
+"""Writes the further rows as the code has them, from their definitions: a few rows a list, and each list behind a function
 whose contract compares it with them."""
 import re
 
@@ -8,8 +8,8 @@ from texts import text_of
 
 RELATIONS = "crates/infer_formats/src/relation.rt"
 # The check of a list takes time quadratic in its rows.
-ROWS_OF_A_LIST = 8
-HEAD = """//! Made by `tools/tables` from the definitions of the further rows, which the prover compares with them: eight rows a list.
+ROWS_OF_A_LIST = 4
+HEAD = """//! Made by `tools/tables` from the definitions of the further rows, which the prover compares with them: a few rows a list.
 ghost use Rattle.std.specs.Prelude.{{◌≡◌, ◌+◌, ◌<◌, ◌≤◌, IfSome, None}};
 ghost use Rattle.infer_more.specs.Listed.{{AreEnded, AreRows}};
 

@@ -391,6 +391,7 @@ func Sample(number int) []byte {
 	if number < 0 || number >= len(allTypes) {
 		return nil
 	}
-	out := make([]byte, C.INFER_SAMPLE_SIZE)
-	return out[:C.sample(C.int32_t(number), first(out), C.INFER_SAMPLE_SIZE)]
+	out := make([]byte, C.sample(C.int32_t(number), nil, 0))
+	C.sample(C.int32_t(number), first(out), C.size_t(len(out)))
+	return out
 }

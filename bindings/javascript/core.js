@@ -6,8 +6,6 @@ const FRONT = 8192;
 /** Most files are told by so many bytes, and of a Blob no more are read then. */
 const FIRST = 1024;
 const PAGE = 65536;
-/** Room for the longest sample. */
-const SAMPLE = 4136;
 /** Room for a text that the module writes, of which two stand behind the bytes that it is asked about. */
 const TEXT = 256;
 /** Then come two numbers, what is needed to decide and room for its ranges, and a text of types. */
@@ -127,8 +125,13 @@ export const mayBecomeWider = (input, ext) => someRow(infer.infer_more_may_becom
 
 export const sample = (number) => {
     if (!Number.isInteger(number) || !(number in knownTypes)) return undefined;
-    const size = Number(infer.infer_sample(number, place, BigInt(SAMPLE)));
-    return size > 0 ? room.slice(0, size) : undefined;
+    const size = Number(infer.infer_sample(number, place, 0n));
+    if (size === 0) return undefined;
+    // A long one reaches to where a text of types stands.
+    makeRoom(Math.max(TYPES, size));
+    held = undefined;
+    infer.infer_sample(number, place, BigInt(size));
+    return room.slice(0, size);
 };
 export const encoding = (input) => textOf(infer.infer_encoding, place, hand(input)) || undefined;
 export const isDecided = (input) => ask(infer.infer_is_decided, input) !== 0;

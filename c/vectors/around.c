@@ -2,6 +2,7 @@
  * greatest, and with a byte turned. The wider answer must be that which asking each row by itself gives. */
 #include "further.h"
 #include "infer.h"
+#include <stdbool.h>
 #include <string.h>
 
 /* The sample that is asked about, and what the questions about it share. */
@@ -26,16 +27,25 @@ static void ask(const struct asker *asker, const void *buf, size_t len, const ch
     WANTS(asker->tally, row == first_of_each(asker->parents, buf, len), "row %d, %s %zu", (int)asker->row, how, place);
 }
 
+/* A longer sample is asked about at each place near its ends alone, and between them at one of so many. */
+enum { LONG = 8192, END = 512, APART = 127 };
+
+/* The next place of the sample to ask about. */
+static size_t after(const struct asker *asker, size_t place) {
+    bool is_inside = asker->len > LONG && place >= END && place + END + APART < asker->len;
+    return place + (is_inside ? APART : 1);
+}
+
 static void cut(const struct asker *asker) {
-    for (size_t n = 0; n <= asker->len; n++)
+    for (size_t n = 0; n <= asker->len; n = after(asker, n))
         ask(asker, asker->sample, n, "cut after", n);
 }
 
 /* Each byte turned in these bits. */
 static void turn(const struct asker *asker, unsigned char bits) {
     unsigned char turned[INFER_SAMPLE_SIZE];
-    memcpy(turned, asker->sample, sizeof turned);
-    for (size_t place = 0; place < asker->len; place++) {
+    memcpy(turned, asker->sample, asker->len);
+    for (size_t place = 0; place < asker->len; place = after(asker, place)) {
         turned[place] ^= bits;
         ask(asker, turned, asker->len, "turned at", place);
         turned[place] ^= bits;
@@ -44,9 +54,9 @@ static void turn(const struct asker *asker, unsigned char bits) {
 
 /* So many such bytes in place of a stated length, wherever it may be. */
 static void state(const struct asker *asker, size_t width, int byte) {
-    for (size_t end = width; end <= asker->len; end++) {
+    for (size_t end = width; end <= asker->len; end = after(asker, end)) {
         unsigned char stated[INFER_SAMPLE_SIZE];
-        memcpy(stated, asker->sample, sizeof stated);
+        memcpy(stated, asker->sample, asker->len);
         memset(stated + (end - width), byte, width);
         ask(asker, stated, asker->len, "another length before", end);
     }
@@ -55,7 +65,7 @@ static void state(const struct asker *asker, size_t width, int byte) {
 /* That byte wherever the row still accepts the buffer, so in all lengths that its files state. */
 static void fill(const struct asker *asker, unsigned char byte) {
     unsigned char filled[INFER_SAMPLE_SIZE];
-    memcpy(filled, asker->sample, sizeof filled);
+    memcpy(filled, asker->sample, asker->len);
     for (size_t place = 0; place < asker->len; place++) {
         unsigned char kept = filled[place];
         filled[place] = byte;

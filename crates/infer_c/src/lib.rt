@@ -452,13 +452,13 @@ pub extern "C" fn infer_mime_may_be_scriptable(buf: &[u8]) -> bool
 }
 
 /// The length of the row's sample, which is written to `out` if it fits, and 0 if the row is never the answer or there is
-/// no such row. It is at most 4136.
+/// no such row. It is at most 32774.
 #[unsafe(no_mangle)]
 pub extern "C" fn infer_sample(row: i32, out: &mut [u8]) -> usize
     ensures sample { (sample : Option (List ℕ)) × IsSampleOf row sample
         × (result ≡ option_map_or (λ s. length s) sample 0)
         × WritesWhole (option_map_or (λ s. s) sample []) out.old out.new }
-    ensures few { result ≤ 4136 }
+    ensures few { result ≤ 32774 }
 {
     if row < 0 {
         return 0;

@@ -70,7 +70,7 @@ pub(crate) fn room()
 pub fn numbers()
     ensures many { length shown ≡ ROW_COUNT + FURTHER_COUNT }
     ensures built_in { ShowsBuiltIn }
-    ensures longest { SAMPLE_SIZE ≡ 4136 }
+    ensures longest { SAMPLE_SIZE ≡ 32774 }
 {
     infer::rows::numbers();
 }

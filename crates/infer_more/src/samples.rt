@@ -21,7 +21,7 @@ use infer::rows::{DLL, EPUB_ARCHIVE, HTML, ROW_COUNT, XML};
 use infer_formats::model::Model;
 
 /// The most bytes that a sample has, with some to spare.
-pub const SAMPLE_SIZE: usize = 4136;
+pub const SAMPLE_SIZE: usize = 32774;
 
 /// Writes the text over `out`, from the place on.
 fn put(place: usize, text: &[u8], out: &mut [u8])

@@ -29,19 +29,19 @@ keys_listed =
     (listed_append key_listed KEYS 878 309 k3.listed
     (listed_append key_listed KEYS 1187 293 k4.listed
     (listed_append key_listed KEYS 1480 281 k5.listed
-    (listed_append key_listed KEYS 1761 283 k6.listed
-    (listed_last key_listed KEYS 2044 272 refl k7.listed)))))))
+    (listed_append key_listed KEYS 1761 286 k6.listed
+    (listed_last key_listed KEYS 2047 273 refl k7.listed)))))))
 
-pub right : wrong_from starts 2316 0 keys ≡ []
+pub right : wrong_from starts 2320 0 keys ≡ []
 unfolding keys
 right =
-    right_append starts 2316 0 300 _ _ refl k0.many k0.right
-    (right_append starts 2316 300 310 _ _ refl k1.many k1.right
-    (right_append starts 2316 610 268 _ _ refl k2.many k2.right
-    (right_append starts 2316 878 309 _ _ refl k3.many k3.right
-    (right_append starts 2316 1187 293 _ _ refl k4.many k4.right
-    (right_append starts 2316 1480 281 _ _ refl k5.many k5.right
-    (right_append starts 2316 1761 283 _ _ refl k6.many k6.right
+    right_append starts 2320 0 300 _ _ refl k0.many k0.right
+    (right_append starts 2320 300 310 _ _ refl k1.many k1.right
+    (right_append starts 2320 610 268 _ _ refl k2.many k2.right
+    (right_append starts 2320 878 309 _ _ refl k3.many k3.right
+    (right_append starts 2320 1187 293 _ _ refl k4.many k4.right
+    (right_append starts 2320 1480 281 _ _ refl k5.many k5.right
+    (right_append starts 2320 1761 286 _ _ refl k6.many k6.right
     (k7.right)))))))
 
 pub marked : AreMarked keys
@@ -76,7 +76,7 @@ types_4-listed : map type_listed (take 256 (drop 1024 TYPES)) ≡ types_4
 unfolding types_4 mime_types row_texts
 types_4-listed = refl
 
-types_5-listed : map type_listed (take 135 (drop 1280 TYPES)) ≡ types_5
+types_5-listed : map type_listed (take 139 (drop 1280 TYPES)) ≡ types_5
 unfolding types_5 mime_types row_texts
 types_5-listed = refl
 
@@ -88,7 +88,7 @@ types_listed =
     (listed_append type_listed TYPES 512 256 types_2-listed
     (listed_append type_listed TYPES 768 256 types_3-listed
     (listed_append type_listed TYPES 1024 256 types_4-listed
-    (listed_last type_listed TYPES 1280 135 refl types_5-listed)))))
+    (listed_last type_listed TYPES 1280 139 refl types_5-listed)))))
 
 sets_0-listed : map set_listed (take 128 (drop 0 SETS)) ≡ sets_0
 unfolding sets_0 ranges row_spans row_texts
@@ -118,7 +118,7 @@ sets_6-listed : map set_listed (take 128 (drop 768 SETS)) ≡ sets_6
 unfolding sets_6 ranges row_spans row_texts
 sets_6-listed = refl
 
-sets_7-listed : map set_listed (take 81 (drop 896 SETS)) ≡ sets_7
+sets_7-listed : map set_listed (take 87 (drop 896 SETS)) ≡ sets_7
 unfolding sets_7 ranges row_spans row_texts
 sets_7-listed = refl
 
@@ -132,4 +132,4 @@ sets_listed =
     (listed_append set_listed SETS 512 128 sets_4-listed
     (listed_append set_listed SETS 640 128 sets_5-listed
     (listed_append set_listed SETS 768 128 sets_6-listed
-    (listed_last set_listed SETS 896 81 refl sets_7-listed)))))))
+    (listed_last set_listed SETS 896 87 refl sets_7-listed)))))))

@@ -596,8 +596,8 @@ rows-dbpf = 183
 abbrev pub rows-dbusservice : ℕ
 rows-dbusservice = 184
 
-abbrev pub rows-dc-gcm-saturn-segacd : ℕ
-rows-dc-gcm-saturn-segacd = 185
+abbrev pub rows-dc-gcm-saturn-segacd-udf : ℕ
+rows-dc-gcm-saturn-segacd-udf = 185
 
 abbrev pub rows-dcm : ℕ
 rows-dcm = 186
@@ -941,2036 +941,2054 @@ rows-geojson = 298
 abbrev pub rows-gff3 : ℕ
 rows-gff3 = 299
 
+abbrev pub rows-gg : ℕ
+rows-gg = 300
+
 abbrev pub rows-ggr : ℕ
-rows-ggr = 300
+rows-ggr = 301
 
 abbrev pub rows-gguf : ℕ
-rows-gguf = 301
+rows-gguf = 302
 
 abbrev pub rows-gif : ℕ
-rows-gif = 302
+rows-gif = 303
 
 abbrev pub rows-gitbundle : ℕ
-rows-gitbundle = 303
+rows-gitbundle = 304
 
 abbrev pub rows-gitidx : ℕ
-rows-gitidx = 304
+rows-gitidx = 305
 
 abbrev pub rows-gitindex : ℕ
-rows-gitindex = 305
+rows-gitindex = 306
 
 abbrev pub rows-gitpatch : ℕ
-rows-gitpatch = 306
+rows-gitpatch = 307
 
 abbrev pub rows-gjs-js : ℕ
-rows-gjs-js = 307
+rows-gjs-js = 308
 
 abbrev pub rows-glade : ℕ
-rows-glade = 308
+rows-glade = 309
 
 abbrev pub rows-glb : ℕ
-rows-glb = 309
+rows-glb = 310
 
 abbrev pub rows-gltf : ℕ
-rows-gltf = 310
+rows-gltf = 311
 
 abbrev pub rows-gml : ℕ
-rows-gml = 311
+rows-gml = 312
 
 abbrev pub rows-gnd : ℕ
-rows-gnd = 312
+rows-gnd = 313
 
 abbrev pub rows-gnucash : ℕ
-rows-gnucash = 313
+rows-gnucash = 314
 
 abbrev pub rows-gnumeric : ℕ
-rows-gnumeric = 314
+rows-gnumeric = 315
 
 abbrev pub rows-gnuplot : ℕ
-rows-gnuplot = 315
+rows-gnuplot = 316
 
 abbrev pub rows-goobj : ℕ
-rows-goobj = 316
+rows-goobj = 317
 
 abbrev pub rows-gpg-gpgold : ℕ
-rows-gpg-gpgold = 317
+rows-gpg-gpgold = 318
 
 abbrev pub rows-gpgsec : ℕ
-rows-gpgsec = 318
+rows-gpgsec = 319
 
 abbrev pub rows-gpkg : ℕ
-rows-gpkg = 319
+rows-gpkg = 320
 
 abbrev pub rows-gpl : ℕ
-rows-gpl = 320
+rows-gpl = 321
 
 abbrev pub rows-gpx : ℕ
-rows-gpx = 321
+rows-gpx = 322
 
 abbrev pub rows-grib : ℕ
-rows-grib = 322
+rows-grib = 323
 
 abbrev pub rows-grib-grib2 : ℕ
-rows-grib-grib2 = 323
+rows-grib-grib2 = 324
 
 abbrev pub rows-groovy : ℕ
-rows-groovy = 324
+rows-groovy = 325
 
 abbrev pub rows-grp : ℕ
-rows-grp = 325
+rows-grp = 326
 
 abbrev pub rows-grubkbd : ℕ
-rows-grubkbd = 326
+rows-grubkbd = 327
 
 abbrev pub rows-gschema : ℕ
-rows-gschema = 327
+rows-gschema = 328
 
 abbrev pub rows-gtkbuilder : ℕ
-rows-gtkbuilder = 328
+rows-gtkbuilder = 329
 
 abbrev pub rows-gtp : ℕ
-rows-gtp = 329
+rows-gtp = 330
 
 abbrev pub rows-gv : ℕ
-rows-gv = 330
+rows-gv = 331
 
 abbrev pub rows-gvdb : ℕ
-rows-gvdb = 331
+rows-gvdb = 332
 
 abbrev pub rows-gx : ℕ
-rows-gx = 332
+rows-gx = 333
 
 abbrev pub rows-gz : ℕ
-rows-gz = 333
+rows-gz = 334
 
 abbrev pub rows-gz-html-txt-xhtml-xml : ℕ
-rows-gz-html-txt-xhtml-xml = 334
+rows-gz-html-txt-xhtml-xml = 335
 
 abbrev pub rows-gz-kspcrypt-zip : ℕ
-rows-gz-kspcrypt-zip = 335
+rows-gz-kspcrypt-zip = 336
 
 abbrev pub rows-gz-kwdcrypt-zip : ℕ
-rows-gz-kwdcrypt-zip = 336
+rows-gz-kwdcrypt-zip = 337
 
 abbrev pub rows-gz-sqlite-xml : ℕ
-rows-gz-sqlite-xml = 337
+rows-gz-sqlite-xml = 338
 
 abbrev pub rows-gz-txt-xml : ℕ
-rows-gz-txt-xml = 338
+rows-gz-txt-xml = 339
 
 abbrev pub rows-gz-xml : ℕ
-rows-gz-xml = 339
+rows-gz-xml = 340
 
 abbrev pub rows-gz-zip : ℕ
-rows-gz-zip = 340
+rows-gz-zip = 341
 
 abbrev pub rows-gz-zst : ℕ
-rows-gz-zst = 341
+rows-gz-zst = 342
 
 abbrev pub rows-h264 : ℕ
-rows-h264 = 342
+rows-h264 = 343
 
 abbrev pub rows-h265 : ℕ
-rows-h265 = 343
+rows-h265 = 344
 
 abbrev pub rows-hdd : ℕ
-rows-hdd = 344
+rows-hdd = 345
 
 abbrev pub rows-hdf4 : ℕ
-rows-hdf4 = 345
+rows-hdf4 = 346
 
 abbrev pub rows-hdf5 : ℕ
-rows-hdf5 = 346
+rows-hdf5 = 347
 
 abbrev pub rows-hdr : ℕ
-rows-hdr = 347
+rows-hdr = 348
 
 abbrev pub rows-hdt : ℕ
-rows-hdt = 348
+rows-hdt = 349
 
 abbrev pub rows-heic : ℕ
-rows-heic = 349
+rows-heic = 350
 
 abbrev pub rows-heics : ℕ
-rows-heics = 350
+rows-heics = 351
 
 abbrev pub rows-heics-heif : ℕ
-rows-heics-heif = 351
+rows-heics-heif = 352
 
 abbrev pub rows-heif : ℕ
-rows-heif = 352
+rows-heif = 353
 
 abbrev pub rows-heifs : ℕ
-rows-heifs = 353
+rows-heifs = 354
 
 abbrev pub rows-hfe : ℕ
-rows-hfe = 354
+rows-hfe = 355
 
 abbrev pub rows-hgbundle : ℕ
-rows-hgbundle = 355
+rows-hgbundle = 356
 
 abbrev pub rows-hi : ℕ
-rows-hi = 356
+rows-hi = 357
 
 abbrev pub rows-hlp : ℕ
-rows-hlp = 357
+rows-hlp = 358
 
 abbrev pub rows-hprof : ℕ
-rows-hprof = 358
+rows-hprof = 359
 
 abbrev pub rows-hqx : ℕ
-rows-hqx = 359
+rows-hqx = 360
 
 abbrev pub rows-hs : ℕ
-rows-hs = 360
+rows-hs = 361
 
 abbrev pub rows-hsi : ℕ
-rows-hsi = 361
+rows-hsi = 362
 
 abbrev pub rows-html : ℕ
-rows-html = 362
+rows-html = 363
 
 abbrev pub rows-html-json-php-svg-txt-xhtml-xml : ℕ
-rows-html-json-php-svg-txt-xhtml-xml = 363
+rows-html-json-php-svg-txt-xhtml-xml = 364
 
 abbrev pub rows-html-rss-txt-xml : ℕ
-rows-html-rss-txt-xml = 364
+rows-html-rss-txt-xml = 365
 
 abbrev pub rows-html-sh-svg-txt-xhtml-xml : ℕ
-rows-html-sh-svg-txt-xhtml-xml = 365
+rows-html-sh-svg-txt-xhtml-xml = 366
 
 abbrev pub rows-html-txt : ℕ
-rows-html-txt = 366
+rows-html-txt = 367
 
 abbrev pub rows-html-txt-xhtml-xml : ℕ
-rows-html-txt-xhtml-xml = 367
+rows-html-txt-xhtml-xml = 368
 
 abbrev pub rows-html-txt-xml : ℕ
-rows-html-txt-xml = 368
+rows-html-txt-xml = 369
 
 abbrev pub rows-http : ℕ
-rows-http = 369
+rows-http = 370
 
 abbrev pub rows-hwp : ℕ
-rows-hwp = 370
+rows-hwp = 371
 
 abbrev pub rows-iaarc : ℕ
-rows-iaarc = 371
+rows-iaarc = 372
 
 abbrev pub rows-icc : ℕ
-rows-icc = 372
+rows-icc = 373
 
 abbrev pub rows-icns : ℕ
-rows-icns = 373
+rows-icns = 374
 
 abbrev pub rows-ico : ℕ
-rows-ico = 374
+rows-ico = 375
 
 abbrev pub rows-icontheme : ℕ
-rows-icontheme = 375
+rows-icontheme = 376
 
 abbrev pub rows-ics : ℕ
-rows-ics = 376
+rows-ics = 377
 
 abbrev pub rows-icures : ℕ
-rows-icures = 377
+rows-icures = 378
 
 abbrev pub rows-iff : ℕ
-rows-iff = 378
+rows-iff = 379
 
 abbrev pub rows-ifo : ℕ
-rows-ifo = 379
+rows-ifo = 380
 
 abbrev pub rows-igs : ℕ
-rows-igs = 380
+rows-igs = 381
 
 abbrev pub rows-iiq : ℕ
-rows-iiq = 381
+rows-iiq = 382
 
 abbrev pub rows-ilbm : ℕ
-rows-ilbm = 382
+rows-ilbm = 383
 
 abbrev pub rows-imy : ℕ
-rows-imy = 383
+rows-imy = 384
 
 abbrev pub rows-indd : ℕ
-rows-indd = 384
+rows-indd = 385
 
 abbrev pub rows-inf : ℕ
-rows-inf = 385
+rows-inf = 386
 
 abbrev pub rows-info : ℕ
-rows-info = 386
+rows-info = 387
 
 abbrev pub rows-innolog : ℕ
-rows-innolog = 387
+rows-innolog = 388
 
 abbrev pub rows-ips : ℕ
-rows-ips = 388
+rows-ips = 389
 
 abbrev pub rows-ipynb : ℕ
-rows-ipynb = 389
+rows-ipynb = 390
 
 abbrev pub rows-ircam : ℕ
-rows-ircam = 390
+rows-ircam = 391
+
+abbrev pub rows-iso : ℕ
+rows-iso = 392
 
 abbrev pub rows-it : ℕ
-rows-it = 391
+rows-it = 393
 
 abbrev pub rows-it87 : ℕ
-rows-it87 = 392
+rows-it87 = 394
 
 abbrev pub rows-itc : ℕ
-rows-itc = 393
+rows-itc = 395
 
 abbrev pub rows-ivf : ℕ
-rows-ivf = 394
+rows-ivf = 396
 
 abbrev pub rows-j2c : ℕ
-rows-j2c = 395
+rows-j2c = 397
 
 abbrev pub rows-jad : ℕ
-rows-jad = 396
+rows-jad = 398
 
 abbrev pub rows-jar : ℕ
-rows-jar = 397
+rows-jar = 399
 
 abbrev pub rows-jar-zip : ℕ
-rows-jar-zip = 398
+rows-jar-zip = 400
 
 abbrev pub rows-jarmf : ℕ
-rows-jarmf = 399
+rows-jarmf = 401
 
 abbrev pub rows-jbig2 : ℕ
-rows-jbig2 = 400
+rows-jbig2 = 402
 
 abbrev pub rows-jceks : ℕ
-rows-jceks = 401
+rows-jceks = 403
 
 abbrev pub rows-jffs2 : ℕ
-rows-jffs2 = 402
+rows-jffs2 = 404
 
 abbrev pub rows-jfr : ℕ
-rows-jfr = 403
+rows-jfr = 405
+
+abbrev pub rows-jfs : ℕ
+rows-jfs = 406
 
 abbrev pub rows-jimage : ℕ
-rows-jimage = 404
+rows-jimage = 407
 
 abbrev pub rows-jks : ℕ
-rows-jks = 405
+rows-jks = 408
 
 abbrev pub rows-jl : ℕ
-rows-jl = 406
+rows-jl = 409
 
 abbrev pub rows-jls : ℕ
-rows-jls = 407
+rows-jls = 410
 
 abbrev pub rows-jmod : ℕ
-rows-jmod = 408
+rows-jmod = 411
 
 abbrev pub rows-jng : ℕ
-rows-jng = 409
+rows-jng = 412
 
 abbrev pub rows-jnlp : ℕ
-rows-jnlp = 410
+rows-jnlp = 413
 
 abbrev pub rows-journal : ℕ
-rows-journal = 411
+rows-journal = 414
 
 abbrev pub rows-jp2 : ℕ
-rows-jp2 = 412
+rows-jp2 = 415
 
 abbrev pub rows-jpg : ℕ
-rows-jpg = 413
+rows-jpg = 416
 
 abbrev pub rows-jph : ℕ
-rows-jph = 414
+rows-jph = 417
 
 abbrev pub rows-jph-jpm-jpx-mj2 : ℕ
-rows-jph-jpm-jpx-mj2 = 415
+rows-jph-jpm-jpx-mj2 = 418
 
 abbrev pub rows-jpm : ℕ
-rows-jpm = 416
+rows-jpm = 419
 
 abbrev pub rows-jpx : ℕ
-rows-jpx = 417
+rows-jpx = 420
 
 abbrev pub rows-json : ℕ
-rows-json = 418
+rows-json = 421
 
 abbrev pub rows-json-ndjson-txt : ℕ
-rows-json-ndjson-txt = 419
+rows-json-ndjson-txt = 422
 
 abbrev pub rows-json-plist-txt-xml : ℕ
-rows-json-plist-txt-xml = 420
+rows-json-plist-txt-xml = 423
 
 abbrev pub rows-json-sh-txt : ℕ
-rows-json-sh-txt = 421
+rows-json-sh-txt = 424
 
 abbrev pub rows-json-txt : ℕ
-rows-json-txt = 422
+rows-json-txt = 425
 
 abbrev pub rows-jsonlz4 : ℕ
-rows-jsonlz4 = 423
+rows-jsonlz4 = 426
 
 abbrev pub rows-jxl : ℕ
-rows-jxl = 424
+rows-jxl = 427
 
 abbrev pub rows-jxr : ℕ
-rows-jxr = 425
+rows-jxr = 428
 
 abbrev pub rows-karbon : ℕ
-rows-karbon = 426
+rows-karbon = 429
 
 abbrev pub rows-kate-oga-ogm-ogv-ogx-opus-spx-vorbis : ℕ
-rows-kate-oga-ogm-ogv-ogx-opus-spx-vorbis = 427
+rows-kate-oga-ogm-ogv-ogx-opus-spx-vorbis = 430
 
 abbrev pub rows-kbx : ℕ
-rows-kbx = 428
+rows-kbx = 431
 
 abbrev pub rows-kdb : ℕ
-rows-kdb = 429
+rows-kdb = 432
 
 abbrev pub rows-kdbx : ℕ
-rows-kdbx = 430
+rows-kdbx = 433
 
 abbrev pub rows-kdc : ℕ
-rows-kdc = 431
+rows-kdc = 434
 
 abbrev pub rows-kdump : ℕ
-rows-kdump = 432
+rows-kdump = 435
 
 abbrev pub rows-kfo : ℕ
-rows-kfo = 433
+rows-kfo = 436
 
 abbrev pub rows-kil : ℕ
-rows-kil = 434
+rows-kil = 437
 
 abbrev pub rows-kml : ℕ
-rows-kml = 435
+rows-kml = 438
 
 abbrev pub rows-kmz : ℕ
-rows-kmz = 436
+rows-kmz = 439
 
 abbrev pub rows-kon : ℕ
-rows-kon = 437
+rows-kon = 440
 
 abbrev pub rows-kpr : ℕ
-rows-kpr = 438
+rows-kpr = 441
 
 abbrev pub rows-kra : ℕ
-rows-kra = 439
+rows-kra = 442
 
 abbrev pub rows-ksp : ℕ
-rows-ksp = 440
+rows-ksp = 443
 
 abbrev pub rows-ktx : ℕ
-rows-ktx = 441
+rows-ktx = 444
 
 abbrev pub rows-ktx2 : ℕ
-rows-ktx2 = 442
+rows-ktx2 = 445
 
 abbrev pub rows-kwaj : ℕ
-rows-kwaj = 443
+rows-kwaj = 446
 
 abbrev pub rows-kwd : ℕ
-rows-kwd = 444
+rows-kwd = 447
 
 abbrev pub rows-la : ℕ
-rows-la = 445
+rows-la = 448
 
 abbrev pub rows-las : ℕ
-rows-las = 446
+rows-las = 449
 
 abbrev pub rows-laz : ℕ
-rows-laz = 447
+rows-laz = 450
 
 abbrev pub rows-ldcache : ℕ
-rows-ldcache = 448
+rows-ldcache = 451
 
 abbrev pub rows-ldif : ℕ
-rows-ldif = 449
+rows-ldif = 452
 
 abbrev pub rows-ldml : ℕ
-rows-ldml = 450
+rows-ldml = 453
 
 abbrev pub rows-lfp : ℕ
-rows-lfp = 451
+rows-lfp = 454
 
 abbrev pub rows-lingts : ℕ
-rows-lingts = 452
+rows-lingts = 455
 
 abbrev pub rows-lisp : ℕ
-rows-lisp = 453
+rows-lisp = 456
 
 abbrev pub rows-lit : ℕ
-rows-lit = 454
+rows-lit = 457
 
 abbrev pub rows-ll : ℕ
-rows-ll = 455
+rows-ll = 458
 
 abbrev pub rows-lmdb : ℕ
-rows-lmdb = 456
+rows-lmdb = 459
 
 abbrev pub rows-lnk : ℕ
-rows-lnk = 457
+rows-lnk = 460
 
 abbrev pub rows-lnx : ℕ
-rows-lnx = 458
+rows-lnx = 461
 
 abbrev pub rows-locarch : ℕ
-rows-locarch = 459
+rows-locarch = 462
 
 abbrev pub rows-locate : ℕ
-rows-locate = 460
+rows-locate = 463
 
 abbrev pub rows-lrf : ℕ
-rows-lrf = 461
+rows-lrf = 464
 
 abbrev pub rows-lrz : ℕ
-rows-lrz = 462
+rows-lrz = 465
 
 abbrev pub rows-lss : ℕ
-rows-lss = 463
+rows-lss = 466
 
 abbrev pub rows-lua : ℕ
-rows-lua = 464
+rows-lua = 467
 
 abbrev pub rows-lua-sh-txt : ℕ
-rows-lua-sh-txt = 465
+rows-lua-sh-txt = 468
 
 abbrev pub rows-luac : ℕ
-rows-luac = 466
+rows-luac = 469
 
 abbrev pub rows-luks : ℕ
-rows-luks = 467
+rows-luks = 470
 
 abbrev pub rows-lwo : ℕ
-rows-lwo = 468
+rows-lwo = 471
 
 abbrev pub rows-lwp : ℕ
-rows-lwp = 469
+rows-lwp = 472
 
 abbrev pub rows-ly : ℕ
-rows-ly = 470
+rows-ly = 473
 
 abbrev pub rows-lyx : ℕ
-rows-lyx = 471
+rows-lyx = 474
 
 abbrev pub rows-lz : ℕ
-rows-lz = 472
+rows-lz = 475
 
 abbrev pub rows-lz4 : ℕ
-rows-lz4 = 473
+rows-lz4 = 476
 
 abbrev pub rows-lzfse : ℕ
-rows-lzfse = 474
+rows-lzfse = 477
 
 abbrev pub rows-lzh : ℕ
-rows-lzh = 475
+rows-lzh = 478
 
 abbrev pub rows-lzma : ℕ
-rows-lzma = 476
+rows-lzma = 479
 
 abbrev pub rows-lzo : ℕ
-rows-lzo = 477
+rows-lzo = 480
 
 abbrev pub rows-m : ℕ
-rows-m = 478
+rows-m = 481
 
 abbrev pub rows-m3u8 : ℕ
-rows-m3u8 = 479
+rows-m3u8 = 482
 
 abbrev pub rows-m4 : ℕ
-rows-m4 = 480
+rows-m4 = 483
 
 abbrev pub rows-m4a : ℕ
-rows-m4a = 481
+rows-m4a = 484
 
 abbrev pub rows-m4a-mp4 : ℕ
-rows-m4a-mp4 = 482
+rows-m4a-mp4 = 485
 
 abbrev pub rows-m4b : ℕ
-rows-m4b = 483
+rows-m4b = 486
 
 abbrev pub rows-m4b-m4v-mp4 : ℕ
-rows-m4b-m4v-mp4 = 484
+rows-m4b-m4v-mp4 = 487
 
 abbrev pub rows-m4u : ℕ
-rows-m4u = 485
+rows-m4u = 488
 
 abbrev pub rows-m4v : ℕ
-rows-m4v = 486
+rows-m4v = 489
 
 abbrev pub rows-macbin : ℕ
-rows-macbin = 487
+rows-macbin = 490
 
 abbrev pub rows-mach : ℕ
-rows-mach = 488
+rows-mach = 491
 
 abbrev pub rows-mat : ℕ
-rows-mat = 489
+rows-mat = 492
 
 abbrev pub rows-maud : ℕ
-rows-maud = 490
+rows-maud = 493
 
 abbrev pub rows-mbm : ℕ
-rows-mbm = 491
+rows-mbm = 494
 
 abbrev pub rows-mbox : ℕ
-rows-mbox = 492
+rows-mbox = 495
 
 abbrev pub rows-mbtiles : ℕ
-rows-mbtiles = 493
+rows-mbtiles = 496
 
 abbrev pub rows-md : ℕ
-rows-md = 494
+rows-md = 497
 
 abbrev pub rows-mdb : ℕ
-rows-mdb = 495
+rows-mdb = 498
 
 abbrev pub rows-mdi : ℕ
-rows-mdi = 496
+rows-mdi = 499
 
 abbrev pub rows-mdl : ℕ
-rows-mdl = 497
+rows-mdl = 500
 
 abbrev pub rows-mdraid : ℕ
-rows-mdraid = 498
+rows-mdraid = 501
 
 abbrev pub rows-med : ℕ
-rows-med = 499
+rows-med = 502
 
 abbrev pub rows-memdmp : ℕ
-rows-memdmp = 500
+rows-memdmp = 503
 
 abbrev pub rows-meta4 : ℕ
-rows-meta4 = 501
+rows-meta4 = 504
 
 abbrev pub rows-metalink : ℕ
-rows-metalink = 502
+rows-metalink = 505
 
 abbrev pub rows-mf : ℕ
-rows-mf = 503
+rows-mf = 506
 
 abbrev pub rows-midi : ℕ
-rows-midi = 504
+rows-midi = 507
 
 abbrev pub rows-mids : ℕ
-rows-mids = 505
+rows-mids = 508
 
 abbrev pub rows-mif : ℕ
-rows-mif = 506
+rows-mif = 509
 
 abbrev pub rows-miff : ℕ
-rows-miff = 507
+rows-miff = 510
 
 abbrev pub rows-minisig : ℕ
-rows-minisig = 508
+rows-minisig = 511
 
 abbrev pub rows-mj2 : ℕ
-rows-mj2 = 509
+rows-mj2 = 512
 
 abbrev pub rows-mk : ℕ
-rows-mk = 510
+rows-mk = 513
 
 abbrev pub rows-mkv : ℕ
-rows-mkv = 511
+rows-mkv = 514
 
 abbrev pub rows-ml : ℕ
-rows-ml = 512
+rows-ml = 515
 
 abbrev pub rows-mlp : ℕ
-rows-mlp = 513
+rows-mlp = 516
 
 abbrev pub rows-mm : ℕ
-rows-mm = 514
+rows-mm = 517
 
 abbrev pub rows-mmf : ℕ
-rows-mmf = 515
+rows-mmf = 518
 
 abbrev pub rows-mml : ℕ
-rows-mml = 516
+rows-mml = 519
 
 abbrev pub rows-mmm : ℕ
-rows-mmm = 517
+rows-mmm = 520
 
 abbrev pub rows-mng : ℕ
-rows-mng = 518
+rows-mng = 521
 
 abbrev pub rows-mo : ℕ
-rows-mo = 519
+rows-mo = 522
 
 abbrev pub rows-mo3 : ℕ
-rows-mo3 = 520
+rows-mo3 = 523
 
 abbrev pub rows-mobi : ℕ
-rows-mobi = 521
+rows-mobi = 524
 
 abbrev pub rows-mod : ℕ
-rows-mod = 522
+rows-mod = 525
 
 abbrev pub rows-model-obj : ℕ
-rows-model-obj = 523
+rows-model-obj = 526
 
 abbrev pub rows-model-step : ℕ
-rows-model-step = 524
+rows-model-step = 527
 
 abbrev pub rows-mol2 : ℕ
-rows-mol2 = 525
+rows-mol2 = 528
 
 abbrev pub rows-mov : ℕ
-rows-mov = 526
+rows-mov = 529
 
 abbrev pub rows-movie : ℕ
-rows-movie = 527
+rows-movie = 530
 
 abbrev pub rows-mp3 : ℕ
-rows-mp3 = 528
+rows-mp3 = 531
 
 abbrev pub rows-mp3-mp3old : ℕ
-rows-mp3-mp3old = 529
+rows-mp3-mp3old = 532
 
 abbrev pub rows-mp4 : ℕ
-rows-mp4 = 530
+rows-mp4 = 533
 
 abbrev pub rows-mpc : ℕ
-rows-mpc = 531
+rows-mpc = 534
 
 abbrev pub rows-mpd : ℕ
-rows-mpd = 532
+rows-mpd = 535
 
 abbrev pub rows-mpg : ℕ
-rows-mpg = 533
+rows-mpg = 536
 
 abbrev pub rows-mpp : ℕ
-rows-mpp = 534
+rows-mpp = 537
 
 abbrev pub rows-mpq : ℕ
-rows-mpq = 535
+rows-mpq = 538
 
 abbrev pub rows-mpsub : ℕ
-rows-mpsub = 536
+rows-mpsub = 539
 
 abbrev pub rows-mqv : ℕ
-rows-mqv = 537
+rows-mqv = 540
 
 abbrev pub rows-mrc : ℕ
-rows-mrc = 538
+rows-mrc = 541
 
 abbrev pub rows-mrw : ℕ
-rows-mrw = 539
+rows-mrw = 542
 
 abbrev pub rows-ms3d : ℕ
-rows-ms3d = 540
+rows-ms3d = 543
 
 abbrev pub rows-msa : ℕ
-rows-msa = 541
+rows-msa = 544
 
 abbrev pub rows-msbuild : ℕ
-rows-msbuild = 542
+rows-msbuild = 545
 
 abbrev pub rows-mscx : ℕ
-rows-mscx = 543
+rows-mscx = 546
 
 abbrev pub rows-mscz : ℕ
-rows-mscz = 544
+rows-mscz = 547
 
 abbrev pub rows-msg : ℕ
-rows-msg = 545
+rows-msg = 548
 
 abbrev pub rows-msi : ℕ
-rows-msi = 546
+rows-msi = 549
 
 abbrev pub rows-mtl : ℕ
-rows-mtl = 547
+rows-mtl = 550
 
 abbrev pub rows-mtm : ℕ
-rows-mtm = 548
+rows-mtm = 551
 
 abbrev pub rows-mtn : ℕ
-rows-mtn = 549
+rows-mtn = 552
 
 abbrev pub rows-mup : ℕ
-rows-mup = 550
+rows-mup = 553
 
 abbrev pub rows-musicxml : ℕ
-rows-musicxml = 551
+rows-musicxml = 554
 
 abbrev pub rows-mve : ℕ
-rows-mve = 552
+rows-mve = 555
 
 abbrev pub rows-mvg : ℕ
-rows-mvg = 553
+rows-mvg = 556
 
 abbrev pub rows-mxf : ℕ
-rows-mxf = 554
+rows-mxf = 557
 
 abbrev pub rows-myi : ℕ
-rows-myi = 555
+rows-myi = 558
 
 abbrev pub rows-n64 : ℕ
-rows-n64 = 556
+rows-n64 = 559
 
 abbrev pub rows-nbold : ℕ
-rows-nbold = 557
+rows-nbold = 560
 
 abbrev pub rows-nc : ℕ
-rows-nc = 558
+rows-nc = 561
 
 abbrev pub rows-ncch : ℕ
-rows-ncch = 559
+rows-ncch = 562
 
 abbrev pub rows-ncx : ℕ
-rows-ncx = 560
+rows-ncx = 563
 
 abbrev pub rows-ndjson : ℕ
-rows-ndjson = 561
+rows-ndjson = 564
 
 abbrev pub rows-nds : ℕ
-rows-nds = 562
+rows-nds = 565
 
 abbrev pub rows-nef : ℕ
-rows-nef = 563
+rows-nef = 566
 
 abbrev pub rows-neko : ℕ
-rows-neko = 564
+rows-neko = 567
 
 abbrev pub rows-nes : ℕ
-rows-nes = 565
+rows-nes = 568
 
 abbrev pub rows-netmon : ℕ
-rows-netmon = 566
+rows-netmon = 569
 
 abbrev pub rows-news : ℕ
-rows-news = 567
+rows-news = 570
 
 abbrev pub rows-nex : ℕ
-rows-nex = 568
+rows-nex = 571
 
 abbrev pub rows-nft : ℕ
-rows-nft = 569
+rows-nft = 572
 
 abbrev pub rows-ngc : ℕ
-rows-ngc = 570
+rows-ngc = 573
 
 abbrev pub rows-ngp : ℕ
-rows-ngp = 571
+rows-ngp = 574
 
 abbrev pub rows-niff : ℕ
-rows-niff = 572
+rows-niff = 575
 
 abbrev pub rows-nii : ℕ
-rows-nii = 573
+rows-nii = 576
 
 abbrev pub rows-npy : ℕ
-rows-npy = 574
+rows-npy = 577
+
+abbrev pub rows-nrw : ℕ
+rows-nrw = 578
 
 abbrev pub rows-nsc : ℕ
-rows-nsc = 575
+rows-nsc = 579
 
 abbrev pub rows-nsf : ℕ
-rows-nsf = 576
+rows-nsf = 580
 
 abbrev pub rows-nso : ℕ
-rows-nso = 577
+rows-nso = 581
 
 abbrev pub rows-nsv : ℕ
-rows-nsv = 578
+rows-nsv = 582
 
 abbrev pub rows-nut : ℕ
-rows-nut = 579
+rows-nut = 583
 
 abbrev pub rows-nzb : ℕ
-rows-nzb = 580
+rows-nzb = 584
 
 abbrev pub rows-o : ℕ
-rows-o = 581
+rows-o = 585
 
 abbrev pub rows-obj : ℕ
-rows-obj = 582
+rows-obj = 586
 
 abbrev pub rows-odb : ℕ
-rows-odb = 583
+rows-odb = 587
 
 abbrev pub rows-odc : ℕ
-rows-odc = 584
+rows-odc = 588
 
 abbrev pub rows-odf : ℕ
-rows-odf = 585
+rows-odf = 589
 
 abbrev pub rows-odg : ℕ
-rows-odg = 586
+rows-odg = 590
 
 abbrev pub rows-odg-zip : ℕ
-rows-odg-zip = 587
+rows-odg-zip = 591
 
 abbrev pub rows-odi : ℕ
-rows-odi = 588
+rows-odi = 592
 
 abbrev pub rows-odm : ℕ
-rows-odm = 589
+rows-odm = 593
 
 abbrev pub rows-odm-ott : ℕ
-rows-odm-ott = 590
+rows-odm-ott = 594
 
 abbrev pub rows-odp : ℕ
-rows-odp = 591
+rows-odp = 595
 
 abbrev pub rows-odp-zip : ℕ
-rows-odp-zip = 592
+rows-odp-zip = 596
 
 abbrev pub rows-ods : ℕ
-rows-ods = 593
+rows-ods = 597
 
 abbrev pub rows-ods-zip : ℕ
-rows-ods-zip = 594
+rows-ods-zip = 598
 
 abbrev pub rows-odt : ℕ
-rows-odt = 595
+rows-odt = 599
 
 abbrev pub rows-odt-zip : ℕ
-rows-odt-zip = 596
+rows-odt-zip = 600
 
 abbrev pub rows-oga : ℕ
-rows-oga = 597
+rows-oga = 601
 
 abbrev pub rows-ogg : ℕ
-rows-ogg = 598
+rows-ogg = 602
 
 abbrev pub rows-ogg-ogv : ℕ
-rows-ogg-ogv = 599
+rows-ogg-ogv = 603
 
 abbrev pub rows-ogm : ℕ
-rows-ogm = 600
+rows-ogm = 604
 
 abbrev pub rows-ogv : ℕ
-rows-ogv = 601
+rows-ogv = 605
 
 abbrev pub rows-okt : ℕ
-rows-okt = 602
+rows-okt = 606
 
 abbrev pub rows-omni : ℕ
-rows-omni = 603
+rows-omni = 607
 
 abbrev pub rows-openssh : ℕ
-rows-openssh = 604
+rows-openssh = 608
 
 abbrev pub rows-openssl : ℕ
-rows-openssl = 605
+rows-openssl = 609
 
 abbrev pub rows-opf : ℕ
-rows-opf = 606
+rows-opf = 610
 
 abbrev pub rows-opml : ℕ
-rows-opml = 607
+rows-opml = 611
 
 abbrev pub rows-opus : ℕ
-rows-opus = 608
+rows-opus = 612
 
 abbrev pub rows-ora : ℕ
-rows-ora = 609
+rows-ora = 613
 
 abbrev pub rows-orc : ℕ
-rows-orc = 610
+rows-orc = 614
 
 abbrev pub rows-orf : ℕ
-rows-orf = 611
+rows-orf = 615
 
 abbrev pub rows-os2hlp : ℕ
-rows-os2hlp = 612
+rows-os2hlp = 616
 
 abbrev pub rows-os2inf : ℕ
-rows-os2inf = 613
+rows-os2inf = 617
 
 abbrev pub rows-os2msg : ℕ
-rows-os2msg = 614
+rows-os2msg = 618
 
 abbrev pub rows-osm : ℕ
-rows-osm = 615
+rows-osm = 619
 
 abbrev pub rows-otf : ℕ
-rows-otf = 616
+rows-otf = 620
 
 abbrev pub rows-otg : ℕ
-rows-otg = 617
+rows-otg = 621
 
 abbrev pub rows-otp : ℕ
-rows-otp = 618
+rows-otp = 622
 
 abbrev pub rows-ots : ℕ
-rows-ots = 619
+rows-ots = 623
 
 abbrev pub rows-ott : ℕ
-rows-ott = 620
+rows-ott = 624
 
 abbrev pub rows-owx : ℕ
-rows-owx = 621
+rows-owx = 625
 
 abbrev pub rows-p12 : ℕ
-rows-p12 = 622
+rows-p12 = 626
 
 abbrev pub rows-p7b-p7c : ℕ
-rows-p7b-p7c = 623
+rows-p7b-p7c = 627
 
 abbrev pub rows-p8 : ℕ
-rows-p8 = 624
+rows-p8 = 628
 
 abbrev pub rows-pack : ℕ
-rows-pack = 625
+rows-pack = 629
 
 abbrev pub rows-pack200 : ℕ
-rows-pack200 = 626
+rows-pack200 = 630
 
 abbrev pub rows-paf : ℕ
-rows-paf = 627
+rows-paf = 631
 
 abbrev pub rows-pak : ℕ
-rows-pak = 628
+rows-pak = 632
 
 abbrev pub rows-pam : ℕ
-rows-pam = 629
+rows-pam = 633
 
 abbrev pub rows-par : ℕ
-rows-par = 630
+rows-par = 634
 
 abbrev pub rows-par2 : ℕ
-rows-par2 = 631
+rows-par2 = 635
 
 abbrev pub rows-parquet : ℕ
-rows-parquet = 632
+rows-parquet = 636
 
 abbrev pub rows-pat : ℕ
-rows-pat = 633
+rows-pat = 637
 
 abbrev pub rows-pc : ℕ
-rows-pc = 634
+rows-pc = 638
 
 abbrev pub rows-pcap : ℕ
-rows-pcap = 635
+rows-pcap = 639
 
 abbrev pub rows-pcapng : ℕ
-rows-pcapng = 636
+rows-pcapng = 640
 
 abbrev pub rows-pcd : ℕ
-rows-pcd = 637
+rows-pcd = 641
 
 abbrev pub rows-pcdimg : ℕ
-rows-pcdimg = 638
+rows-pcdimg = 642
 
 abbrev pub rows-pcf : ℕ
-rows-pcf = 639
+rows-pcf = 643
 
 abbrev pub rows-pch : ℕ
-rows-pch = 640
+rows-pch = 644
 
 abbrev pub rows-pcl : ℕ
-rows-pcl = 641
+rows-pcl = 645
 
 abbrev pub rows-pcx : ℕ
-rows-pcx = 642
+rows-pcx = 646
 
 abbrev pub rows-pdb : ℕ
-rows-pdb = 643
+rows-pdb = 647
 
 abbrev pub rows-pdbmol : ℕ
-rows-pdbmol = 644
+rows-pdbmol = 648
 
 abbrev pub rows-pdf : ℕ
-rows-pdf = 645
+rows-pdf = 649
 
 abbrev pub rows-pdn : ℕ
-rows-pdn = 646
+rows-pdn = 650
 
 abbrev pub rows-pef : ℕ
-rows-pef = 647
+rows-pef = 651
 
 abbrev pub rows-pem : ℕ
-rows-pem = 648
+rows-pem = 652
 
 abbrev pub rows-pf2 : ℕ
-rows-pf2 = 649
+rows-pf2 = 653
 
 abbrev pub rows-pfa-pfb : ℕ
-rows-pfa-pfb = 650
+rows-pfa-pfb = 654
 
 abbrev pub rows-pfb : ℕ
-rows-pfb = 651
+rows-pfb = 655
 
 abbrev pub rows-pfmap : ℕ
-rows-pfmap = 652
+rows-pfmap = 656
 
 abbrev pub rows-pgdump : ℕ
-rows-pgdump = 653
+rows-pgdump = 657
 
 abbrev pub rows-pgf : ℕ
-rows-pgf = 654
+rows-pgf = 658
 
 abbrev pub rows-pgn : ℕ
-rows-pgn = 655
+rows-pgn = 659
 
 abbrev pub rows-pgp : ℕ
-rows-pgp = 656
+rows-pgp = 660
 
 abbrev pub rows-pgp-pgpmsg : ℕ
-rows-pgp-pgpmsg = 657
+rows-pgp-pgpmsg = 661
 
 abbrev pub rows-pgpsig-sig : ℕ
-rows-pgpsig-sig = 658
+rows-pgpsig-sig = 662
 
 abbrev pub rows-php : ℕ
-rows-php = 659
+rows-php = 663
 
 abbrev pub rows-php-svg-txt-xhtml-xml : ℕ
-rows-php-svg-txt-xhtml-xml = 660
+rows-php-svg-txt-xhtml-xml = 664
 
 abbrev pub rows-pic : ℕ
-rows-pic = 661
+rows-pic = 665
 
 abbrev pub rows-pict : ℕ
-rows-pict = 662
+rows-pict = 666
 
 abbrev pub rows-pjl : ℕ
-rows-pjl = 663
+rows-pjl = 667
 
 abbrev pub rows-pkgstream : ℕ
-rows-pkgstream = 664
+rows-pkgstream = 668
 
 abbrev pub rows-pkl : ℕ
-rows-pkl = 665
+rows-pkl = 669
 
 abbrev pub rows-pkpass : ℕ
-rows-pkpass = 666
+rows-pkpass = 670
 
 abbrev pub rows-pl : ℕ
-rows-pl = 667
+rows-pl = 671
 
 abbrev pub rows-pla : ℕ
-rows-pla = 668
+rows-pla = 672
 
 abbrev pub rows-plist : ℕ
-rows-plist = 669
+rows-plist = 673
 
 abbrev pub rows-plist-txt-xml : ℕ
-rows-plist-txt-xml = 670
+rows-plist-txt-xml = 674
 
 abbrev pub rows-pls : ℕ
-rows-pls = 671
+rows-pls = 675
 
 abbrev pub rows-ply : ℕ
-rows-ply = 672
+rows-ply = 676
 
 abbrev pub rows-png : ℕ
-rows-png = 673
+rows-png = 677
 
 abbrev pub rows-pnm : ℕ
-rows-pnm = 674
+rows-pnm = 678
 
 abbrev pub rows-po : ℕ
-rows-po = 675
+rows-po = 679
 
 abbrev pub rows-pom : ℕ
-rows-pom = 676
+rows-pom = 680
 
 abbrev pub rows-por : ℕ
-rows-por = 677
+rows-por = 681
 
 abbrev pub rows-ppd : ℕ
-rows-ppd = 678
+rows-ppd = 682
 
 abbrev pub rows-ppf : ℕ
-rows-ppf = 679
+rows-ppf = 683
 
 abbrev pub rows-ppk : ℕ
-rows-ppk = 680
+rows-ppk = 684
 
 abbrev pub rows-ppt : ℕ
-rows-ppt = 681
+rows-ppt = 685
 
 abbrev pub rows-pptm : ℕ
-rows-pptm = 682
+rows-pptm = 686
 
 abbrev pub rows-pptx : ℕ
-rows-pptx = 683
+rows-pptx = 687
 
 abbrev pub rows-ppu : ℕ
-rows-ppu = 684
+rows-ppu = 688
 
 abbrev pub rows-profdata : ℕ
-rows-profdata = 685
+rows-profdata = 689
 
 abbrev pub rows-profraw : ℕ
-rows-profraw = 686
+rows-profraw = 690
 
 abbrev pub rows-ps : ℕ
-rows-ps = 687
+rows-ps = 691
 
 abbrev pub rows-ps-sh-txt : ℕ
-rows-ps-sh-txt = 688
+rows-ps-sh-txt = 692
 
 abbrev pub rows-ps-txt : ℕ
-rows-ps-txt = 689
+rows-ps-txt = 693
 
 abbrev pub rows-ps1 : ℕ
-rows-ps1 = 690
+rows-ps1 = 694
 
 abbrev pub rows-psd : ℕ
-rows-psd = 691
+rows-psd = 695
 
 abbrev pub rows-psf : ℕ
-rows-psf = 692
+rows-psf = 696
 
 abbrev pub rows-psf1-psf2 : ℕ
-rows-psf1-psf2 = 693
+rows-psf1-psf2 = 697
 
 abbrev pub rows-psp : ℕ
-rows-psp = 694
+rows-psp = 698
 
 abbrev pub rows-pst : ℕ
-rows-pst = 695
+rows-pst = 699
 
 abbrev pub rows-psw : ℕ
-rows-psw = 696
+rows-psw = 700
 
 abbrev pub rows-psx : ℕ
-rows-psx = 697
+rows-psx = 701
 
 abbrev pub rows-ptm : ℕ
-rows-ptm = 698
+rows-ptm = 702
 
 abbrev pub rows-pub : ℕ
-rows-pub = 699
+rows-pub = 703
 
 abbrev pub rows-puml : ℕ
-rows-puml = 700
+rows-puml = 704
 
 abbrev pub rows-pvf : ℕ
-rows-pvf = 701
+rows-pvf = 705
 
 abbrev pub rows-pvr : ℕ
-rows-pvr = 702
+rows-pvr = 706
 
 abbrev pub rows-pwg : ℕ
-rows-pwg = 703
+rows-pwg = 707
 
 abbrev pub rows-py : ℕ
-rows-py = 704
+rows-py = 708
 
 abbrev pub rows-py-sh-zip : ℕ
-rows-py-sh-zip = 705
+rows-py-sh-zip = 709
 
 abbrev pub rows-pyc : ℕ
-rows-pyc = 706
+rows-pyc = 710
 
 abbrev pub rows-pysu : ℕ
-rows-pysu = 707
+rows-pysu = 711
 
 abbrev pub rows-qcow2 : ℕ
-rows-qcow2 = 708
+rows-qcow2 = 712
 
 abbrev pub rows-qed : ℕ
-rows-qed = 709
+rows-qed = 713
 
 abbrev pub rows-qgz : ℕ
-rows-qgz = 710
+rows-qgz = 714
 
 abbrev pub rows-qml : ℕ
-rows-qml = 711
+rows-qml = 715
 
 abbrev pub rows-qoi : ℕ
-rows-qoi = 712
+rows-qoi = 716
 
 abbrev pub rows-qp : ℕ
-rows-qp = 713
+rows-qp = 717
 
 abbrev pub rows-qrc : ℕ
-rows-qrc = 714
+rows-qrc = 718
 
 abbrev pub rows-qti : ℕ
-rows-qti = 715
+rows-qti = 719
 
 abbrev pub rows-qtif : ℕ
-rows-qtif = 716
+rows-qtif = 720
 
 abbrev pub rows-qtl : ℕ
-rows-qtl = 717
+rows-qtl = 721
 
 abbrev pub rows-r : ℕ
-rows-r = 718
+rows-r = 722
 
 abbrev pub rows-r3d : ℕ
-rows-r3d = 719
+rows-r3d = 723
 
 abbrev pub rows-ra : ℕ
-rows-ra = 720
+rows-ra = 724
 
 abbrev pub rows-raf : ℕ
-rows-raf = 721
+rows-raf = 725
 
 abbrev pub rows-raku : ℕ
-rows-raku = 722
+rows-raku = 726
 
 abbrev pub rows-raml : ℕ
-rows-raml = 723
+rows-raml = 727
 
 abbrev pub rows-rar : ℕ
-rows-rar = 724
+rows-rar = 728
 
 abbrev pub rows-ras : ℕ
-rows-ras = 725
+rows-ras = 729
 
 abbrev pub rows-rb : ℕ
-rows-rb = 726
+rows-rb = 730
 
 abbrev pub rows-rdata : ℕ
-rows-rdata = 727
+rows-rdata = 731
 
 abbrev pub rows-rdb : ℕ
-rows-rdb = 728
+rows-rdb = 732
 
 abbrev pub rows-rdf : ℕ
-rows-rdf = 729
+rows-rdf = 733
 
 abbrev pub rows-reg : ℕ
-rows-reg = 730
+rows-reg = 734
 
 abbrev pub rows-regf : ℕ
-rows-regf = 731
+rows-regf = 735
 
 abbrev pub rows-res : ℕ
-rows-res = 732
+rows-res = 736
 
 abbrev pub rows-rf64 : ℕ
-rows-rf64 = 733
+rows-rf64 = 737
 
 abbrev pub rows-rifx-wav : ℕ
-rows-rifx-wav = 734
+rows-rifx-wav = 738
 
 abbrev pub rows-rkt : ℕ
-rows-rkt = 735
+rows-rkt = 739
 
 abbrev pub rows-rm : ℕ
-rows-rm = 736
+rows-rm = 740
 
 abbrev pub rows-rmeta : ℕ
-rows-rmeta = 737
+rows-rmeta = 741
 
 abbrev pub rows-rmi : ℕ
-rows-rmi = 738
+rows-rmi = 742
 
 abbrev pub rows-rng : ℕ
-rows-rng = 739
+rows-rng = 743
 
 abbrev pub rows-roff : ℕ
-rows-roff = 740
+rows-roff = 744
 
 abbrev pub rows-romfs : ℕ
-rows-romfs = 741
+rows-romfs = 745
 
 abbrev pub rows-root : ℕ
-rows-root = 742
+rows-root = 746
 
 abbrev pub rows-roq : ℕ
-rows-roq = 743
+rows-roq = 747
 
 abbrev pub rows-rpm : ℕ
-rows-rpm = 744
+rows-rpm = 748
 
 abbrev pub rows-rq : ℕ
-rows-rq = 745
+rows-rq = 749
 
 abbrev pub rows-rrd : ℕ
-rows-rrd = 746
+rows-rrd = 750
 
 abbrev pub rows-rss : ℕ
-rows-rss = 747
+rows-rss = 751
 
 abbrev pub rows-rtf : ℕ
-rows-rtf = 748
+rows-rtf = 752
 
 abbrev pub rows-rvz : ℕ
-rows-rvz = 749
+rows-rvz = 753
 
 abbrev pub rows-rw2 : ℕ
-rows-rw2 = 750
+rows-rw2 = 754
 
 abbrev pub rows-rz : ℕ
-rows-rz = 751
+rows-rz = 755
 
 abbrev pub rows-s3m : ℕ
-rows-s3m = 752
+rows-s3m = 756
 
 abbrev pub rows-safetensors : ℕ
-rows-safetensors = 753
+rows-safetensors = 757
 
 abbrev pub rows-sam : ℕ
-rows-sam = 754
+rows-sam = 758
 
 abbrev pub rows-sami : ℕ
-rows-sami = 755
+rows-sami = 759
 
 abbrev pub rows-sap : ℕ
-rows-sap = 756
+rows-sap = 760
 
 abbrev pub rows-sar : ℕ
-rows-sar = 757
+rows-sar = 761
 
 abbrev pub rows-sav : ℕ
-rows-sav = 758
+rows-sav = 762
 
 abbrev pub rows-sbml : ℕ
-rows-sbml = 759
+rows-sbml = 763
 
 abbrev pub rows-scala : ℕ
-rows-scala = 760
+rows-scala = 764
 
 abbrev pub rows-scc : ℕ
-rows-scc = 761
+rows-scc = 765
 
 abbrev pub rows-scf : ℕ
-rows-scf = 762
+rows-scf = 766
 
 abbrev pub rows-sch : ℕ
-rows-sch = 763
+rows-sch = 767
 
 abbrev pub rows-scm : ℕ
-rows-scm = 764
+rows-scm = 768
 
 abbrev pub rows-scsyn : ℕ
-rows-scsyn = 765
+rows-scsyn = 769
 
 abbrev pub rows-sdb : ℕ
-rows-sdb = 766
+rows-sdb = 770
 
 abbrev pub rows-sdi : ℕ
-rows-sdi = 767
+rows-sdi = 771
 
 abbrev pub rows-sdp : ℕ
-rows-sdp = 768
+rows-sdp = 772
 
 abbrev pub rows-sds : ℕ
-rows-sds = 769
+rows-sds = 773
 
 abbrev pub rows-sdw : ℕ
-rows-sdw = 770
+rows-sdw = 774
 
 abbrev pub rows-sed : ℕ
-rows-sed = 771
+rows-sed = 775
 
 abbrev pub rows-sereal : ℕ
-rows-sereal = 772
+rows-sereal = 776
 
 abbrev pub rows-sf2 : ℕ
-rows-sf2 = 773
+rows-sf2 = 777
 
 abbrev pub rows-sfd : ℕ
-rows-sfd = 774
+rows-sfd = 778
 
 abbrev pub rows-sgf : ℕ
-rows-sgf = 775
+rows-sgf = 779
 
 abbrev pub rows-sgi : ℕ
-rows-sgi = 776
+rows-sgi = 780
 
 abbrev pub rows-sh : ℕ
-rows-sh = 777
+rows-sh = 781
 
 abbrev pub rows-sh-txt : ℕ
-rows-sh-txt = 778
+rows-sh-txt = 782
 
 abbrev pub rows-shar : ℕ
-rows-shar = 779
+rows-shar = 783
 
 abbrev pub rows-shn : ℕ
-rows-shn = 780
+rows-shn = 784
 
 abbrev pub rows-shp : ℕ
-rows-shp = 781
+rows-shp = 785
 
 abbrev pub rows-shw : ℕ
-rows-shw = 782
+rows-shw = 786
 
 abbrev pub rows-shx : ℕ
-rows-shx = 783
+rows-shx = 787
 
 abbrev pub rows-sid : ℕ
-rows-sid = 784
+rows-sid = 788
 
 abbrev pub rows-sig : ℕ
-rows-sig = 785
+rows-sig = 789
 
 abbrev pub rows-simg : ℕ
-rows-simg = 786
+rows-simg = 790
 
 abbrev pub rows-sis : ℕ
-rows-sis = 787
+rows-sis = 791
 
 abbrev pub rows-sisx : ℕ
-rows-sisx = 788
+rows-sisx = 792
 
 abbrev pub rows-sit : ℕ
-rows-sit = 789
+rows-sit = 793
 
 abbrev pub rows-sk : ℕ
-rows-sk = 790
+rows-sk = 794
 
 abbrev pub rows-sla : ℕ
-rows-sla = 791
+rows-sla = 795
 
 abbrev pub rows-slk : ℕ
-rows-slk = 792
+rows-slk = 796
 
 abbrev pub rows-smil : ℕ
-rows-smil = 793
+rows-smil = 797
 
 abbrev pub rows-smk : ℕ
-rows-smk = 794
+rows-smk = 798
 
 abbrev pub rows-smp : ℕ
-rows-smp = 795
+rows-smp = 799
+
+abbrev pub rows-sms : ℕ
+rows-sms = 800
 
 abbrev pub rows-snoop : ℕ
-rows-snoop = 796
+rows-snoop = 801
 
 abbrev pub rows-so : ℕ
-rows-so = 797
+rows-so = 802
 
 abbrev pub rows-spc : ℕ
-rows-spc = 798
+rows-spc = 803
 
 abbrev pub rows-spd : ℕ
-rows-spd = 799
+rows-spd = 804
 
 abbrev pub rows-spec : ℕ
-rows-spec = 800
+rows-spec = 805
 
 abbrev pub rows-sph : ℕ
-rows-sph = 801
+rows-sph = 806
 
 abbrev pub rows-spv : ℕ
-rows-spv = 802
+rows-spv = 807
 
 abbrev pub rows-spx : ℕ
-rows-spx = 803
+rows-spx = 808
 
 abbrev pub rows-sqlite : ℕ
-rows-sqlite = 804
+rows-sqlite = 809
 
 abbrev pub rows-sqlite2 : ℕ
-rows-sqlite2 = 805
+rows-sqlite2 = 810
 
 abbrev pub rows-squashfs : ℕ
-rows-squashfs = 806
+rows-squashfs = 811
 
 abbrev pub rows-srpm : ℕ
-rows-srpm = 807
+rows-srpm = 812
 
 abbrev pub rows-srt : ℕ
-rows-srt = 808
+rows-srt = 813
 
 abbrev pub rows-srx : ℕ
-rows-srx = 809
+rows-srx = 814
 
 abbrev pub rows-ssa : ℕ
-rows-ssa = 810
+rows-ssa = 815
 
 abbrev pub rows-ssh1 : ℕ
-rows-ssh1 = 811
+rows-ssh1 = 816
 
 abbrev pub rows-ssh2pub-sshpub : ℕ
-rows-ssh2pub-sshpub = 812
+rows-ssh2pub-sshpub = 817
 
 abbrev pub rows-stex : ℕ
-rows-stex = 813
+rows-stex = 818
 
 abbrev pub rows-stl : ℕ
-rows-stl = 814
+rows-stl = 819
 
 abbrev pub rows-stm : ℕ
-rows-stm = 815
+rows-stm = 820
 
 abbrev pub rows-subviewer : ℕ
-rows-subviewer = 816
+rows-subviewer = 821
 
 abbrev pub rows-svg : ℕ
-rows-svg = 817
+rows-svg = 822
 
 abbrev pub rows-svm : ℕ
-rows-svm = 818
+rows-svm = 823
 
 abbrev pub rows-svndump : ℕ
-rows-svndump = 819
+rows-svndump = 824
 
 abbrev pub rows-swap : ℕ
-rows-swap = 820
+rows-swap = 825
 
 abbrev pub rows-swf : ℕ
-rows-swf = 821
+rows-swf = 826
 
 abbrev pub rows-swf-swfz : ℕ
-rows-swf-swfz = 822
+rows-swf-swfz = 827
 
 abbrev pub rows-sxc : ℕ
-rows-sxc = 823
+rows-sxc = 828
 
 abbrev pub rows-sxd : ℕ
-rows-sxd = 824
+rows-sxd = 829
 
 abbrev pub rows-sxi : ℕ
-rows-sxi = 825
+rows-sxi = 830
 
 abbrev pub rows-sxm : ℕ
-rows-sxm = 826
+rows-sxm = 831
 
 abbrev pub rows-sxw : ℕ
-rows-sxw = 827
+rows-sxw = 832
 
 abbrev pub rows-syzygy : ℕ
-rows-syzygy = 828
+rows-syzygy = 833
 
 abbrev pub rows-sz : ℕ
-rows-sz = 829
+rows-sz = 834
 
 abbrev pub rows-szdd : ℕ
-rows-szdd = 830
+rows-szdd = 835
 
 abbrev pub rows-szx : ℕ
-rows-szx = 831
+rows-szx = 836
 
 abbrev pub rows-t2t : ℕ
-rows-t2t = 832
+rows-t2t = 837
 
 abbrev pub rows-t602 : ℕ
-rows-t602 = 833
+rows-t602 = 838
 
 abbrev pub rows-tar : ℕ
-rows-tar = 834
+rows-tar = 839
 
 abbrev pub rows-tbi : ℕ
-rows-tbi = 835
+rows-tbi = 840
 
 abbrev pub rows-tcb : ℕ
-rows-tcb = 836
+rows-tcb = 841
 
 abbrev pub rows-tcf : ℕ
-rows-tcf = 837
+rows-tcf = 842
 
 abbrev pub rows-tch : ℕ
-rows-tch = 838
+rows-tch = 843
 
 abbrev pub rows-tcl : ℕ
-rows-tcl = 839
+rows-tcl = 844
 
 abbrev pub rows-tct : ℕ
-rows-tct = 840
+rows-tct = 845
 
 abbrev pub rows-tdb : ℕ
-rows-tdb = 841
+rows-tdb = 846
 
 abbrev pub rows-tei : ℕ
-rows-tei = 842
+rows-tei = 847
 
 abbrev pub rows-terminfo : ℕ
-rows-terminfo = 843
+rows-terminfo = 848
 
 abbrev pub rows-tex : ℕ
-rows-tex = 844
+rows-tex = 849
 
 abbrev pub rows-texi : ℕ
-rows-texi = 845
+rows-texi = 850
 
 abbrev pub rows-texlua : ℕ
-rows-texlua = 846
+rows-texlua = 851
 
 abbrev pub rows-tga : ℕ
-rows-tga = 847
+rows-tga = 852
 
 abbrev pub rows-tgif : ℕ
-rows-tgif = 848
+rows-tgif = 853
 
 abbrev pub rows-thomsap : ℕ
-rows-thomsap = 849
+rows-thomsap = 854
 
 abbrev pub rows-tib : ℕ
-rows-tib = 850
+rows-tib = 855
 
 abbrev pub rows-tif : ℕ
-rows-tif = 851
+rows-tif = 856
 
 abbrev pub rows-tnef : ℕ
-rows-tnef = 852
+rows-tnef = 857
 
 abbrev pub rows-toc : ℕ
-rows-toc = 853
+rows-toc = 858
 
 abbrev pub rows-torrent : ℕ
-rows-torrent = 854
+rows-torrent = 859
 
 abbrev pub rows-trd : ℕ
-rows-trd = 855
+rows-trd = 860
 
 abbrev pub rows-tres : ℕ
-rows-tres = 856
+rows-tres = 861
 
 abbrev pub rows-trustdb : ℕ
-rows-trustdb = 857
+rows-trustdb = 862
 
 abbrev pub rows-ts : ℕ
-rows-ts = 858
+rows-ts = 863
 
 abbrev pub rows-tscn : ℕ
-rows-tscn = 859
+rows-tscn = 864
 
 abbrev pub rows-tta : ℕ
-rows-tta = 860
+rows-tta = 865
 
 abbrev pub rows-ttc : ℕ
-rows-ttc = 861
+rows-ttc = 866
 
 abbrev pub rows-ttf : ℕ
-rows-ttf = 862
+rows-ttf = 867
 
 abbrev pub rows-ttl : ℕ
-rows-ttl = 863
+rows-ttl = 868
 
 abbrev pub rows-ttml : ℕ
-rows-ttml = 864
+rows-ttml = 869
 
 abbrev pub rows-ttx : ℕ
-rows-ttx = 865
+rows-ttx = 870
 
 abbrev pub rows-txt : ℕ
-rows-txt = 866
+rows-txt = 871
 
 abbrev pub rows-txt-xml : ℕ
-rows-txt-xml = 867
+rows-txt-xml = 872
 
 abbrev pub rows-txt-yaml : ℕ
-rows-txt-yaml = 868
+rows-txt-yaml = 873
 
 abbrev pub rows-txw : ℕ
-rows-txw = 869
+rows-txw = 874
 
 abbrev pub rows-typelib : ℕ
-rows-typelib = 870
+rows-typelib = 875
 
 abbrev pub rows-tzif : ℕ
-rows-tzif = 871
+rows-tzif = 876
 
 abbrev pub rows-tzx : ℕ
-rows-tzx = 872
+rows-tzx = 877
 
 abbrev pub rows-ubi : ℕ
-rows-ubi = 873
+rows-ubi = 878
 
 abbrev pub rows-ubifs : ℕ
-rows-ubifs = 874
+rows-ubifs = 879
+
+abbrev pub rows-udf : ℕ
+rows-udf = 880
 
 abbrev pub rows-uf2 : ℕ
-rows-uf2 = 875
+rows-uf2 = 881
 
 abbrev pub rows-ui : ℕ
-rows-ui = 876
+rows-ui = 882
 
 abbrev pub rows-uimage : ℕ
-rows-uimage = 877
+rows-uimage = 883
 
 abbrev pub rows-ult : ℕ
-rows-ult = 878
+rows-ult = 884
 
 abbrev pub rows-ulx : ℕ
-rows-ulx = 879
+rows-ulx = 885
 
 abbrev pub rows-umx : ℕ
-rows-umx = 880
+rows-umx = 886
 
 abbrev pub rows-unit : ℕ
-rows-unit = 881
+rows-unit = 887
 
 abbrev pub rows-ups : ℕ
-rows-ups = 882
+rows-ups = 888
 
 abbrev pub rows-url : ℕ
-rows-url = 883
+rows-url = 889
 
 abbrev pub rows-usda : ℕ
-rows-usda = 884
+rows-usda = 890
 
 abbrev pub rows-usdc : ℕ
-rows-usdc = 885
+rows-usdc = 891
 
 abbrev pub rows-uu : ℕ
-rows-uu = 886
+rows-uu = 892
 
 abbrev pub rows-vcdiff : ℕ
-rows-vcdiff = 887
+rows-vcdiff = 893
 
 abbrev pub rows-vcf : ℕ
-rows-vcf = 888
+rows-vcf = 894
 
 abbrev pub rows-vcfg : ℕ
-rows-vcfg = 889
+rows-vcfg = 895
 
 abbrev pub rows-vdex : ℕ
-rows-vdex = 890
+rows-vdex = 896
 
 abbrev pub rows-vdi : ℕ
-rows-vdi = 891
+rows-vdi = 897
 
 abbrev pub rows-vdr : ℕ
-rows-vdr = 892
+rows-vdr = 898
 
 abbrev pub rows-vgm : ℕ
-rows-vgm = 893
+rows-vgm = 899
 
 abbrev pub rows-vhd : ℕ
-rows-vhd = 894
+rows-vhd = 900
 
 abbrev pub rows-vhdx : ℕ
-rows-vhdx = 895
+rows-vhdx = 901
 
 abbrev pub rows-vips : ℕ
-rows-vips = 896
+rows-vips = 902
 
 abbrev pub rows-vmdk-vmdkcow : ℕ
-rows-vmdk-vmdkcow = 897
+rows-vmdk-vmdkcow = 903
 
 abbrev pub rows-vnt : ℕ
-rows-vnt = 898
+rows-vnt = 904
 
 abbrev pub rows-voc : ℕ
-rows-voc = 899
+rows-voc = 905
 
 abbrev pub rows-vpk : ℕ
-rows-vpk = 900
+rows-vpk = 906
 
 abbrev pub rows-vpnpcf : ℕ
-rows-vpnpcf = 901
+rows-vpnpcf = 907
 
 abbrev pub rows-vsd : ℕ
-rows-vsd = 902
+rows-vsd = 908
 
 abbrev pub rows-vsdx : ℕ
-rows-vsdx = 903
+rows-vsdx = 909
 
 abbrev pub rows-vsdx-zip : ℕ
-rows-vsdx-zip = 904
+rows-vsdx-zip = 910
 
 abbrev pub rows-vtf : ℕ
-rows-vtf = 905
+rows-vtf = 911
 
 abbrev pub rows-vtt : ℕ
-rows-vtt = 906
+rows-vtt = 912
 
 abbrev pub rows-w64 : ℕ
-rows-w64 = 907
+rows-w64 = 913
 
 abbrev pub rows-wad : ℕ
-rows-wad = 908
+rows-wad = 914
 
 abbrev pub rows-warc : ℕ
-rows-warc = 909
+rows-warc = 915
 
 abbrev pub rows-wasm-wasmc : ℕ
-rows-wasm-wasmc = 910
+rows-wasm-wasmc = 916
 
 abbrev pub rows-wav : ℕ
-rows-wav = 911
+rows-wav = 917
 
 abbrev pub rows-wbfs : ℕ
-rows-wbfs = 912
+rows-wbfs = 918
 
 abbrev pub rows-webm : ℕ
-rows-webm = 913
+rows-webm = 919
 
 abbrev pub rows-webp : ℕ
-rows-webp = 914
+rows-webp = 920
 
 abbrev pub rows-wiiwad : ℕ
-rows-wiiwad = 915
+rows-wiiwad = 921
 
 abbrev pub rows-wim : ℕ
-rows-wim = 916
+rows-wim = 922
 
 abbrev pub rows-wk1 : ℕ
-rows-wk1 = 917
+rows-wk1 = 923
 
 abbrev pub rows-wmf : ℕ
-rows-wmf = 918
+rows-wmf = 924
 
 abbrev pub rows-wmv : ℕ
-rows-wmv = 919
+rows-wmv = 925
 
 abbrev pub rows-woff : ℕ
-rows-woff = 920
+rows-woff = 926
 
 abbrev pub rows-woff2 : ℕ
-rows-woff2 = 921
+rows-woff2 = 927
 
 abbrev pub rows-wpd : ℕ
-rows-wpd = 922
+rows-wpd = 928
 
 abbrev pub rows-wpg : ℕ
-rows-wpg = 923
+rows-wpg = 929
 
 abbrev pub rows-wpl : ℕ
-rows-wpl = 924
+rows-wpl = 930
 
 abbrev pub rows-wpm : ℕ
-rows-wpm = 925
+rows-wpm = 931
 
 abbrev pub rows-wps : ℕ
-rows-wps = 926
+rows-wps = 932
 
 abbrev pub rows-wreg : ℕ
-rows-wreg = 927
+rows-wreg = 933
 
 abbrev pub rows-wri : ℕ
-rows-wri = 928
+rows-wri = 934
 
 abbrev pub rows-wrl : ℕ
-rows-wrl = 929
+rows-wrl = 935
 
 abbrev pub rows-wsdl : ℕ
-rows-wsdl = 930
+rows-wsdl = 936
 
 abbrev pub rows-wtv : ℕ
-rows-wtv = 931
+rows-wtv = 937
 
 abbrev pub rows-wv : ℕ
-rows-wv = 932
+rows-wv = 938
 
 abbrev pub rows-wve : ℕ
-rows-wve = 933
+rows-wve = 939
 
 abbrev pub rows-x3d : ℕ
-rows-x3d = 934
+rows-x3d = 940
 
 abbrev pub rows-x3dv : ℕ
-rows-x3dv = 935
+rows-x3dv = 941
 
 abbrev pub rows-x3f : ℕ
-rows-x3f = 936
+rows-x3f = 942
 
 abbrev pub rows-xap : ℕ
-rows-xap = 937
+rows-xap = 943
 
 abbrev pub rows-xar : ℕ
-rows-xar = 938
+rows-xar = 944
 
 abbrev pub rows-xbe : ℕ
-rows-xbe = 939
+rows-xbe = 945
 
 abbrev pub rows-xbel : ℕ
-rows-xbel = 940
+rows-xbel = 946
 
 abbrev pub rows-xbm : ℕ
-rows-xbm = 941
+rows-xbm = 947
 
 abbrev pub rows-xbt : ℕ
-rows-xbt = 942
+rows-xbt = 948
 
 abbrev pub rows-xcf : ℕ
-rows-xcf = 943
+rows-xcf = 949
 
 abbrev pub rows-xex : ℕ
-rows-xex = 944
+rows-xex = 950
 
 abbrev pub rows-xhtml : ℕ
-rows-xhtml = 945
+rows-xhtml = 951
 
 abbrev pub rows-xi : ℕ
-rows-xi = 946
+rows-xi = 952
 
 abbrev pub rows-xib : ℕ
-rows-xib = 947
+rows-xib = 953
 
 abbrev pub rows-xisf : ℕ
-rows-xisf = 948
+rows-xisf = 954
 
 abbrev pub rows-xliff : ℕ
-rows-xliff = 949
+rows-xliff = 955
 
 abbrev pub rows-xls : ℕ
-rows-xls = 950
+rows-xls = 956
 
 abbrev pub rows-xlsb : ℕ
-rows-xlsb = 951
+rows-xlsb = 957
 
 abbrev pub rows-xlsm : ℕ
-rows-xlsm = 952
+rows-xlsm = 958
 
 abbrev pub rows-xlsx : ℕ
-rows-xlsx = 953
+rows-xlsx = 959
 
 abbrev pub rows-xm : ℕ
-rows-xm = 954
+rows-xm = 960
 
 abbrev pub rows-xmcd : ℕ
-rows-xmcd = 955
+rows-xmcd = 961
 
 abbrev pub rows-xmf : ℕ
-rows-xmf = 956
+rows-xmf = 962
 
 abbrev pub rows-xmi : ℕ
-rows-xmi = 957
+rows-xmi = 963
 
 abbrev pub rows-xml : ℕ
-rows-xml = 958
+rows-xml = 964
 
 abbrev pub rows-xmp : ℕ
-rows-xmp = 959
+rows-xmp = 965
 
 abbrev pub rows-xpm : ℕ
-rows-xpm = 960
+rows-xpm = 966
 
 abbrev pub rows-xpm-xpm2 : ℕ
-rows-xpm-xpm2 = 961
+rows-xpm-xpm2 = 967
 
 abbrev pub rows-xsd : ℕ
-rows-xsd = 962
+rows-xsd = 968
 
 abbrev pub rows-xslt : ℕ
-rows-xslt = 963
+rows-xslt = 969
 
 abbrev pub rows-xspf : ℕ
-rows-xspf = 964
+rows-xspf = 970
 
 abbrev pub rows-xwd : ℕ
-rows-xwd = 965
+rows-xwd = 971
 
 abbrev pub rows-xz : ℕ
-rows-xz = 966
+rows-xz = 972
 
 abbrev pub rows-y4m : ℕ
-rows-y4m = 967
+rows-y4m = 973
 
 abbrev pub rows-yaml : ℕ
-rows-yaml = 968
+rows-yaml = 974
 
 abbrev pub rows-zck : ℕ
-rows-zck = 969
+rows-zck = 975
 
 abbrev pub rows-zim : ℕ
-rows-zim = 970
+rows-zim = 976
 
 abbrev pub rows-zimage : ℕ
-rows-zimage = 971
+rows-zimage = 977
 
 abbrev pub rows-zip : ℕ
-rows-zip = 972
+rows-zip = 978
 
 abbrev pub rows-zoo : ℕ
-rows-zoo = 973
+rows-zoo = 979
 
 abbrev pub rows-zpaq : ℕ
-rows-zpaq = 974
+rows-zpaq = 980
 
 abbrev pub rows-zst : ℕ
-rows-zst = 975
+rows-zst = 981
 
 abbrev pub rows-zst-zstold : ℕ
-rows-zst-zstold = 976
+rows-zst-zstold = 982
 
 unfoldable pub lead_lists : List (List (List ℕ))
 lead_lists =
@@ -3180,7 +3198,7 @@ sets_1 =
     ∷ (codes "dbm" ∷ [])
     ∷ (codes "dbpf" ∷ [])
     ∷ (codes "dbusservice" ∷ [])
-    ∷ (codes "dc" ∷ codes "gcm" ∷ codes "saturn" ∷ codes "segacd" ∷ [])
+    ∷ (codes "dc" ∷ codes "gcm" ∷ codes "saturn" ∷ codes "segacd" ∷ codes "udf" ∷ [])
     ∷ (codes "dcm" ∷ [])
     ∷ (codes "dcr" ∷ [])
     ∷ (codes "dcx" ∷ [])
@@ -3299,6 +3317,7 @@ sets_2 =
     ∷ (codes "gem" ∷ [])
     ∷ (codes "geojson" ∷ [])
     ∷ (codes "gff3" ∷ [])
+    ∷ (codes "gg" ∷ [])
     ∷ (codes "ggr" ∷ [])
     ∷ (codes "gguf" ∷ [])
     ∷ (codes "gif" ∷ [])
@@ -3382,18 +3401,19 @@ sets_2 =
     ∷ (codes "igs" ∷ [])
     ∷ (codes "iiq" ∷ [])
     ∷ (codes "ilbm" ∷ [])
-    ∷ (codes "imy" ∷ [])
     ∷ []
 
 unfoldable pub sets_3 : List (List (List ℕ))
 sets_3 =
-    (codes "indd" ∷ [])
+    (codes "imy" ∷ [])
+    ∷ (codes "indd" ∷ [])
     ∷ (codes "inf" ∷ [])
     ∷ (codes "info" ∷ [])
     ∷ (codes "innolog" ∷ [])
     ∷ (codes "ips" ∷ [])
     ∷ (codes "ipynb" ∷ [])
     ∷ (codes "ircam" ∷ [])
+    ∷ (codes "iso" ∷ [])
     ∷ (codes "it" ∷ [])
     ∷ (codes "it87" ∷ [])
     ∷ (codes "itc" ∷ [])
@@ -3407,6 +3427,7 @@ sets_3 =
     ∷ (codes "jceks" ∷ [])
     ∷ (codes "jffs2" ∷ [])
     ∷ (codes "jfr" ∷ [])
+    ∷ (codes "jfs" ∷ [])
     ∷ (codes "jimage" ∷ [])
     ∷ (codes "jks" ∷ [])
     ∷ (codes "jl" ∷ [])
@@ -3512,14 +3533,14 @@ sets_3 =
     ∷ (codes "mif" ∷ [])
     ∷ (codes "miff" ∷ [])
     ∷ (codes "minisig" ∷ [])
-    ∷ (codes "mj2" ∷ [])
-    ∷ (codes "mk" ∷ [])
-    ∷ (codes "mkv" ∷ [])
     ∷ []
 
 unfoldable pub sets_4 : List (List (List ℕ))
 sets_4 =
-    (codes "ml" ∷ [])
+    (codes "mj2" ∷ [])
+    ∷ (codes "mk" ∷ [])
+    ∷ (codes "mkv" ∷ [])
+    ∷ (codes "ml" ∷ [])
     ∷ (codes "mlp" ∷ [])
     ∷ (codes "mm" ∷ [])
     ∷ (codes "mmf" ∷ [])
@@ -3582,6 +3603,7 @@ sets_4 =
     ∷ (codes "niff" ∷ [])
     ∷ (codes "nii" ∷ [])
     ∷ (codes "npy" ∷ [])
+    ∷ (codes "nrw" ∷ [])
     ∷ (codes "nsc" ∷ [])
     ∷ (codes "nsf" ∷ [])
     ∷ (codes "nso" ∷ [])
@@ -3643,15 +3665,15 @@ sets_4 =
     ∷ (codes "pat" ∷ [])
     ∷ (codes "pc" ∷ [])
     ∷ (codes "pcap" ∷ [])
-    ∷ (codes "pcapng" ∷ [])
-    ∷ (codes "pcd" ∷ [])
-    ∷ (codes "pcdimg" ∷ [])
-    ∷ (codes "pcf" ∷ [])
     ∷ []
 
 unfoldable pub sets_5 : List (List (List ℕ))
 sets_5 =
-    (codes "pch" ∷ [])
+    (codes "pcapng" ∷ [])
+    ∷ (codes "pcd" ∷ [])
+    ∷ (codes "pcdimg" ∷ [])
+    ∷ (codes "pcf" ∷ [])
+    ∷ (codes "pch" ∷ [])
     ∷ (codes "pcl" ∷ [])
     ∷ (codes "pcx" ∷ [])
     ∷ (codes "pdb" ∷ [])
@@ -3775,15 +3797,15 @@ sets_5 =
     ∷ (codes "scc" ∷ [])
     ∷ (codes "scf" ∷ [])
     ∷ (codes "sch" ∷ [])
-    ∷ (codes "scm" ∷ [])
-    ∷ (codes "scsyn" ∷ [])
-    ∷ (codes "sdb" ∷ [])
-    ∷ (codes "sdi" ∷ [])
     ∷ []
 
 unfoldable pub sets_6 : List (List (List ℕ))
 sets_6 =
-    (codes "sdp" ∷ [])
+    (codes "scm" ∷ [])
+    ∷ (codes "scsyn" ∷ [])
+    ∷ (codes "sdb" ∷ [])
+    ∷ (codes "sdi" ∷ [])
+    ∷ (codes "sdp" ∷ [])
     ∷ (codes "sds" ∷ [])
     ∷ (codes "sdw" ∷ [])
     ∷ (codes "sed" ∷ [])
@@ -3811,6 +3833,7 @@ sets_6 =
     ∷ (codes "smil" ∷ [])
     ∷ (codes "smk" ∷ [])
     ∷ (codes "smp" ∷ [])
+    ∷ (codes "sms" ∷ [])
     ∷ (codes "snoop" ∷ [])
     ∷ (codes "so" ∷ [])
     ∷ (codes "spc" ∷ [])
@@ -3890,6 +3913,7 @@ sets_6 =
     ∷ (codes "tzx" ∷ [])
     ∷ (codes "ubi" ∷ [])
     ∷ (codes "ubifs" ∷ [])
+    ∷ (codes "udf" ∷ [])
     ∷ (codes "uf2" ∷ [])
     ∷ (codes "ui" ∷ [])
     ∷ (codes "uimage" ∷ [])
@@ -3905,17 +3929,17 @@ sets_6 =
     ∷ (codes "vcdiff" ∷ [])
     ∷ (codes "vcf" ∷ [])
     ∷ (codes "vcfg" ∷ [])
-    ∷ (codes "vdex" ∷ [])
+    ∷ []
+
+unfoldable pub sets_7 : List (List (List ℕ))
+sets_7 =
+    (codes "vdex" ∷ [])
     ∷ (codes "vdi" ∷ [])
     ∷ (codes "vdr" ∷ [])
     ∷ (codes "vgm" ∷ [])
     ∷ (codes "vhd" ∷ [])
     ∷ (codes "vhdx" ∷ [])
-    ∷ []
-
-unfoldable pub sets_7 : List (List (List ℕ))
-sets_7 =
-    (codes "vips" ∷ [])
+    ∷ (codes "vips" ∷ [])
     ∷ (codes "vmdk" ∷ codes "vmdkcow" ∷ [])
     ∷ (codes "vnt" ∷ [])
     ∷ (codes "voc" ∷ [])

@@ -1085,3167 +1085,3179 @@ is-application-x-gameboy-rom = 359
 abbrev pub is-application-x-gamecube-rom : ℕ
 is-application-x-gamecube-rom = 360
 
+abbrev pub is-application-x-gamegear-rom : ℕ
+is-application-x-gamegear-rom = 361
+
 abbrev pub is-application-x-gba-rom-as-known : ℕ
-is-application-x-gba-rom-as-known = 361
+is-application-x-gba-rom-as-known = 362
 
 abbrev pub is-application-x-gba-rom-as-row-gba : ℕ
-is-application-x-gba-rom-as-row-gba = 362
+is-application-x-gba-rom-as-row-gba = 363
 
 abbrev pub is-application-x-gcc-pch : ℕ
-is-application-x-gcc-pch = 363
+is-application-x-gcc-pch = 364
 
 abbrev pub is-application-x-gconv-cache : ℕ
-is-application-x-gconv-cache = 364
+is-application-x-gconv-cache = 365
 
 abbrev pub is-application-x-gcov-data : ℕ
-is-application-x-gcov-data = 365
+is-application-x-gcov-data = 366
 
 abbrev pub is-application-x-gcov-notes : ℕ
-is-application-x-gcov-notes = 366
+is-application-x-gcov-notes = 367
 
 abbrev pub is-application-x-gdbm : ℕ
-is-application-x-gdbm = 367
+is-application-x-gdbm = 368
 
 abbrev pub is-application-x-gdf : ℕ
-is-application-x-gdf = 368
+is-application-x-gdf = 369
 
 abbrev pub is-application-x-gds : ℕ
-is-application-x-gds = 369
+is-application-x-gds = 370
 
 abbrev pub is-application-x-gdscript : ℕ
-is-application-x-gdscript = 370
+is-application-x-gdscript = 371
 
 abbrev pub is-application-x-genesis-32x-rom : ℕ
-is-application-x-genesis-32x-rom = 371
+is-application-x-genesis-32x-rom = 372
 
 abbrev pub is-application-x-genesis-rom-as-known : ℕ
-is-application-x-genesis-rom-as-known = 372
+is-application-x-genesis-rom-as-known = 373
 
 abbrev pub is-application-x-genesis-rom-as-row-md : ℕ
-is-application-x-genesis-rom-as-row-md = 373
+is-application-x-genesis-rom-as-row-md = 374
 
 abbrev pub is-application-x-gettext-translation : ℕ
-is-application-x-gettext-translation = 374
+is-application-x-gettext-translation = 375
 
 abbrev pub is-application-x-gguf : ℕ
-is-application-x-gguf = 375
+is-application-x-gguf = 376
 
 abbrev pub is-application-x-ghc-interface : ℕ
-is-application-x-ghc-interface = 376
+is-application-x-ghc-interface = 377
 
 abbrev pub is-application-x-gir-xml : ℕ
-is-application-x-gir-xml = 377
+is-application-x-gir-xml = 378
 
 abbrev pub is-application-x-gir-typelib : ℕ
-is-application-x-gir-typelib = 378
+is-application-x-gir-typelib = 379
 
 abbrev pub is-application-x-git : ℕ
-is-application-x-git = 379
+is-application-x-git = 380
 
 abbrev pub is-application-x-git-bundle : ℕ
-is-application-x-git-bundle = 380
+is-application-x-git-bundle = 381
 
 abbrev pub is-application-x-git-index : ℕ
-is-application-x-git-index = 381
+is-application-x-git-index = 382
 
 abbrev pub is-application-x-git-pack-index : ℕ
-is-application-x-git-pack-index = 382
+is-application-x-git-pack-index = 383
 
 abbrev pub is-application-x-glade : ℕ
-is-application-x-glade = 383
+is-application-x-glade = 384
 
 abbrev pub is-application-x-glibc-locale-archive : ℕ
-is-application-x-glibc-locale-archive = 384
+is-application-x-glibc-locale-archive = 385
 
 abbrev pub is-application-x-glulx : ℕ
-is-application-x-glulx = 385
+is-application-x-glulx = 386
 
 abbrev pub is-application-x-gnucash : ℕ
-is-application-x-gnucash = 386
+is-application-x-gnucash = 387
 
 abbrev pub is-application-x-gnumeric : ℕ
-is-application-x-gnumeric = 387
+is-application-x-gnumeric = 388
 
 abbrev pub is-application-x-gnupg-keybox : ℕ
-is-application-x-gnupg-keybox = 388
+is-application-x-gnupg-keybox = 389
 
 abbrev pub is-application-x-gnupg-private-key : ℕ
-is-application-x-gnupg-private-key = 389
+is-application-x-gnupg-private-key = 390
 
 abbrev pub is-application-x-gnupg-trustdb : ℕ
-is-application-x-gnupg-trustdb = 390
+is-application-x-gnupg-trustdb = 391
 
 abbrev pub is-application-x-gnuplot : ℕ
-is-application-x-gnuplot = 391
+is-application-x-gnuplot = 392
 
 abbrev pub is-application-x-go-object : ℕ
-is-application-x-go-object = 392
+is-application-x-go-object = 393
 
 abbrev pub is-application-x-go-sgf : ℕ
-is-application-x-go-sgf = 393
+is-application-x-go-sgf = 394
 
 abbrev pub is-application-x-godot-package : ℕ
-is-application-x-godot-package = 394
+is-application-x-godot-package = 395
 
 abbrev pub is-application-x-godot-resource : ℕ
-is-application-x-godot-resource = 395
+is-application-x-godot-resource = 396
 
 abbrev pub is-application-x-godot-scene : ℕ
-is-application-x-godot-scene = 396
+is-application-x-godot-scene = 397
 
 abbrev pub is-application-x-google-chrome-extension : ℕ
-is-application-x-google-chrome-extension = 397
+is-application-x-google-chrome-extension = 398
 
 abbrev pub is-application-x-grib : ℕ
-is-application-x-grib = 398
+is-application-x-grib = 399
 
 abbrev pub is-application-x-grib2 : ℕ
-is-application-x-grib2 = 399
+is-application-x-grib2 = 400
 
 abbrev pub is-application-x-grub-keyboard : ℕ
-is-application-x-grub-keyboard = 400
+is-application-x-grub-keyboard = 401
 
 abbrev pub is-application-x-gschema-xml : ℕ
-is-application-x-gschema-xml = 401
+is-application-x-gschema-xml = 402
 
 abbrev pub is-application-x-gschema-compiled : ℕ
-is-application-x-gschema-compiled = 402
+is-application-x-gschema-compiled = 403
 
 abbrev pub is-application-x-gtk-builder : ℕ
-is-application-x-gtk-builder = 403
+is-application-x-gtk-builder = 404
 
 abbrev pub is-application-x-guitar-pro : ℕ
-is-application-x-guitar-pro = 404
+is-application-x-guitar-pro = 405
 
 abbrev pub is-application-x-gvdb : ℕ
-is-application-x-gvdb = 405
+is-application-x-gvdb = 406
 
 abbrev pub is-application-x-har-json : ℕ
-is-application-x-har-json = 406
+is-application-x-har-json = 407
 
 abbrev pub is-application-x-haskell-interface : ℕ
-is-application-x-haskell-interface = 407
+is-application-x-haskell-interface = 408
 
 abbrev pub is-application-x-hdf : ℕ
-is-application-x-hdf = 408
+is-application-x-hdf = 409
 
 abbrev pub is-application-x-hdf5 : ℕ
-is-application-x-hdf5 = 409
+is-application-x-hdf5 = 410
 
 abbrev pub is-application-x-hfe-floppy-image : ℕ
-is-application-x-hfe-floppy-image = 410
+is-application-x-hfe-floppy-image = 411
 
 abbrev pub is-application-x-hg-bundle : ℕ
-is-application-x-hg-bundle = 411
+is-application-x-hg-bundle = 412
 
 abbrev pub is-application-x-hwp : ℕ
-is-application-x-hwp = 412
+is-application-x-hwp = 413
 
 abbrev pub is-application-x-hwpx : ℕ
-is-application-x-hwpx = 413
+is-application-x-hwpx = 414
 
 abbrev pub is-application-x-hxml : ℕ
-is-application-x-hxml = 414
+is-application-x-hxml = 415
 
 abbrev pub is-application-x-ia-arc : ℕ
-is-application-x-ia-arc = 415
+is-application-x-ia-arc = 416
 
 abbrev pub is-application-x-icu-data : ℕ
-is-application-x-icu-data = 416
+is-application-x-icu-data = 417
 
 abbrev pub is-application-x-iff : ℕ
-is-application-x-iff = 417
+is-application-x-iff = 418
 
 abbrev pub is-application-x-indesign : ℕ
-is-application-x-indesign = 418
+is-application-x-indesign = 419
 
 abbrev pub is-application-x-innodb : ℕ
-is-application-x-innodb = 419
+is-application-x-innodb = 420
 
 abbrev pub is-application-x-innosetup : ℕ
-is-application-x-innosetup = 420
+is-application-x-innosetup = 421
 
 abbrev pub is-application-x-intel-aml : ℕ
-is-application-x-intel-aml = 421
+is-application-x-intel-aml = 422
 
 abbrev pub is-application-x-intellij-xml : ℕ
-is-application-x-intellij-xml = 422
+is-application-x-intellij-xml = 423
 
 abbrev pub is-application-x-ios-app : ℕ
-is-application-x-ios-app = 423
+is-application-x-ios-app = 424
 
 abbrev pub is-application-x-ips-patch : ℕ
-is-application-x-ips-patch = 424
+is-application-x-ips-patch = 425
 
 abbrev pub is-application-x-ipynb-json : ℕ
-is-application-x-ipynb-json = 425
+is-application-x-ipynb-json = 426
 
 abbrev pub is-application-x-it87 : ℕ
-is-application-x-it87 = 426
+is-application-x-it87 = 427
 
 abbrev pub is-application-x-jasper-xml : ℕ
-is-application-x-jasper-xml = 427
+is-application-x-jasper-xml = 428
 
 abbrev pub is-application-x-java-enterprise-archive : ℕ
-is-application-x-java-enterprise-archive = 428
+is-application-x-java-enterprise-archive = 429
 
 abbrev pub is-application-x-java-flight-recording : ℕ
-is-application-x-java-flight-recording = 429
+is-application-x-java-flight-recording = 430
 
 abbrev pub is-application-x-java-hprof : ℕ
-is-application-x-java-hprof = 430
+is-application-x-java-hprof = 431
 
 abbrev pub is-application-x-java-image : ℕ
-is-application-x-java-image = 431
+is-application-x-java-image = 432
 
 abbrev pub is-application-x-java-jce-keystore : ℕ
-is-application-x-java-jce-keystore = 432
+is-application-x-java-jce-keystore = 433
 
 abbrev pub is-application-x-java-jmod : ℕ
-is-application-x-java-jmod = 433
+is-application-x-java-jmod = 434
 
 abbrev pub is-application-x-java-jnlp-file : ℕ
-is-application-x-java-jnlp-file = 434
+is-application-x-java-jnlp-file = 435
 
 abbrev pub is-application-x-java-keystore : ℕ
-is-application-x-java-keystore = 435
+is-application-x-java-keystore = 436
 
 abbrev pub is-application-x-java-pack200 : ℕ
-is-application-x-java-pack200 = 436
+is-application-x-java-pack200 = 437
 
 abbrev pub is-application-x-java-serialized-object : ℕ
-is-application-x-java-serialized-object = 437
+is-application-x-java-serialized-object = 438
 
 abbrev pub is-application-x-java-web-archive : ℕ
-is-application-x-java-web-archive = 438
+is-application-x-java-web-archive = 439
 
 abbrev pub is-application-x-jffs2 : ℕ
-is-application-x-jffs2 = 439
+is-application-x-jffs2 = 440
+
+abbrev pub is-application-x-jfs-filesystem : ℕ
+is-application-x-jfs-filesystem = 441
 
 abbrev pub is-application-x-jmeter-xml : ℕ
-is-application-x-jmeter-xml = 440
+is-application-x-jmeter-xml = 442
 
 abbrev pub is-application-x-jsa : ℕ
-is-application-x-jsa = 441
+is-application-x-jsa = 443
 
 abbrev pub is-application-x-jsonc : ℕ
-is-application-x-jsonc = 442
+is-application-x-jsonc = 444
 
 abbrev pub is-application-x-jsp : ℕ
-is-application-x-jsp = 443
+is-application-x-jsp = 445
 
 abbrev pub is-application-x-karbon : ℕ
-is-application-x-karbon = 444
+is-application-x-karbon = 446
 
 abbrev pub is-application-x-kchart : ℕ
-is-application-x-kchart = 445
+is-application-x-kchart = 447
 
 abbrev pub is-application-x-kdenlive : ℕ
-is-application-x-kdenlive = 446
+is-application-x-kdenlive = 448
 
 abbrev pub is-application-x-kdump : ℕ
-is-application-x-kdump = 447
+is-application-x-kdump = 449
 
 abbrev pub is-application-x-keepass : ℕ
-is-application-x-keepass = 448
+is-application-x-keepass = 450
 
 abbrev pub is-application-x-keepass2 : ℕ
-is-application-x-keepass2 = 449
+is-application-x-keepass2 = 451
 
 abbrev pub is-application-x-kerberos-keytab : ℕ
-is-application-x-kerberos-keytab = 450
+is-application-x-kerberos-keytab = 452
 
 abbrev pub is-application-x-kformula : ℕ
-is-application-x-kformula = 451
+is-application-x-kformula = 453
 
 abbrev pub is-application-x-killustrator : ℕ
-is-application-x-killustrator = 452
+is-application-x-killustrator = 454
 
 abbrev pub is-application-x-kivio : ℕ
-is-application-x-kivio = 453
+is-application-x-kivio = 455
 
 abbrev pub is-application-x-kontour : ℕ
-is-application-x-kontour = 454
+is-application-x-kontour = 456
 
 abbrev pub is-application-x-kpresenter : ℕ
-is-application-x-kpresenter = 455
+is-application-x-kpresenter = 457
 
 abbrev pub is-application-x-krita : ℕ
-is-application-x-krita = 456
+is-application-x-krita = 458
 
 abbrev pub is-application-x-ksh : ℕ
-is-application-x-ksh = 457
+is-application-x-ksh = 459
 
 abbrev pub is-application-x-kspread : ℕ
-is-application-x-kspread = 458
+is-application-x-kspread = 460
 
 abbrev pub is-application-x-kword : ℕ
-is-application-x-kword = 459
+is-application-x-kword = 461
 
 abbrev pub is-application-x-ld-so-cache : ℕ
-is-application-x-ld-so-cache = 460
+is-application-x-ld-so-cache = 462
 
 abbrev pub is-application-x-ldml-xml : ℕ
-is-application-x-ldml-xml = 461
+is-application-x-ldml-xml = 463
 
 abbrev pub is-application-x-leveldb-table : ℕ
-is-application-x-leveldb-table = 462
+is-application-x-leveldb-table = 464
 
 abbrev pub is-application-x-linux-kernel-as-row-bzimage : ℕ
-is-application-x-linux-kernel-as-row-bzimage = 463
+is-application-x-linux-kernel-as-row-bzimage = 465
 
 abbrev pub is-application-x-linux-kernel-as-row-zimage : ℕ
-is-application-x-linux-kernel-as-row-zimage = 464
+is-application-x-linux-kernel-as-row-zimage = 466
 
 abbrev pub is-application-x-llvm : ℕ
-is-application-x-llvm = 465
+is-application-x-llvm = 467
 
 abbrev pub is-application-x-llvm-profdata : ℕ
-is-application-x-llvm-profdata = 466
+is-application-x-llvm-profdata = 468
 
 abbrev pub is-application-x-llvm-profraw : ℕ
-is-application-x-llvm-profraw = 467
+is-application-x-llvm-profraw = 469
 
 abbrev pub is-application-x-lmdb : ℕ
-is-application-x-lmdb = 468
+is-application-x-lmdb = 470
 
 abbrev pub is-application-x-locale-archive : ℕ
-is-application-x-locale-archive = 469
+is-application-x-locale-archive = 471
 
 abbrev pub is-application-x-locate-database : ℕ
-is-application-x-locate-database = 470
+is-application-x-locate-database = 472
 
 abbrev pub is-application-x-lottie-json : ℕ
-is-application-x-lottie-json = 471
+is-application-x-lottie-json = 473
 
 abbrev pub is-application-x-lrzip : ℕ
-is-application-x-lrzip = 472
+is-application-x-lrzip = 474
 
 abbrev pub is-application-x-lua-bytecode : ℕ
-is-application-x-lua-bytecode = 473
+is-application-x-lua-bytecode = 475
 
 abbrev pub is-application-x-luks : ℕ
-is-application-x-luks = 474
+is-application-x-luks = 476
 
 abbrev pub is-application-x-lyx : ℕ
-is-application-x-lyx = 475
+is-application-x-lyx = 477
 
 abbrev pub is-application-x-lz4 : ℕ
-is-application-x-lz4 = 476
+is-application-x-lz4 = 478
 
 abbrev pub is-application-x-lz4-json : ℕ
-is-application-x-lz4-json = 477
+is-application-x-lz4-json = 479
 
 abbrev pub is-application-x-lz4-compressed-tar : ℕ
-is-application-x-lz4-compressed-tar = 478
+is-application-x-lz4-compressed-tar = 480
 
 abbrev pub is-application-x-lzfse : ℕ
-is-application-x-lzfse = 479
+is-application-x-lzfse = 481
 
 abbrev pub is-application-x-lzh-compressed : ℕ
-is-application-x-lzh-compressed = 480
+is-application-x-lzh-compressed = 482
 
 abbrev pub is-application-x-lzip : ℕ
-is-application-x-lzip = 481
+is-application-x-lzip = 483
 
 abbrev pub is-application-x-lzip-compressed-tar : ℕ
-is-application-x-lzip-compressed-tar = 482
+is-application-x-lzip-compressed-tar = 484
 
 abbrev pub is-application-x-lzma : ℕ
-is-application-x-lzma = 483
+is-application-x-lzma = 485
 
 abbrev pub is-application-x-lzma-compressed-tar : ℕ
-is-application-x-lzma-compressed-tar = 484
+is-application-x-lzma-compressed-tar = 486
 
 abbrev pub is-application-x-lzop : ℕ
-is-application-x-lzop = 485
+is-application-x-lzop = 487
 
 abbrev pub is-application-x-m4 : ℕ
-is-application-x-m4 = 486
+is-application-x-m4 = 488
 
 abbrev pub is-application-x-macbinary : ℕ
-is-application-x-macbinary = 487
+is-application-x-macbinary = 489
 
 abbrev pub is-application-x-mach-binary : ℕ
-is-application-x-mach-binary = 488
+is-application-x-mach-binary = 490
 
 abbrev pub is-application-x-magic-database : ℕ
-is-application-x-magic-database = 489
+is-application-x-magic-database = 491
 
 abbrev pub is-application-x-mame-chd : ℕ
-is-application-x-mame-chd = 490
+is-application-x-mame-chd = 492
 
 abbrev pub is-application-x-matlab-data : ℕ
-is-application-x-matlab-data = 491
+is-application-x-matlab-data = 493
 
 abbrev pub is-application-x-maxis-dbpf : ℕ
-is-application-x-maxis-dbpf = 492
+is-application-x-maxis-dbpf = 494
 
 abbrev pub is-application-x-maya-binary : ℕ
-is-application-x-maya-binary = 493
+is-application-x-maya-binary = 495
 
 abbrev pub is-application-x-md-raid : ℕ
-is-application-x-md-raid = 494
+is-application-x-md-raid = 496
 
 abbrev pub is-application-x-mimecache : ℕ
-is-application-x-mimecache = 495
+is-application-x-mimecache = 497
 
 abbrev pub is-application-x-minecraft-world : ℕ
-is-application-x-minecraft-world = 496
+is-application-x-minecraft-world = 498
 
 abbrev pub is-application-x-minisign : ℕ
-is-application-x-minisign = 497
+is-application-x-minisign = 499
 
 abbrev pub is-application-x-mobipocket-ebook : ℕ
-is-application-x-mobipocket-ebook = 498
+is-application-x-mobipocket-ebook = 500
 
 abbrev pub is-application-x-monotone-database : ℕ
-is-application-x-monotone-database = 499
+is-application-x-monotone-database = 501
 
 abbrev pub is-application-x-mpq : ℕ
-is-application-x-mpq = 500
+is-application-x-mpq = 502
 
 abbrev pub is-application-x-ms-compress-kwaj : ℕ
-is-application-x-ms-compress-kwaj = 501
+is-application-x-ms-compress-kwaj = 503
 
 abbrev pub is-application-x-ms-compress-szdd : ℕ
-is-application-x-ms-compress-szdd = 502
+is-application-x-ms-compress-szdd = 504
 
 abbrev pub is-application-x-ms-crash-dump : ℕ
-is-application-x-ms-crash-dump = 503
+is-application-x-ms-crash-dump = 505
 
 abbrev pub is-application-x-ms-evtx : ℕ
-is-application-x-ms-evtx = 504
+is-application-x-ms-evtx = 506
 
 abbrev pub is-application-x-ms-pdb : ℕ
-is-application-x-ms-pdb = 505
+is-application-x-ms-pdb = 507
 
 abbrev pub is-application-x-ms-reader : ℕ
-is-application-x-ms-reader = 506
+is-application-x-ms-reader = 508
 
 abbrev pub is-application-x-ms-registry : ℕ
-is-application-x-ms-registry = 507
+is-application-x-ms-registry = 509
 
 abbrev pub is-application-x-ms-registry-hive : ℕ
-is-application-x-ms-registry-hive = 508
+is-application-x-ms-registry-hive = 510
 
 abbrev pub is-application-x-ms-resource : ℕ
-is-application-x-ms-resource = 509
+is-application-x-ms-resource = 511
 
 abbrev pub is-application-x-ms-sdb : ℕ
-is-application-x-ms-sdb = 510
+is-application-x-ms-sdb = 512
 
 abbrev pub is-application-x-ms-sdi : ℕ
-is-application-x-ms-sdi = 511
+is-application-x-ms-sdi = 513
 
 abbrev pub is-application-x-ms-shortcut : ℕ
-is-application-x-ms-shortcut = 512
+is-application-x-ms-shortcut = 514
 
 abbrev pub is-application-x-ms-wim : ℕ
-is-application-x-ms-wim = 513
+is-application-x-ms-wim = 515
 
 abbrev pub is-application-x-msaccess-as-row-accdb : ℕ
-is-application-x-msaccess-as-row-accdb = 514
+is-application-x-msaccess-as-row-accdb = 516
 
 abbrev pub is-application-x-msaccess-as-row-mdb : ℕ
-is-application-x-msaccess-as-row-mdb = 515
+is-application-x-msaccess-as-row-mdb = 517
 
 abbrev pub is-application-x-msbuild-xml : ℕ
-is-application-x-msbuild-xml = 516
+is-application-x-msbuild-xml = 518
 
 abbrev pub is-application-x-msi : ℕ
-is-application-x-msi = 517
+is-application-x-msi = 519
 
 abbrev pub is-application-x-mswinurl : ℕ
-is-application-x-mswinurl = 518
+is-application-x-mswinurl = 520
 
 abbrev pub is-application-x-mswrite : ℕ
-is-application-x-mswrite = 519
+is-application-x-mswrite = 521
 
 abbrev pub is-application-x-musescore : ℕ
-is-application-x-musescore = 520
+is-application-x-musescore = 522
 
 abbrev pub is-application-x-musescore-xml : ℕ
-is-application-x-musescore-xml = 521
+is-application-x-musescore-xml = 523
 
 abbrev pub is-application-x-mxml : ℕ
-is-application-x-mxml = 522
+is-application-x-mxml = 524
 
 abbrev pub is-application-x-mysql-myisam : ℕ
-is-application-x-mysql-myisam = 523
+is-application-x-mysql-myisam = 525
 
 abbrev pub is-application-x-n64-rom : ℕ
-is-application-x-n64-rom = 524
+is-application-x-n64-rom = 526
 
 abbrev pub is-application-x-natvis-xml : ℕ
-is-application-x-natvis-xml = 525
+is-application-x-natvis-xml = 527
 
 abbrev pub is-application-x-navi-animation : ℕ
-is-application-x-navi-animation = 526
+is-application-x-navi-animation = 528
 
 abbrev pub is-application-x-ndjson : ℕ
-is-application-x-ndjson = 527
+is-application-x-ndjson = 529
 
 abbrev pub is-application-x-nekovm-bytecode : ℕ
-is-application-x-nekovm-bytecode = 528
+is-application-x-nekovm-bytecode = 530
 
 abbrev pub is-application-x-neo-geo-pocket-color-rom : ℕ
-is-application-x-neo-geo-pocket-color-rom = 529
+is-application-x-neo-geo-pocket-color-rom = 531
 
 abbrev pub is-application-x-neo-geo-pocket-rom : ℕ
-is-application-x-neo-geo-pocket-rom = 530
+is-application-x-neo-geo-pocket-rom = 532
 
 abbrev pub is-application-x-netcdf : ℕ
-is-application-x-netcdf = 531
+is-application-x-netcdf = 533
 
 abbrev pub is-application-x-netmon : ℕ
-is-application-x-netmon = 532
+is-application-x-netmon = 534
 
 abbrev pub is-application-x-netshow-channel : ℕ
-is-application-x-netshow-channel = 533
+is-application-x-netshow-channel = 535
 
 abbrev pub is-application-x-nintendo-3ds-executable : ℕ
-is-application-x-nintendo-3ds-executable = 534
+is-application-x-nintendo-3ds-executable = 536
 
 abbrev pub is-application-x-nintendo-3ds-rom : ℕ
-is-application-x-nintendo-3ds-rom = 535
+is-application-x-nintendo-3ds-rom = 537
 
 abbrev pub is-application-x-nintendo-ds-rom : ℕ
-is-application-x-nintendo-ds-rom = 536
+is-application-x-nintendo-ds-rom = 538
 
 abbrev pub is-application-x-nintendo-ncch : ℕ
-is-application-x-nintendo-ncch = 537
+is-application-x-nintendo-ncch = 539
 
 abbrev pub is-application-x-nintendo-nes-rom : ℕ
-is-application-x-nintendo-nes-rom = 538
+is-application-x-nintendo-nes-rom = 540
 
 abbrev pub is-application-x-nintendo-nso : ℕ
-is-application-x-nintendo-nso = 539
+is-application-x-nintendo-nso = 541
 
 abbrev pub is-application-x-npy : ℕ
-is-application-x-npy = 540
+is-application-x-npy = 542
 
 abbrev pub is-application-x-npz : ℕ
-is-application-x-npz = 541
+is-application-x-npz = 543
 
 abbrev pub is-application-x-nuget-package : ℕ
-is-application-x-nuget-package = 542
+is-application-x-nuget-package = 544
 
 abbrev pub is-application-x-nuspec-xml : ℕ
-is-application-x-nuspec-xml = 543
+is-application-x-nuspec-xml = 545
 
 abbrev pub is-application-x-nzb : ℕ
-is-application-x-nzb = 544
+is-application-x-nzb = 546
 
 abbrev pub is-application-x-object : ℕ
-is-application-x-object = 545
+is-application-x-object = 547
 
 abbrev pub is-application-x-ocaml-cma : ℕ
-is-application-x-ocaml-cma = 546
+is-application-x-ocaml-cma = 548
 
 abbrev pub is-application-x-ocaml-cmi : ℕ
-is-application-x-ocaml-cmi = 547
+is-application-x-ocaml-cmi = 549
 
 abbrev pub is-application-x-ocaml-cmo : ℕ
-is-application-x-ocaml-cmo = 548
+is-application-x-ocaml-cmo = 550
 
 abbrev pub is-application-x-ocaml-cmt : ℕ
-is-application-x-ocaml-cmt = 549
+is-application-x-ocaml-cmt = 551
 
 abbrev pub is-application-x-ocaml-cmx : ℕ
-is-application-x-ocaml-cmx = 550
+is-application-x-ocaml-cmx = 552
 
 abbrev pub is-application-x-ocaml-cmxa : ℕ
-is-application-x-ocaml-cmxa = 551
+is-application-x-ocaml-cmxa = 553
 
 abbrev pub is-application-x-openssh-private-key : ℕ
-is-application-x-openssh-private-key = 552
+is-application-x-openssh-private-key = 554
 
 abbrev pub is-application-x-openssl-encrypted : ℕ
-is-application-x-openssl-encrypted = 553
+is-application-x-openssl-encrypted = 555
 
 abbrev pub is-application-x-openzim : ℕ
-is-application-x-openzim = 554
+is-application-x-openzim = 556
 
 abbrev pub is-application-x-orc : ℕ
-is-application-x-orc = 555
+is-application-x-orc = 557
 
 abbrev pub is-application-x-os2-hlp : ℕ
-is-application-x-os2-hlp = 556
+is-application-x-os2-hlp = 558
 
 abbrev pub is-application-x-os2-inf : ℕ
-is-application-x-os2-inf = 557
+is-application-x-os2-inf = 559
 
 abbrev pub is-application-x-os2-msg : ℕ
-is-application-x-os2-msg = 558
+is-application-x-os2-msg = 560
 
 abbrev pub is-application-x-osm-pbf : ℕ
-is-application-x-osm-pbf = 559
+is-application-x-osm-pbf = 561
 
 abbrev pub is-application-x-ova : ℕ
-is-application-x-ova = 560
+is-application-x-ova = 562
 
 abbrev pub is-application-x-pak : ℕ
-is-application-x-pak = 561
+is-application-x-pak = 563
 
 abbrev pub is-application-x-par : ℕ
-is-application-x-par = 562
+is-application-x-par = 564
 
 abbrev pub is-application-x-par2 : ℕ
-is-application-x-par2 = 563
+is-application-x-par2 = 565
 
 abbrev pub is-application-x-parallels-disk : ℕ
-is-application-x-parallels-disk = 564
+is-application-x-parallels-disk = 566
 
 abbrev pub is-application-x-pascal-resource-strings-json : ℕ
-is-application-x-pascal-resource-strings-json = 565
+is-application-x-pascal-resource-strings-json = 567
 
 abbrev pub is-application-x-pascal-unit : ℕ
-is-application-x-pascal-unit = 566
+is-application-x-pascal-unit = 568
 
 abbrev pub is-application-x-pcapng : ℕ
-is-application-x-pcapng = 567
+is-application-x-pcapng = 569
 
 abbrev pub is-application-x-pef-executable : ℕ
-is-application-x-pef-executable = 568
+is-application-x-pef-executable = 570
 
 abbrev pub is-application-x-pem-key : ℕ
-is-application-x-pem-key = 569
+is-application-x-pem-key = 571
 
 abbrev pub is-application-x-perf-data : ℕ
-is-application-x-perf-data = 570
+is-application-x-perf-data = 572
 
 abbrev pub is-application-x-phylip : ℕ
-is-application-x-phylip = 571
+is-application-x-phylip = 573
 
 abbrev pub is-application-x-plist : ℕ
-is-application-x-plist = 572
+is-application-x-plist = 574
 
 abbrev pub is-application-x-ply : ℕ
-is-application-x-ply = 573
+is-application-x-ply = 575
 
 abbrev pub is-application-x-pocket-word : ℕ
-is-application-x-pocket-word = 574
+is-application-x-pocket-word = 576
 
 abbrev pub is-application-x-postgresql-dump : ℕ
-is-application-x-postgresql-dump = 575
+is-application-x-postgresql-dump = 577
 
 abbrev pub is-application-x-pov : ℕ
-is-application-x-pov = 576
+is-application-x-pov = 578
 
 abbrev pub is-application-x-powershell : ℕ
-is-application-x-powershell = 577
+is-application-x-powershell = 579
 
 abbrev pub is-application-x-ppf-patch : ℕ
-is-application-x-ppf-patch = 578
+is-application-x-ppf-patch = 580
 
 abbrev pub is-application-x-ps1xml : ℕ
-is-application-x-ps1xml = 579
+is-application-x-ps1xml = 581
 
 abbrev pub is-application-x-psx-executable : ℕ
-is-application-x-psx-executable = 580
+is-application-x-psx-executable = 582
 
 abbrev pub is-application-x-putty-private-key : ℕ
-is-application-x-putty-private-key = 581
+is-application-x-putty-private-key = 583
 
 abbrev pub is-application-x-pyspread-spreadsheet : ℕ
-is-application-x-pyspread-spreadsheet = 582
+is-application-x-pyspread-spreadsheet = 584
 
 abbrev pub is-application-x-python-bytecode : ℕ
-is-application-x-python-bytecode = 583
+is-application-x-python-bytecode = 585
 
 abbrev pub is-application-x-python-pickle : ℕ
-is-application-x-python-pickle = 584
+is-application-x-python-pickle = 586
 
 abbrev pub is-application-x-python-zipapp : ℕ
-is-application-x-python-zipapp = 585
+is-application-x-python-zipapp = 587
 
 abbrev pub is-application-x-pytorch : ℕ
-is-application-x-pytorch = 586
+is-application-x-pytorch = 588
 
 abbrev pub is-application-x-qed-disk : ℕ
-is-application-x-qed-disk = 587
+is-application-x-qed-disk = 589
 
 abbrev pub is-application-x-qemu-disk : ℕ
-is-application-x-qemu-disk = 588
+is-application-x-qemu-disk = 590
 
 abbrev pub is-application-x-qgis-project-as-own : ℕ
-is-application-x-qgis-project-as-own = 589
+is-application-x-qgis-project-as-own = 591
 
 abbrev pub is-application-x-qgis-project-as-row-qgz : ℕ
-is-application-x-qgis-project-as-row-qgz = 590
+is-application-x-qgis-project-as-row-qgz = 592
 
 abbrev pub is-application-x-qpress : ℕ
-is-application-x-qpress = 591
+is-application-x-qpress = 593
 
 abbrev pub is-application-x-qt-resource : ℕ
-is-application-x-qt-resource = 592
+is-application-x-qt-resource = 594
 
 abbrev pub is-application-x-qtiplot : ℕ
-is-application-x-qtiplot = 593
+is-application-x-qtiplot = 595
 
 abbrev pub is-application-x-quake-bsp : ℕ
-is-application-x-quake-bsp = 594
+is-application-x-quake-bsp = 596
 
 abbrev pub is-application-x-quake-model : ℕ
-is-application-x-quake-model = 595
+is-application-x-quake-model = 597
 
 abbrev pub is-application-x-quattropro : ℕ
-is-application-x-quattropro = 596
+is-application-x-quattropro = 598
 
 abbrev pub is-application-x-quicktime-media-link : ℕ
-is-application-x-quicktime-media-link = 597
+is-application-x-quicktime-media-link = 599
 
 abbrev pub is-application-x-r-data : ℕ
-is-application-x-r-data = 598
+is-application-x-r-data = 600
 
 abbrev pub is-application-x-raw-disk-image : ℕ
-is-application-x-raw-disk-image = 599
+is-application-x-raw-disk-image = 601
 
 abbrev pub is-application-x-redis-dump : ℕ
-is-application-x-redis-dump = 600
+is-application-x-redis-dump = 602
 
 abbrev pub is-application-x-resx-xml : ℕ
-is-application-x-resx-xml = 601
+is-application-x-resx-xml = 603
 
 abbrev pub is-application-x-rhino : ℕ
-is-application-x-rhino = 602
+is-application-x-rhino = 604
 
 abbrev pub is-application-x-romfs : ℕ
-is-application-x-romfs = 603
+is-application-x-romfs = 605
 
 abbrev pub is-application-x-rpm : ℕ
-is-application-x-rpm = 604
+is-application-x-rpm = 606
 
 abbrev pub is-application-x-rrd : ℕ
-is-application-x-rrd = 605
+is-application-x-rrd = 607
 
 abbrev pub is-application-x-ruby-gem : ℕ
-is-application-x-ruby-gem = 606
+is-application-x-ruby-gem = 608
 
 abbrev pub is-application-x-rust-metadata : ℕ
-is-application-x-rust-metadata = 607
+is-application-x-rust-metadata = 609
 
 abbrev pub is-application-x-rust-rlib : ℕ
-is-application-x-rust-rlib = 608
+is-application-x-rust-rlib = 610
 
 abbrev pub is-application-x-rzip : ℕ
-is-application-x-rzip = 609
+is-application-x-rzip = 611
 
 abbrev pub is-application-x-safetensors : ℕ
-is-application-x-safetensors = 610
+is-application-x-safetensors = 612
 
 abbrev pub is-application-x-sami : ℕ
-is-application-x-sami = 611
+is-application-x-sami = 613
 
 abbrev pub is-application-x-sas-data : ℕ
-is-application-x-sas-data = 612
+is-application-x-sas-data = 614
 
 abbrev pub is-application-x-scf : ℕ
-is-application-x-scf = 613
+is-application-x-scf = 615
 
 abbrev pub is-application-x-schematron-xml : ℕ
-is-application-x-schematron-xml = 614
+is-application-x-schematron-xml = 616
 
 abbrev pub is-application-x-scxml-xml : ℕ
-is-application-x-scxml-xml = 615
+is-application-x-scxml-xml = 617
 
 abbrev pub is-application-x-setupscript : ℕ
-is-application-x-setupscript = 616
+is-application-x-setupscript = 618
 
 abbrev pub is-application-x-shapefile-index : ℕ
-is-application-x-shapefile-index = 617
+is-application-x-shapefile-index = 619
 
 abbrev pub is-application-x-shar : ℕ
-is-application-x-shar = 618
+is-application-x-shar = 620
 
 abbrev pub is-application-x-shared-library-la : ℕ
-is-application-x-shared-library-la = 619
+is-application-x-shared-library-la = 621
 
 abbrev pub is-application-x-sharedlib : ℕ
-is-application-x-sharedlib = 620
+is-application-x-sharedlib = 622
 
 abbrev pub is-application-x-shockwave-flash : ℕ
-is-application-x-shockwave-flash = 621
+is-application-x-shockwave-flash = 623
 
 abbrev pub is-application-x-shorten : ℕ
-is-application-x-shorten = 622
+is-application-x-shorten = 624
 
 abbrev pub is-application-x-silverlight-app : ℕ
-is-application-x-silverlight-app = 623
+is-application-x-silverlight-app = 625
 
 abbrev pub is-application-x-sketch : ℕ
-is-application-x-sketch = 624
+is-application-x-sketch = 626
 
 abbrev pub is-application-x-sketchup : ℕ
-is-application-x-sketchup = 625
+is-application-x-sketchup = 627
+
+abbrev pub is-application-x-sms-rom : ℕ
+is-application-x-sms-rom = 628
 
 abbrev pub is-application-x-snappy-framed : ℕ
-is-application-x-snappy-framed = 626
+is-application-x-snappy-framed = 629
 
 abbrev pub is-application-x-snoop : ℕ
-is-application-x-snoop = 627
+is-application-x-snoop = 630
 
 abbrev pub is-application-x-sony-bbeb : ℕ
-is-application-x-sony-bbeb = 628
+is-application-x-sony-bbeb = 631
 
 abbrev pub is-application-x-source-rpm : ℕ
-is-application-x-source-rpm = 629
+is-application-x-source-rpm = 632
 
 abbrev pub is-application-x-spectrum-szx : ℕ
-is-application-x-spectrum-szx = 630
+is-application-x-spectrum-szx = 633
 
 abbrev pub is-application-x-spectrum-tzx : ℕ
-is-application-x-spectrum-tzx = 631
+is-application-x-spectrum-tzx = 634
 
 abbrev pub is-application-x-spirv : ℕ
-is-application-x-spirv = 632
+is-application-x-spirv = 635
 
 abbrev pub is-application-x-spss-por : ℕ
-is-application-x-spss-por = 633
+is-application-x-spss-por = 636
 
 abbrev pub is-application-x-spss-sav : ℕ
-is-application-x-spss-sav = 634
+is-application-x-spss-sav = 637
 
 abbrev pub is-application-x-sqlite2 : ℕ
-is-application-x-sqlite2 = 635
+is-application-x-sqlite2 = 638
 
 abbrev pub is-application-x-ssh-public-key : ℕ
-is-application-x-ssh-public-key = 636
+is-application-x-ssh-public-key = 639
 
 abbrev pub is-application-x-ssh1-private-key : ℕ
-is-application-x-ssh1-private-key = 637
+is-application-x-ssh1-private-key = 640
 
 abbrev pub is-application-x-stata-dta : ℕ
-is-application-x-stata-dta = 638
+is-application-x-stata-dta = 641
 
 abbrev pub is-application-x-storyboard-xml : ℕ
-is-application-x-storyboard-xml = 639
+is-application-x-storyboard-xml = 642
 
 abbrev pub is-application-x-stuffit : ℕ
-is-application-x-stuffit = 640
+is-application-x-stuffit = 643
 
 abbrev pub is-application-x-sublime-syntax : ℕ
-is-application-x-sublime-syntax = 641
+is-application-x-sublime-syntax = 644
 
 abbrev pub is-application-x-subrip : ℕ
-is-application-x-subrip = 642
+is-application-x-subrip = 645
 
 abbrev pub is-application-x-supercollider-synthdef : ℕ
-is-application-x-supercollider-synthdef = 643
+is-application-x-supercollider-synthdef = 646
 
 abbrev pub is-application-x-svn-dump : ℕ
-is-application-x-svn-dump = 644
+is-application-x-svn-dump = 647
 
 abbrev pub is-application-x-svr4-package : ℕ
-is-application-x-svr4-package = 645
+is-application-x-svr4-package = 648
 
 abbrev pub is-application-x-swap : ℕ
-is-application-x-swap = 646
+is-application-x-swap = 649
 
 abbrev pub is-application-x-swiftmodule : ℕ
-is-application-x-swiftmodule = 647
+is-application-x-swiftmodule = 650
 
 abbrev pub is-application-x-systemd-journal : ℕ
-is-application-x-systemd-journal = 648
+is-application-x-systemd-journal = 651
 
 abbrev pub is-application-x-t602 : ℕ
-is-application-x-t602 = 649
+is-application-x-t602 = 652
 
 abbrev pub is-application-x-tabix : ℕ
-is-application-x-tabix = 650
+is-application-x-tabix = 653
 
 abbrev pub is-application-x-tar : ℕ
-is-application-x-tar = 651
+is-application-x-tar = 654
 
 abbrev pub is-application-x-tarz : ℕ
-is-application-x-tarz = 652
+is-application-x-tarz = 655
 
 abbrev pub is-application-x-tdb : ℕ
-is-application-x-tdb = 653
+is-application-x-tdb = 656
 
 abbrev pub is-application-x-terminfo : ℕ
-is-application-x-terminfo = 654
+is-application-x-terminfo = 657
 
 abbrev pub is-application-x-terraform-state-json : ℕ
-is-application-x-terraform-state-json = 655
+is-application-x-terraform-state-json = 658
 
 abbrev pub is-application-x-tex-pk : ℕ
-is-application-x-tex-pk = 656
+is-application-x-tex-pk = 659
 
 abbrev pub is-application-x-tex-tfm : ℕ
-is-application-x-tex-tfm = 657
+is-application-x-tex-tfm = 660
 
 abbrev pub is-application-x-tflite : ℕ
-is-application-x-tflite = 658
+is-application-x-tflite = 661
 
 abbrev pub is-application-x-tgif : ℕ
-is-application-x-tgif = 659
+is-application-x-tgif = 662
 
 abbrev pub is-application-x-theme : ℕ
-is-application-x-theme = 660
+is-application-x-theme = 663
 
 abbrev pub is-application-x-theme-xml : ℕ
-is-application-x-theme-xml = 661
+is-application-x-theme-xml = 664
 
 abbrev pub is-application-x-thomson-sap-image : ℕ
-is-application-x-thomson-sap-image = 662
+is-application-x-thomson-sap-image = 665
 
 abbrev pub is-application-x-thumbs-db : ℕ
-is-application-x-thumbs-db = 663
+is-application-x-thumbs-db = 666
 
 abbrev pub is-application-x-tmx-xml : ℕ
-is-application-x-tmx-xml = 664
+is-application-x-tmx-xml = 667
 
 abbrev pub is-application-x-tokyocabinet-btree : ℕ
-is-application-x-tokyocabinet-btree = 665
+is-application-x-tokyocabinet-btree = 668
 
 abbrev pub is-application-x-tokyocabinet-fixed : ℕ
-is-application-x-tokyocabinet-fixed = 666
+is-application-x-tokyocabinet-fixed = 669
 
 abbrev pub is-application-x-tokyocabinet-hash : ℕ
-is-application-x-tokyocabinet-hash = 667
+is-application-x-tokyocabinet-hash = 670
 
 abbrev pub is-application-x-tokyocabinet-table : ℕ
-is-application-x-tokyocabinet-table = 668
+is-application-x-tokyocabinet-table = 671
 
 abbrev pub is-application-x-trid-trd : ℕ
-is-application-x-trid-trd = 669
+is-application-x-trid-trd = 672
 
 abbrev pub is-application-x-ubi : ℕ
-is-application-x-ubi = 670
+is-application-x-ubi = 673
 
 abbrev pub is-application-x-ubifs : ℕ
-is-application-x-ubifs = 671
+is-application-x-ubifs = 674
+
+abbrev pub is-application-x-udf-image : ℕ
+is-application-x-udf-image = 675
 
 abbrev pub is-application-x-uf2 : ℕ
-is-application-x-uf2 = 672
+is-application-x-uf2 = 676
 
 abbrev pub is-application-x-uimage : ℕ
-is-application-x-uimage = 673
+is-application-x-uimage = 677
 
 abbrev pub is-application-x-unity-asmdef-json : ℕ
-is-application-x-unity-asmdef-json = 674
+is-application-x-unity-asmdef-json = 678
 
 abbrev pub is-application-x-unity-asset : ℕ
-is-application-x-unity-asset = 675
+is-application-x-unity-asset = 679
 
 abbrev pub is-application-x-unix-archive : ℕ
-is-application-x-unix-archive = 676
+is-application-x-unix-archive = 680
 
 abbrev pub is-application-x-unreal-package : ℕ
-is-application-x-unreal-package = 677
+is-application-x-unreal-package = 681
 
 abbrev pub is-application-x-uproject-json : ℕ
-is-application-x-uproject-json = 678
+is-application-x-uproject-json = 682
 
 abbrev pub is-application-x-ups-patch : ℕ
-is-application-x-ups-patch = 679
+is-application-x-ups-patch = 683
 
 abbrev pub is-application-x-urdf-xml : ℕ
-is-application-x-urdf-xml = 680
+is-application-x-urdf-xml = 684
 
 abbrev pub is-application-x-usdc : ℕ
-is-application-x-usdc = 681
+is-application-x-usdc = 685
 
 abbrev pub is-application-x-usdz : ℕ
-is-application-x-usdz = 682
+is-application-x-usdz = 686
 
 abbrev pub is-application-x-valve-pak : ℕ
-is-application-x-valve-pak = 683
+is-application-x-valve-pak = 687
 
 abbrev pub is-application-x-vcdiff : ℕ
-is-application-x-vcdiff = 684
+is-application-x-vcdiff = 688
 
 abbrev pub is-application-x-vdi-disk : ℕ
-is-application-x-vdi-disk = 685
+is-application-x-vdi-disk = 689
 
 abbrev pub is-application-x-vhd-disk : ℕ
-is-application-x-vhd-disk = 686
+is-application-x-vhd-disk = 690
 
 abbrev pub is-application-x-vhdx-disk : ℕ
-is-application-x-vhdx-disk = 687
+is-application-x-vhdx-disk = 691
 
 abbrev pub is-application-x-vim-spell : ℕ
-is-application-x-vim-spell = 688
+is-application-x-vim-spell = 692
 
 abbrev pub is-application-x-vim-swap : ℕ
-is-application-x-vim-swap = 689
+is-application-x-vim-swap = 693
 
 abbrev pub is-application-x-virtualbox-saved-state : ℕ
-is-application-x-virtualbox-saved-state = 690
+is-application-x-virtualbox-saved-state = 694
 
 abbrev pub is-application-x-vmdk-disk : ℕ
-is-application-x-vmdk-disk = 691
+is-application-x-vmdk-disk = 695
 
 abbrev pub is-application-x-wheel-zip : ℕ
-is-application-x-wheel-zip = 692
+is-application-x-wheel-zip = 696
 
 abbrev pub is-application-x-wii-rom-as-row-rvz : ℕ
-is-application-x-wii-rom-as-row-rvz = 693
+is-application-x-wii-rom-as-row-rvz = 697
 
 abbrev pub is-application-x-wii-rom-as-row-wbfs : ℕ
-is-application-x-wii-rom-as-row-wbfs = 694
+is-application-x-wii-rom-as-row-wbfs = 698
 
 abbrev pub is-application-x-wii-wad : ℕ
-is-application-x-wii-wad = 695
+is-application-x-wii-wad = 699
 
 abbrev pub is-application-x-windows-dump : ℕ
-is-application-x-windows-dump = 696
+is-application-x-windows-dump = 700
 
 abbrev pub is-application-x-wix-xml : ℕ
-is-application-x-wix-xml = 697
+is-application-x-wix-xml = 701
 
 abbrev pub is-application-x-wmz : ℕ
-is-application-x-wmz = 698
+is-application-x-wmz = 702
 
 abbrev pub is-application-x-wordperfect-wpm : ℕ
-is-application-x-wordperfect-wpm = 699
+is-application-x-wordperfect-wpm = 703
 
 abbrev pub is-application-x-x509-ca-cert-as-known : ℕ
-is-application-x-x509-ca-cert-as-known = 700
+is-application-x-x509-ca-cert-as-known = 704
 
 abbrev pub is-application-x-x509-ca-cert-as-row-der : ℕ
-is-application-x-x509-ca-cert-as-row-der = 701
+is-application-x-x509-ca-cert-as-row-der = 705
 
 abbrev pub is-application-x-x509-ca-cert-as-row-pem : ℕ
-is-application-x-x509-ca-cert-as-row-pem = 702
+is-application-x-x509-ca-cert-as-row-pem = 706
 
 abbrev pub is-application-x-xar : ℕ
-is-application-x-xar = 703
+is-application-x-xar = 707
 
 abbrev pub is-application-x-xbel : ℕ
-is-application-x-xbel = 704
+is-application-x-xbel = 708
 
 abbrev pub is-application-x-xbmc-xbt : ℕ
-is-application-x-xbmc-xbt = 705
+is-application-x-xbmc-xbt = 709
 
 abbrev pub is-application-x-xmp-xml : ℕ
-is-application-x-xmp-xml = 706
+is-application-x-xmp-xml = 710
 
 abbrev pub is-application-x-xpinstall : ℕ
-is-application-x-xpinstall = 707
+is-application-x-xpinstall = 711
 
 abbrev pub is-application-x-xz : ℕ
-is-application-x-xz = 708
+is-application-x-xz = 712
 
 abbrev pub is-application-x-xz-compressed-tar : ℕ
-is-application-x-xz-compressed-tar = 709
+is-application-x-xz-compressed-tar = 713
 
 abbrev pub is-application-x-zchunk : ℕ
-is-application-x-zchunk = 710
+is-application-x-zchunk = 714
 
 abbrev pub is-application-x-zcml : ℕ
-is-application-x-zcml = 711
+is-application-x-zcml = 715
 
 abbrev pub is-application-x-zip : ℕ
-is-application-x-zip = 712
+is-application-x-zip = 716
 
 abbrev pub is-application-x-zip-compressed-fb2 : ℕ
-is-application-x-zip-compressed-fb2 = 713
+is-application-x-zip-compressed-fb2 = 717
 
 abbrev pub is-application-x-zoo : ℕ
-is-application-x-zoo = 714
+is-application-x-zoo = 718
 
 abbrev pub is-application-x-zpaq : ℕ
-is-application-x-zpaq = 715
+is-application-x-zpaq = 719
 
 abbrev pub is-application-x-zsh : ℕ
-is-application-x-zsh = 716
+is-application-x-zsh = 720
 
 abbrev pub is-application-x-zstd-compressed-tar : ℕ
-is-application-x-zstd-compressed-tar = 717
+is-application-x-zstd-compressed-tar = 721
 
 abbrev pub is-application-xaml-xml : ℕ
-is-application-xaml-xml = 718
+is-application-xaml-xml = 722
 
 abbrev pub is-application-xhtml-xml : ℕ
-is-application-xhtml-xml = 719
+is-application-xhtml-xml = 723
 
 abbrev pub is-application-xliff-xml : ℕ
-is-application-xliff-xml = 720
+is-application-xliff-xml = 724
 
 abbrev pub is-application-xml : ℕ
-is-application-xml = 721
+is-application-xml = 725
 
 abbrev pub is-application-xml-dtd : ℕ
-is-application-xml-dtd = 722
+is-application-xml-dtd = 726
 
 abbrev pub is-application-xml-external-parsed-entity : ℕ
-is-application-xml-external-parsed-entity = 723
+is-application-xml-external-parsed-entity = 727
 
 abbrev pub is-application-xproc-xml : ℕ
-is-application-xproc-xml = 724
+is-application-xproc-xml = 728
 
 abbrev pub is-application-xquery : ℕ
-is-application-xquery = 725
+is-application-xquery = 729
 
 abbrev pub is-application-xslt-xml : ℕ
-is-application-xslt-xml = 726
+is-application-xslt-xml = 730
 
 abbrev pub is-application-xspf-xml : ℕ
-is-application-xspf-xml = 727
+is-application-xspf-xml = 731
 
 abbrev pub is-application-yaml : ℕ
-is-application-yaml = 728
+is-application-yaml = 732
 
 abbrev pub is-application-zip : ℕ
-is-application-zip = 729
+is-application-zip = 733
 
 abbrev pub is-application-zstd : ℕ
-is-application-zstd = 730
+is-application-zstd = 734
 
 abbrev pub is-audio-aac : ℕ
-is-audio-aac = 731
+is-audio-aac = 735
 
 abbrev pub is-audio-ac3 : ℕ
-is-audio-ac3 = 732
+is-audio-ac3 = 736
 
 abbrev pub is-audio-amr : ℕ
-is-audio-amr = 733
+is-audio-amr = 737
 
 abbrev pub is-audio-amr-wb : ℕ
-is-audio-amr-wb = 734
+is-audio-amr-wb = 738
 
 abbrev pub is-audio-basic : ℕ
-is-audio-basic = 735
+is-audio-basic = 739
 
 abbrev pub is-audio-eac3 : ℕ
-is-audio-eac3 = 736
+is-audio-eac3 = 740
 
 abbrev pub is-audio-m4a : ℕ
-is-audio-m4a = 737
+is-audio-m4a = 741
 
 abbrev pub is-audio-mid : ℕ
-is-audio-mid = 738
+is-audio-mid = 742
 
 abbrev pub is-audio-midi : ℕ
-is-audio-midi = 739
+is-audio-midi = 743
 
 abbrev pub is-audio-mobile-xmf : ℕ
-is-audio-mobile-xmf = 740
+is-audio-mobile-xmf = 744
 
 abbrev pub is-audio-mp4 : ℕ
-is-audio-mp4 = 741
+is-audio-mp4 = 745
 
 abbrev pub is-audio-mpeg : ℕ
-is-audio-mpeg = 742
+is-audio-mpeg = 746
 
 abbrev pub is-audio-ogg-as-row-oga : ℕ
-is-audio-ogg-as-row-oga = 743
+is-audio-ogg-as-row-oga = 747
 
 abbrev pub is-audio-ogg-as-row-ogg : ℕ
-is-audio-ogg-as-row-ogg = 744
+is-audio-ogg-as-row-ogg = 748
 
 abbrev pub is-audio-opus : ℕ
-is-audio-opus = 745
+is-audio-opus = 749
 
 abbrev pub is-audio-prs-sid : ℕ
-is-audio-prs-sid = 746
+is-audio-prs-sid = 750
 
 abbrev pub is-audio-sf2 : ℕ
-is-audio-sf2 = 747
+is-audio-sf2 = 751
 
 abbrev pub is-audio-vnd-audible : ℕ
-is-audio-vnd-audible = 748
+is-audio-vnd-audible = 752
 
 abbrev pub is-audio-vnd-audible-aax : ℕ
-is-audio-vnd-audible-aax = 749
+is-audio-vnd-audible-aax = 753
 
 abbrev pub is-audio-vnd-dolby-mlp : ℕ
-is-audio-vnd-dolby-mlp = 750
+is-audio-vnd-dolby-mlp = 754
 
 abbrev pub is-audio-vnd-dts : ℕ
-is-audio-vnd-dts = 751
+is-audio-vnd-dts = 755
 
 abbrev pub is-audio-vnd-rn-realaudio : ℕ
-is-audio-vnd-rn-realaudio = 752
+is-audio-vnd-rn-realaudio = 756
 
 abbrev pub is-audio-webm : ℕ
-is-audio-webm = 753
+is-audio-webm = 757
 
 abbrev pub is-audio-x-8svx : ℕ
-is-audio-x-8svx = 754
+is-audio-x-8svx = 758
 
 abbrev pub is-audio-x-aifc : ℕ
-is-audio-x-aifc = 755
+is-audio-x-aifc = 759
 
 abbrev pub is-audio-x-aiff : ℕ
-is-audio-x-aiff = 756
+is-audio-x-aiff = 760
 
 abbrev pub is-audio-x-ape : ℕ
-is-audio-x-ape = 757
+is-audio-x-ape = 761
 
 abbrev pub is-audio-x-avr : ℕ
-is-audio-x-avr = 758
+is-audio-x-avr = 762
 
 abbrev pub is-audio-x-ay : ℕ
-is-audio-x-ay = 759
+is-audio-x-ay = 763
 
 abbrev pub is-audio-x-bcstm : ℕ
-is-audio-x-bcstm = 760
+is-audio-x-bcstm = 764
 
 abbrev pub is-audio-x-bcwav : ℕ
-is-audio-x-bcwav = 761
+is-audio-x-bcwav = 765
 
 abbrev pub is-audio-x-bfstm : ℕ
-is-audio-x-bfstm = 762
+is-audio-x-bfstm = 766
 
 abbrev pub is-audio-x-brstm : ℕ
-is-audio-x-brstm = 763
+is-audio-x-brstm = 767
 
 abbrev pub is-audio-x-caf : ℕ
-is-audio-x-caf = 764
+is-audio-x-caf = 768
 
 abbrev pub is-audio-x-dbm : ℕ
-is-audio-x-dbm = 765
+is-audio-x-dbm = 769
 
 abbrev pub is-audio-x-dff : ℕ
-is-audio-x-dff = 766
+is-audio-x-dff = 770
 
 abbrev pub is-audio-x-dsf : ℕ
-is-audio-x-dsf = 767
+is-audio-x-dsf = 771
 
 abbrev pub is-audio-x-dss : ℕ
-is-audio-x-dss = 768
+is-audio-x-dss = 772
 
 abbrev pub is-audio-x-flac : ℕ
-is-audio-x-flac = 769
+is-audio-x-flac = 773
 
 abbrev pub is-audio-x-gbs : ℕ
-is-audio-x-gbs = 770
+is-audio-x-gbs = 774
 
 abbrev pub is-audio-x-gsm : ℕ
-is-audio-x-gsm = 771
+is-audio-x-gsm = 775
 
 abbrev pub is-audio-x-ircam : ℕ
-is-audio-x-ircam = 772
+is-audio-x-ircam = 776
 
 abbrev pub is-audio-x-iriver-pla : ℕ
-is-audio-x-iriver-pla = 773
+is-audio-x-iriver-pla = 777
 
 abbrev pub is-audio-x-it : ℕ
-is-audio-x-it = 774
+is-audio-x-it = 778
 
 abbrev pub is-audio-x-m4b : ℕ
-is-audio-x-m4b = 775
+is-audio-x-m4b = 779
 
 abbrev pub is-audio-x-matroska : ℕ
-is-audio-x-matroska = 776
+is-audio-x-matroska = 780
 
 abbrev pub is-audio-x-maud : ℕ
-is-audio-x-maud = 777
+is-audio-x-maud = 781
 
 abbrev pub is-audio-x-mids : ℕ
-is-audio-x-mids = 778
+is-audio-x-mids = 782
 
 abbrev pub is-audio-x-mo3 : ℕ
-is-audio-x-mo3 = 779
+is-audio-x-mo3 = 783
 
 abbrev pub is-audio-x-mod-as-known : ℕ
-is-audio-x-mod-as-known = 780
+is-audio-x-mod-as-known = 784
 
 abbrev pub is-audio-x-mod-as-row-mod : ℕ
-is-audio-x-mod-as-row-mod = 781
+is-audio-x-mod-as-row-mod = 785
 
 abbrev pub is-audio-x-mpegurl : ℕ
-is-audio-x-mpegurl = 782
+is-audio-x-mpegurl = 786
 
 abbrev pub is-audio-x-ms-asx : ℕ
-is-audio-x-ms-asx = 783
+is-audio-x-ms-asx = 787
 
 abbrev pub is-audio-x-ms-wma : ℕ
-is-audio-x-ms-wma = 784
+is-audio-x-ms-wma = 788
 
 abbrev pub is-audio-x-musepack : ℕ
-is-audio-x-musepack = 785
+is-audio-x-musepack = 789
 
 abbrev pub is-audio-x-nist : ℕ
-is-audio-x-nist = 786
+is-audio-x-nist = 790
 
 abbrev pub is-audio-x-nsf : ℕ
-is-audio-x-nsf = 787
+is-audio-x-nsf = 791
 
 abbrev pub is-audio-x-okt : ℕ
-is-audio-x-okt = 788
+is-audio-x-okt = 792
 
 abbrev pub is-audio-x-paf : ℕ
-is-audio-x-paf = 789
+is-audio-x-paf = 793
 
 abbrev pub is-audio-x-psf : ℕ
-is-audio-x-psf = 790
+is-audio-x-psf = 794
 
 abbrev pub is-audio-x-psion-wve : ℕ
-is-audio-x-psion-wve = 791
+is-audio-x-psion-wve = 795
 
 abbrev pub is-audio-x-ptm : ℕ
-is-audio-x-ptm = 792
+is-audio-x-ptm = 796
 
 abbrev pub is-audio-x-pvf : ℕ
-is-audio-x-pvf = 793
+is-audio-x-pvf = 797
 
 abbrev pub is-audio-x-rf64 : ℕ
-is-audio-x-rf64 = 794
+is-audio-x-rf64 = 798
 
 abbrev pub is-audio-x-s3m : ℕ
-is-audio-x-s3m = 795
+is-audio-x-s3m = 799
 
 abbrev pub is-audio-x-sample-vision : ℕ
-is-audio-x-sample-vision = 796
+is-audio-x-sample-vision = 800
 
 abbrev pub is-audio-x-sap : ℕ
-is-audio-x-sap = 797
+is-audio-x-sap = 801
 
 abbrev pub is-audio-x-scpls : ℕ
-is-audio-x-scpls = 798
+is-audio-x-scpls = 802
 
 abbrev pub is-audio-x-sds : ℕ
-is-audio-x-sds = 799
+is-audio-x-sds = 803
 
 abbrev pub is-audio-x-sfbk : ℕ
-is-audio-x-sfbk = 800
+is-audio-x-sfbk = 804
 
 abbrev pub is-audio-x-spc : ℕ
-is-audio-x-spc = 801
+is-audio-x-spc = 805
 
 abbrev pub is-audio-x-speex-ogg : ℕ
-is-audio-x-speex-ogg = 802
+is-audio-x-speex-ogg = 806
 
 abbrev pub is-audio-x-stm : ℕ
-is-audio-x-stm = 803
+is-audio-x-stm = 807
 
 abbrev pub is-audio-x-tta : ℕ
-is-audio-x-tta = 804
+is-audio-x-tta = 808
 
 abbrev pub is-audio-x-ult : ℕ
-is-audio-x-ult = 805
+is-audio-x-ult = 809
 
 abbrev pub is-audio-x-vgm : ℕ
-is-audio-x-vgm = 806
+is-audio-x-vgm = 810
 
 abbrev pub is-audio-x-voc : ℕ
-is-audio-x-voc = 807
+is-audio-x-voc = 811
 
 abbrev pub is-audio-x-w64 : ℕ
-is-audio-x-w64 = 808
+is-audio-x-w64 = 812
 
 abbrev pub is-audio-x-wav : ℕ
-is-audio-x-wav = 809
+is-audio-x-wav = 813
 
 abbrev pub is-audio-x-wavpack : ℕ
-is-audio-x-wavpack = 810
+is-audio-x-wavpack = 814
 
 abbrev pub is-audio-x-xbox-executable : ℕ
-is-audio-x-xbox-executable = 811
+is-audio-x-xbox-executable = 815
 
 abbrev pub is-audio-x-xbox360-executable : ℕ
-is-audio-x-xbox360-executable = 812
+is-audio-x-xbox360-executable = 816
 
 abbrev pub is-audio-x-xi : ℕ
-is-audio-x-xi = 813
+is-audio-x-xi = 817
 
 abbrev pub is-audio-x-xm : ℕ
-is-audio-x-xm = 814
+is-audio-x-xm = 818
 
 abbrev pub is-audio-x-yamaha-txw : ℕ
-is-audio-x-yamaha-txw = 815
+is-audio-x-yamaha-txw = 819
 
 abbrev pub is-chemical-x-cdx : ℕ
-is-chemical-x-cdx = 816
+is-chemical-x-cdx = 820
 
 abbrev pub is-chemical-x-cif : ℕ
-is-chemical-x-cif = 817
+is-chemical-x-cif = 821
 
 abbrev pub is-chemical-x-cml : ℕ
-is-chemical-x-cml = 818
+is-chemical-x-cml = 822
 
 abbrev pub is-chemical-x-mdl-molfile : ℕ
-is-chemical-x-mdl-molfile = 819
+is-chemical-x-mdl-molfile = 823
 
 abbrev pub is-chemical-x-mdl-sdfile : ℕ
-is-chemical-x-mdl-sdfile = 820
+is-chemical-x-mdl-sdfile = 824
 
 abbrev pub is-chemical-x-mol2 : ℕ
-is-chemical-x-mol2 = 821
+is-chemical-x-mol2 = 825
 
 abbrev pub is-chemical-x-pdb : ℕ
-is-chemical-x-pdb = 822
+is-chemical-x-pdb = 826
 
 abbrev pub is-chemical-x-xyz : ℕ
-is-chemical-x-xyz = 823
+is-chemical-x-xyz = 827
 
 abbrev pub is-font-collection : ℕ
-is-font-collection = 824
+is-font-collection = 828
 
 abbrev pub is-font-x-dos-cpi : ℕ
-is-font-x-dos-cpi = 825
+is-font-x-dos-cpi = 829
 
 abbrev pub is-font-x-drdos-cpi : ℕ
-is-font-x-drdos-cpi = 826
+is-font-x-drdos-cpi = 830
 
 abbrev pub is-image-apng : ℕ
-is-image-apng = 827
+is-image-apng = 831
 
 abbrev pub is-image-astc : ℕ
-is-image-astc = 828
+is-image-astc = 832
 
 abbrev pub is-image-avif : ℕ
-is-image-avif = 829
+is-image-avif = 833
 
 abbrev pub is-image-bmp : ℕ
-is-image-bmp = 830
+is-image-bmp = 834
 
 abbrev pub is-image-bpg : ℕ
-is-image-bpg = 831
+is-image-bpg = 835
 
 abbrev pub is-image-cineon : ℕ
-is-image-cineon = 832
+is-image-cineon = 836
 
 abbrev pub is-image-dpx : ℕ
-is-image-dpx = 833
+is-image-dpx = 837
 
 abbrev pub is-image-emf : ℕ
-is-image-emf = 834
+is-image-emf = 838
 
 abbrev pub is-image-fits : ℕ
-is-image-fits = 835
+is-image-fits = 839
 
 abbrev pub is-image-flif : ℕ
-is-image-flif = 836
+is-image-flif = 840
 
 abbrev pub is-image-geotiff : ℕ
-is-image-geotiff = 837
+is-image-geotiff = 841
 
 abbrev pub is-image-gif : ℕ
-is-image-gif = 838
+is-image-gif = 842
 
 abbrev pub is-image-heic : ℕ
-is-image-heic = 839
+is-image-heic = 843
 
 abbrev pub is-image-heic-sequence : ℕ
-is-image-heic-sequence = 840
+is-image-heic-sequence = 844
 
 abbrev pub is-image-heif : ℕ
-is-image-heif = 841
+is-image-heif = 845
 
 abbrev pub is-image-heif-sequence : ℕ
-is-image-heif-sequence = 842
+is-image-heif-sequence = 846
 
 abbrev pub is-image-jls : ℕ
-is-image-jls = 843
+is-image-jls = 847
 
 abbrev pub is-image-jp2 : ℕ
-is-image-jp2 = 844
+is-image-jp2 = 848
 
 abbrev pub is-image-jpeg : ℕ
-is-image-jpeg = 845
+is-image-jpeg = 849
 
 abbrev pub is-image-jph : ℕ
-is-image-jph = 846
+is-image-jph = 850
 
 abbrev pub is-image-jpm : ℕ
-is-image-jpm = 847
+is-image-jpm = 851
 
 abbrev pub is-image-jpx : ℕ
-is-image-jpx = 848
+is-image-jpx = 852
 
 abbrev pub is-image-jxl : ℕ
-is-image-jxl = 849
+is-image-jxl = 853
 
 abbrev pub is-image-ktx : ℕ
-is-image-ktx = 850
+is-image-ktx = 854
 
 abbrev pub is-image-ktx2 : ℕ
-is-image-ktx2 = 851
+is-image-ktx2 = 855
 
 abbrev pub is-image-openraster : ℕ
-is-image-openraster = 852
+is-image-openraster = 856
 
 abbrev pub is-image-png : ℕ
-is-image-png = 853
+is-image-png = 857
 
 abbrev pub is-image-pwg-raster : ℕ
-is-image-pwg-raster = 854
+is-image-pwg-raster = 858
 
 abbrev pub is-image-svg-xml : ℕ
-is-image-svg-xml = 855
+is-image-svg-xml = 859
 
 abbrev pub is-image-svg-xml-compressed : ℕ
-is-image-svg-xml-compressed = 856
+is-image-svg-xml-compressed = 860
 
 abbrev pub is-image-tiff : ℕ
-is-image-tiff = 857
+is-image-tiff = 861
 
 abbrev pub is-image-vnd-adobe-photoshop : ℕ
-is-image-vnd-adobe-photoshop = 858
+is-image-vnd-adobe-photoshop = 862
 
 abbrev pub is-image-vnd-djvu : ℕ
-is-image-vnd-djvu = 859
+is-image-vnd-djvu = 863
 
 abbrev pub is-image-vnd-dwg : ℕ
-is-image-vnd-dwg = 860
+is-image-vnd-dwg = 864
 
 abbrev pub is-image-vnd-dxf : ℕ
-is-image-vnd-dxf = 861
+is-image-vnd-dxf = 865
 
 abbrev pub is-image-vnd-fpx : ℕ
-is-image-vnd-fpx = 862
+is-image-vnd-fpx = 866
 
 abbrev pub is-image-vnd-microsoft-icon : ℕ
-is-image-vnd-microsoft-icon = 863
+is-image-vnd-microsoft-icon = 867
 
 abbrev pub is-image-vnd-ms-dds : ℕ
-is-image-vnd-ms-dds = 864
+is-image-vnd-ms-dds = 868
 
 abbrev pub is-image-vnd-ms-modi : ℕ
-is-image-vnd-ms-modi = 865
+is-image-vnd-ms-modi = 869
 
 abbrev pub is-image-vnd-ms-photo : ℕ
-is-image-vnd-ms-photo = 866
+is-image-vnd-ms-photo = 870
 
 abbrev pub is-image-vnd-radiance : ℕ
-is-image-vnd-radiance = 867
+is-image-vnd-radiance = 871
 
 abbrev pub is-image-vnd-valve-source-texture : ℕ
-is-image-vnd-valve-source-texture = 868
+is-image-vnd-valve-source-texture = 872
 
 abbrev pub is-image-vnd-zbrush-pcx : ℕ
-is-image-vnd-zbrush-pcx = 869
+is-image-vnd-zbrush-pcx = 873
 
 abbrev pub is-image-webp : ℕ
-is-image-webp = 870
+is-image-webp = 874
 
 abbrev pub is-image-wmf : ℕ
-is-image-wmf = 871
+is-image-wmf = 875
 
 abbrev pub is-image-x-3ds : ℕ
-is-image-x-3ds = 872
+is-image-x-3ds = 876
 
 abbrev pub is-image-x-adobe-dng : ℕ
-is-image-x-adobe-dng = 873
+is-image-x-adobe-dng = 877
 
 abbrev pub is-image-x-applix-graphics : ℕ
-is-image-x-applix-graphics = 874
+is-image-x-applix-graphics = 878
 
 abbrev pub is-image-x-award-bioslogo2 : ℕ
-is-image-x-award-bioslogo2 = 875
+is-image-x-award-bioslogo2 = 879
 
 abbrev pub is-image-x-blp : ℕ
-is-image-x-blp = 876
+is-image-x-blp = 880
 
 abbrev pub is-image-x-canon-cr2 : ℕ
-is-image-x-canon-cr2 = 877
+is-image-x-canon-cr2 = 881
 
 abbrev pub is-image-x-canon-cr3 : ℕ
-is-image-x-canon-cr3 = 878
+is-image-x-canon-cr3 = 882
 
 abbrev pub is-image-x-canon-crw : ℕ
-is-image-x-canon-crw = 879
+is-image-x-canon-crw = 883
 
 abbrev pub is-image-x-cmu-raster : ℕ
-is-image-x-cmu-raster = 880
+is-image-x-cmu-raster = 884
 
 abbrev pub is-image-x-cmx : ℕ
-is-image-x-cmx = 881
+is-image-x-cmx = 885
 
 abbrev pub is-image-x-corel-cpt : ℕ
-is-image-x-corel-cpt = 882
+is-image-x-corel-cpt = 886
 
 abbrev pub is-image-x-dcx : ℕ
-is-image-x-dcx = 883
+is-image-x-dcx = 887
 
 abbrev pub is-image-x-epoc-mbm : ℕ
-is-image-x-epoc-mbm = 884
+is-image-x-epoc-mbm = 888
 
 abbrev pub is-image-x-eps : ℕ
-is-image-x-eps = 885
+is-image-x-eps = 889
 
 abbrev pub is-image-x-epson-erf : ℕ
-is-image-x-epson-erf = 886
+is-image-x-epson-erf = 890
 
 abbrev pub is-image-x-exr : ℕ
-is-image-x-exr = 887
+is-image-x-exr = 891
 
 abbrev pub is-image-x-farbfeld : ℕ
-is-image-x-farbfeld = 888
+is-image-x-farbfeld = 892
 
 abbrev pub is-image-x-fuji-raf : ℕ
-is-image-x-fuji-raf = 889
+is-image-x-fuji-raf = 893
 
 abbrev pub is-image-x-gd2 : ℕ
-is-image-x-gd2 = 890
+is-image-x-gd2 = 894
 
 abbrev pub is-image-x-gimp-gbr : ℕ
-is-image-x-gimp-gbr = 891
+is-image-x-gimp-gbr = 895
 
 abbrev pub is-image-x-gimp-pat : ℕ
-is-image-x-gimp-pat = 892
+is-image-x-gimp-pat = 896
 
 abbrev pub is-image-x-godot-stex : ℕ
-is-image-x-godot-stex = 893
+is-image-x-godot-stex = 897
 
 abbrev pub is-image-x-hasselblad-3fr : ℕ
-is-image-x-hasselblad-3fr = 894
+is-image-x-hasselblad-3fr = 898
 
 abbrev pub is-image-x-hsi : ℕ
-is-image-x-hsi = 895
+is-image-x-hsi = 899
 
 abbrev pub is-image-x-icns : ℕ
-is-image-x-icns = 896
+is-image-x-icns = 900
 
 abbrev pub is-image-x-ilbm : ℕ
-is-image-x-ilbm = 897
+is-image-x-ilbm = 901
 
 abbrev pub is-image-x-itc : ℕ
-is-image-x-itc = 898
+is-image-x-itc = 902
 
 abbrev pub is-image-x-jbig2 : ℕ
-is-image-x-jbig2 = 899
+is-image-x-jbig2 = 903
 
 abbrev pub is-image-x-jng : ℕ
-is-image-x-jng = 900
+is-image-x-jng = 904
 
 abbrev pub is-image-x-jp2-codestream : ℕ
-is-image-x-jp2-codestream = 901
+is-image-x-jp2-codestream = 905
 
 abbrev pub is-image-x-kodak-dcr : ℕ
-is-image-x-kodak-dcr = 902
+is-image-x-kodak-dcr = 906
 
 abbrev pub is-image-x-kodak-kdc : ℕ
-is-image-x-kodak-kdc = 903
+is-image-x-kodak-kdc = 907
 
 abbrev pub is-image-x-lss16 : ℕ
-is-image-x-lss16 = 904
+is-image-x-lss16 = 908
 
 abbrev pub is-image-x-lwo : ℕ
-is-image-x-lwo = 905
+is-image-x-lwo = 909
 
 abbrev pub is-image-x-lytro-lfp : ℕ
-is-image-x-lytro-lfp = 906
+is-image-x-lytro-lfp = 910
 
 abbrev pub is-image-x-mamiya-mef : ℕ
-is-image-x-mamiya-mef = 907
+is-image-x-mamiya-mef = 911
 
 abbrev pub is-image-x-miff : ℕ
-is-image-x-miff = 908
+is-image-x-miff = 912
 
 abbrev pub is-image-x-minolta-mrw : ℕ
-is-image-x-minolta-mrw = 909
+is-image-x-minolta-mrw = 913
 
 abbrev pub is-image-x-mrc : ℕ
-is-image-x-mrc = 910
+is-image-x-mrc = 914
 
 abbrev pub is-image-x-mvg : ℕ
-is-image-x-mvg = 911
+is-image-x-mvg = 915
 
 abbrev pub is-image-x-niff : ℕ
-is-image-x-niff = 912
+is-image-x-niff = 916
 
 abbrev pub is-image-x-nikon-nef : ℕ
-is-image-x-nikon-nef = 913
+is-image-x-nikon-nef = 917
 
 abbrev pub is-image-x-nikon-nrw : ℕ
-is-image-x-nikon-nrw = 914
+is-image-x-nikon-nrw = 918
 
 abbrev pub is-image-x-olympus-orf : ℕ
-is-image-x-olympus-orf = 915
+is-image-x-olympus-orf = 919
 
 abbrev pub is-image-x-paintnet : ℕ
-is-image-x-paintnet = 916
+is-image-x-paintnet = 920
 
 abbrev pub is-image-x-paintshoppro : ℕ
-is-image-x-paintshoppro = 917
+is-image-x-paintshoppro = 921
 
 abbrev pub is-image-x-panasonic-rw2 : ℕ
-is-image-x-panasonic-rw2 = 918
+is-image-x-panasonic-rw2 = 922
 
 abbrev pub is-image-x-pentax-pef : ℕ
-is-image-x-pentax-pef = 919
+is-image-x-pentax-pef = 923
 
 abbrev pub is-image-x-pgf : ℕ
-is-image-x-pgf = 920
+is-image-x-pgf = 924
 
 abbrev pub is-image-x-phaseone-iiq : ℕ
-is-image-x-phaseone-iiq = 921
+is-image-x-phaseone-iiq = 925
 
 abbrev pub is-image-x-photo-cd : ℕ
-is-image-x-photo-cd = 922
+is-image-x-photo-cd = 926
 
 abbrev pub is-image-x-pic : ℕ
-is-image-x-pic = 923
+is-image-x-pic = 927
 
 abbrev pub is-image-x-pict : ℕ
-is-image-x-pict = 924
+is-image-x-pict = 928
 
 abbrev pub is-image-x-portable-anymap : ℕ
-is-image-x-portable-anymap = 925
+is-image-x-portable-anymap = 929
 
 abbrev pub is-image-x-portable-arbitrarymap : ℕ
-is-image-x-portable-arbitrarymap = 926
+is-image-x-portable-arbitrarymap = 930
 
 abbrev pub is-image-x-portable-bitmap : ℕ
-is-image-x-portable-bitmap = 927
+is-image-x-portable-bitmap = 931
 
 abbrev pub is-image-x-portable-floatmap : ℕ
-is-image-x-portable-floatmap = 928
+is-image-x-portable-floatmap = 932
 
 abbrev pub is-image-x-portable-graymap : ℕ
-is-image-x-portable-graymap = 929
+is-image-x-portable-graymap = 933
 
 abbrev pub is-image-x-portable-pixmap : ℕ
-is-image-x-portable-pixmap = 930
+is-image-x-portable-pixmap = 934
 
 abbrev pub is-image-x-pvr : ℕ
-is-image-x-pvr = 931
+is-image-x-pvr = 935
 
 abbrev pub is-image-x-qoi : ℕ
-is-image-x-qoi = 932
+is-image-x-qoi = 936
 
 abbrev pub is-image-x-quicktime : ℕ
-is-image-x-quicktime = 933
+is-image-x-quicktime = 937
 
 abbrev pub is-image-x-samsung-srw : ℕ
-is-image-x-samsung-srw = 934
+is-image-x-samsung-srw = 938
 
 abbrev pub is-image-x-sgi : ℕ
-is-image-x-sgi = 935
+is-image-x-sgi = 939
 
 abbrev pub is-image-x-sigma-x3f : ℕ
-is-image-x-sigma-x3f = 936
+is-image-x-sigma-x3f = 940
 
 abbrev pub is-image-x-skencil : ℕ
-is-image-x-skencil = 937
+is-image-x-skencil = 941
 
 abbrev pub is-image-x-sony-arw : ℕ
-is-image-x-sony-arw = 938
+is-image-x-sony-arw = 942
 
 abbrev pub is-image-x-sony-sr2 : ℕ
-is-image-x-sony-sr2 = 939
+is-image-x-sony-sr2 = 943
 
 abbrev pub is-image-x-sony-srf : ℕ
-is-image-x-sony-srf = 940
+is-image-x-sony-srf = 944
 
 abbrev pub is-image-x-svm : ℕ
-is-image-x-svm = 941
+is-image-x-svm = 945
 
 abbrev pub is-image-x-tga-as-known : ℕ
-is-image-x-tga-as-known = 942
+is-image-x-tga-as-known = 946
 
 abbrev pub is-image-x-tga-as-row-tga : ℕ
-is-image-x-tga-as-row-tga = 943
+is-image-x-tga-as-row-tga = 947
 
 abbrev pub is-image-x-vips : ℕ
-is-image-x-vips = 944
+is-image-x-vips = 948
 
 abbrev pub is-image-x-win-bitmap : ℕ
-is-image-x-win-bitmap = 945
+is-image-x-win-bitmap = 949
 
 abbrev pub is-image-x-wpg : ℕ
-is-image-x-wpg = 946
+is-image-x-wpg = 950
 
 abbrev pub is-image-x-xbitmap : ℕ
-is-image-x-xbitmap = 947
+is-image-x-xbitmap = 951
 
 abbrev pub is-image-x-xcf : ℕ
-is-image-x-xcf = 948
+is-image-x-xcf = 952
 
 abbrev pub is-image-x-xfig : ℕ
-is-image-x-xfig = 949
+is-image-x-xfig = 953
 
 abbrev pub is-image-x-xisf : ℕ
-is-image-x-xisf = 950
+is-image-x-xisf = 954
 
 abbrev pub is-image-x-xpixmap : ℕ
-is-image-x-xpixmap = 951
+is-image-x-xpixmap = 955
 
 abbrev pub is-image-x-xwindowdump : ℕ
-is-image-x-xwindowdump = 952
+is-image-x-xwindowdump = 956
 
 abbrev pub is-image-x-zeiss-czi : ℕ
-is-image-x-zeiss-czi = 953
+is-image-x-zeiss-czi = 957
 
 abbrev pub is-image-x-nifti : ℕ
-is-image-x-nifti = 954
+is-image-x-nifti = 958
 
 abbrev pub is-message-http : ℕ
-is-message-http = 955
+is-message-http = 959
 
 abbrev pub is-message-news : ℕ
-is-message-news = 956
+is-message-news = 960
 
 abbrev pub is-message-rfc822 : ℕ
-is-message-rfc822 = 957
+is-message-rfc822 = 961
 
 abbrev pub is-model-3mf : ℕ
-is-model-3mf = 958
+is-model-3mf = 962
 
 abbrev pub is-model-e57 : ℕ
-is-model-e57 = 959
+is-model-e57 = 963
 
 abbrev pub is-model-gltf-json : ℕ
-is-model-gltf-json = 960
+is-model-gltf-json = 964
 
 abbrev pub is-model-gltf-binary : ℕ
-is-model-gltf-binary = 961
+is-model-gltf-binary = 965
 
 abbrev pub is-model-iges : ℕ
-is-model-iges = 962
+is-model-iges = 966
 
 abbrev pub is-model-mtl : ℕ
-is-model-mtl = 963
+is-model-mtl = 967
 
 abbrev pub is-model-obj : ℕ
-is-model-obj = 964
+is-model-obj = 968
 
 abbrev pub is-model-step : ℕ
-is-model-step = 965
+is-model-step = 969
 
 abbrev pub is-model-stl : ℕ
-is-model-stl = 966
+is-model-stl = 970
 
 abbrev pub is-model-vnd-collada-xml : ℕ
-is-model-vnd-collada-xml = 967
+is-model-vnd-collada-xml = 971
 
 abbrev pub is-model-vnd-usda : ℕ
-is-model-vnd-usda = 968
+is-model-vnd-usda = 972
 
 abbrev pub is-model-vrml : ℕ
-is-model-vrml = 969
+is-model-vrml = 973
 
 abbrev pub is-model-x-milkshape : ℕ
-is-model-x-milkshape = 970
+is-model-x-milkshape = 974
 
 abbrev pub is-model-x-pcd : ℕ
-is-model-x-pcd = 971
+is-model-x-pcd = 975
 
 abbrev pub is-model-x3d-xml : ℕ
-is-model-x3d-xml = 972
+is-model-x3d-xml = 976
 
 abbrev pub is-model-x3d-vrml : ℕ
-is-model-x3d-vrml = 973
+is-model-x3d-vrml = 977
 
 abbrev pub is-multipart-related : ℕ
-is-multipart-related = 974
+is-multipart-related = 978
 
 abbrev pub is-text-cache-manifest : ℕ
-is-text-cache-manifest = 975
+is-text-cache-manifest = 979
 
 abbrev pub is-text-calendar : ℕ
-is-text-calendar = 976
+is-text-calendar = 980
 
 abbrev pub is-text-cql : ℕ
-is-text-cql = 977
+is-text-cql = 981
 
 abbrev pub is-text-css : ℕ
-is-text-css = 978
+is-text-css = 982
 
 abbrev pub is-text-csv : ℕ
-is-text-csv = 979
+is-text-csv = 983
 
 abbrev pub is-text-html : ℕ
-is-text-html = 980
+is-text-html = 984
 
 abbrev pub is-text-javascript : ℕ
-is-text-javascript = 981
+is-text-javascript = 985
 
 abbrev pub is-text-markdown : ℕ
-is-text-markdown = 982
+is-text-markdown = 986
 
 abbrev pub is-text-mdx : ℕ
-is-text-mdx = 983
+is-text-mdx = 987
 
 abbrev pub is-text-n3 : ℕ
-is-text-n3 = 984
+is-text-n3 = 988
 
 abbrev pub is-text-org : ℕ
-is-text-org = 985
+is-text-org = 989
 
 abbrev pub is-text-plain : ℕ
-is-text-plain = 986
+is-text-plain = 990
 
 abbrev pub is-text-rust : ℕ
-is-text-rust = 987
+is-text-rust = 991
 
 abbrev pub is-text-sgml : ℕ
-is-text-sgml = 988
+is-text-sgml = 992
 
 abbrev pub is-text-spreadsheet : ℕ
-is-text-spreadsheet = 989
+is-text-spreadsheet = 993
 
 abbrev pub is-text-tab-separated-values : ℕ
-is-text-tab-separated-values = 990
+is-text-tab-separated-values = 994
 
 abbrev pub is-text-troff : ℕ
-is-text-troff = 991
+is-text-troff = 995
 
 abbrev pub is-text-turtle : ℕ
-is-text-turtle = 992
+is-text-turtle = 996
 
 abbrev pub is-text-uri-list : ℕ
-is-text-uri-list = 993
+is-text-uri-list = 997
 
 abbrev pub is-text-vbscript : ℕ
-is-text-vbscript = 994
+is-text-vbscript = 998
 
 abbrev pub is-text-vcard : ℕ
-is-text-vcard = 995
+is-text-vcard = 999
 
 abbrev pub is-text-velocity : ℕ
-is-text-velocity = 996
+is-text-velocity = 1000
 
 abbrev pub is-text-vnd-abc : ℕ
-is-text-vnd-abc = 997
+is-text-vnd-abc = 1001
 
 abbrev pub is-text-vnd-familysearch-gedcom : ℕ
-is-text-vnd-familysearch-gedcom = 998
+is-text-vnd-familysearch-gedcom = 1002
 
 abbrev pub is-text-vnd-graphviz : ℕ
-is-text-vnd-graphviz = 999
+is-text-vnd-graphviz = 1003
 
 abbrev pub is-text-vnd-sun-j2me-app-descriptor : ℕ
-is-text-vnd-sun-j2me-app-descriptor = 1000
+is-text-vnd-sun-j2me-app-descriptor = 1004
 
 abbrev pub is-text-vnd-trolltech-linguist : ℕ
-is-text-vnd-trolltech-linguist = 1001
+is-text-vnd-trolltech-linguist = 1005
 
 abbrev pub is-text-vnd-wap-wml : ℕ
-is-text-vnd-wap-wml = 1002
+is-text-vnd-wap-wml = 1006
 
 abbrev pub is-text-vtt : ℕ
-is-text-vtt = 1003
+is-text-vtt = 1007
 
 abbrev pub is-text-wgsl : ℕ
-is-text-wgsl = 1004
+is-text-wgsl = 1008
 
 abbrev pub is-text-x-abap : ℕ
-is-text-x-abap = 1005
+is-text-x-abap = 1009
 
 abbrev pub is-text-x-adasrc : ℕ
-is-text-x-adasrc = 1006
+is-text-x-adasrc = 1010
 
 abbrev pub is-text-x-agda : ℕ
-is-text-x-agda = 1007
+is-text-x-agda = 1011
 
 abbrev pub is-text-x-aidl : ℕ
-is-text-x-aidl = 1008
+is-text-x-aidl = 1012
 
 abbrev pub is-text-x-ampl : ℕ
-is-text-x-ampl = 1009
+is-text-x-ampl = 1013
 
 abbrev pub is-text-x-antlr : ℕ
-is-text-x-antlr = 1010
+is-text-x-antlr = 1014
 
 abbrev pub is-text-x-apacheconf : ℕ
-is-text-x-apacheconf = 1011
+is-text-x-apacheconf = 1015
 
 abbrev pub is-text-x-apex : ℕ
-is-text-x-apex = 1012
+is-text-x-apex = 1016
 
 abbrev pub is-text-x-apl : ℕ
-is-text-x-apl = 1013
+is-text-x-apl = 1017
 
 abbrev pub is-text-x-applescript : ℕ
-is-text-x-applescript = 1014
+is-text-x-applescript = 1018
 
 abbrev pub is-text-x-asciidoc : ℕ
-is-text-x-asciidoc = 1015
+is-text-x-asciidoc = 1019
 
 abbrev pub is-text-x-asm : ℕ
-is-text-x-asm = 1016
+is-text-x-asm = 1020
 
 abbrev pub is-text-x-asn1 : ℕ
-is-text-x-asn1 = 1017
+is-text-x-asn1 = 1021
 
 abbrev pub is-text-x-astro : ℕ
-is-text-x-astro = 1018
+is-text-x-astro = 1022
 
 abbrev pub is-text-x-asymptote : ℕ
-is-text-x-asymptote = 1019
+is-text-x-asymptote = 1023
 
 abbrev pub is-text-x-autoconf : ℕ
-is-text-x-autoconf = 1020
+is-text-x-autoconf = 1024
 
 abbrev pub is-text-x-autohotkey : ℕ
-is-text-x-autohotkey = 1021
+is-text-x-autohotkey = 1025
 
 abbrev pub is-text-x-autoit : ℕ
-is-text-x-autoit = 1022
+is-text-x-autoit = 1026
 
 abbrev pub is-text-x-automake : ℕ
-is-text-x-automake = 1023
+is-text-x-automake = 1027
 
 abbrev pub is-text-x-awk : ℕ
-is-text-x-awk = 1024
+is-text-x-awk = 1028
 
 abbrev pub is-text-x-ballerina : ℕ
-is-text-x-ballerina = 1025
+is-text-x-ballerina = 1029
 
 abbrev pub is-text-x-basic : ℕ
-is-text-x-basic = 1026
+is-text-x-basic = 1030
 
 abbrev pub is-text-x-bats : ℕ
-is-text-x-bats = 1027
+is-text-x-bats = 1031
 
 abbrev pub is-text-x-bc : ℕ
-is-text-x-bc = 1028
+is-text-x-bc = 1032
 
 abbrev pub is-text-x-bed : ℕ
-is-text-x-bed = 1029
+is-text-x-bed = 1033
 
 abbrev pub is-text-x-bibtex : ℕ
-is-text-x-bibtex = 1030
+is-text-x-bibtex = 1034
 
 abbrev pub is-text-x-bicep : ℕ
-is-text-x-bicep = 1031
+is-text-x-bicep = 1035
 
 abbrev pub is-text-x-bitbake : ℕ
-is-text-x-bitbake = 1032
+is-text-x-bitbake = 1036
 
 abbrev pub is-text-x-blade : ℕ
-is-text-x-blade = 1033
+is-text-x-blade = 1037
 
 abbrev pub is-text-x-bluespec : ℕ
-is-text-x-bluespec = 1034
+is-text-x-bluespec = 1038
 
 abbrev pub is-text-x-boo : ℕ
-is-text-x-boo = 1035
+is-text-x-boo = 1039
 
 abbrev pub is-text-x-bpftrace : ℕ
-is-text-x-bpftrace = 1036
+is-text-x-bpftrace = 1040
 
 abbrev pub is-text-x-bugs : ℕ
-is-text-x-bugs = 1037
+is-text-x-bugs = 1041
 
 abbrev pub is-text-x-c-hdr : ℕ
-is-text-x-c-hdr = 1038
+is-text-x-c-hdr = 1042
 
 abbrev pub is-text-x-c-src : ℕ
-is-text-x-c-src = 1039
+is-text-x-c-src = 1043
 
 abbrev pub is-text-x-cabal : ℕ
-is-text-x-cabal = 1040
+is-text-x-cabal = 1044
 
 abbrev pub is-text-x-cairo : ℕ
-is-text-x-cairo = 1041
+is-text-x-cairo = 1045
 
 abbrev pub is-text-x-capnp : ℕ
-is-text-x-capnp = 1042
+is-text-x-capnp = 1046
 
 abbrev pub is-text-x-cfm : ℕ
-is-text-x-cfm = 1043
+is-text-x-cfm = 1047
 
 abbrev pub is-text-x-chapel : ℕ
-is-text-x-chapel = 1044
+is-text-x-chapel = 1048
 
 abbrev pub is-text-x-chdr : ℕ
-is-text-x-chdr = 1045
+is-text-x-chdr = 1049
 
 abbrev pub is-text-x-checksums : ℕ
-is-text-x-checksums = 1046
+is-text-x-checksums = 1050
 
 abbrev pub is-text-x-chuck : ℕ
-is-text-x-chuck = 1047
+is-text-x-chuck = 1051
 
 abbrev pub is-text-x-clojure : ℕ
-is-text-x-clojure = 1048
+is-text-x-clojure = 1052
 
 abbrev pub is-text-x-cmake : ℕ
-is-text-x-cmake = 1049
+is-text-x-cmake = 1053
 
 abbrev pub is-text-x-cobol : ℕ
-is-text-x-cobol = 1050
+is-text-x-cobol = 1054
 
 abbrev pub is-text-x-cocci : ℕ
-is-text-x-cocci = 1051
+is-text-x-cocci = 1055
 
 abbrev pub is-text-x-common-lisp : ℕ
-is-text-x-common-lisp = 1052
+is-text-x-common-lisp = 1056
 
 abbrev pub is-text-x-component : ℕ
-is-text-x-component = 1053
+is-text-x-component = 1057
 
 abbrev pub is-text-x-coq : ℕ
-is-text-x-coq = 1054
+is-text-x-coq = 1058
 
 abbrev pub is-text-x-cppconf : ℕ
-is-text-x-cppconf = 1055
+is-text-x-cppconf = 1059
 
 abbrev pub is-text-x-creole : ℕ
-is-text-x-creole = 1056
+is-text-x-creole = 1060
 
 abbrev pub is-text-x-cron : ℕ
-is-text-x-cron = 1057
+is-text-x-cron = 1061
 
 abbrev pub is-text-x-crystal : ℕ
-is-text-x-crystal = 1058
+is-text-x-crystal = 1062
 
 abbrev pub is-text-x-csharp : ℕ
-is-text-x-csharp = 1059
+is-text-x-csharp = 1063
 
 abbrev pub is-text-x-csound : ℕ
-is-text-x-csound = 1060
+is-text-x-csound = 1064
 
 abbrev pub is-text-x-csrc : ℕ
-is-text-x-csrc = 1061
+is-text-x-csrc = 1065
 
 abbrev pub is-text-x-cuda : ℕ
-is-text-x-cuda = 1062
+is-text-x-cuda = 1066
 
 abbrev pub is-text-x-cwl : ℕ
-is-text-x-cwl = 1063
+is-text-x-cwl = 1067
 
 abbrev pub is-text-x-cypher : ℕ
-is-text-x-cypher = 1064
+is-text-x-cypher = 1068
 
 abbrev pub is-text-x-cython : ℕ
-is-text-x-cython = 1065
+is-text-x-cython = 1069
 
 abbrev pub is-text-x-d2 : ℕ
-is-text-x-d2 = 1066
+is-text-x-d2 = 1070
 
 abbrev pub is-text-x-dart : ℕ
-is-text-x-dart = 1067
+is-text-x-dart = 1071
 
 abbrev pub is-text-x-dbus-service : ℕ
-is-text-x-dbus-service = 1068
+is-text-x-dbus-service = 1072
 
 abbrev pub is-text-x-debian-control : ℕ
-is-text-x-debian-control = 1069
+is-text-x-debian-control = 1073
 
 abbrev pub is-text-x-dhall : ℕ
-is-text-x-dhall = 1070
+is-text-x-dhall = 1074
 
 abbrev pub is-text-x-dimacs : ℕ
-is-text-x-dimacs = 1071
+is-text-x-dimacs = 1075
 
 abbrev pub is-text-x-dns-zone : ℕ
-is-text-x-dns-zone = 1072
+is-text-x-dns-zone = 1076
 
 abbrev pub is-text-x-dockerfile : ℕ
-is-text-x-dockerfile = 1073
+is-text-x-dockerfile = 1077
 
 abbrev pub is-text-x-dotenv : ℕ
-is-text-x-dotenv = 1074
+is-text-x-dotenv = 1078
 
 abbrev pub is-text-x-dsrc : ℕ
-is-text-x-dsrc = 1075
+is-text-x-dsrc = 1079
 
 abbrev pub is-text-x-dts : ℕ
-is-text-x-dts = 1076
+is-text-x-dts = 1080
 
 abbrev pub is-text-x-dune : ℕ
-is-text-x-dune = 1077
+is-text-x-dune = 1081
 
 abbrev pub is-text-x-ebnf : ℕ
-is-text-x-ebnf = 1078
+is-text-x-ebnf = 1082
 
 abbrev pub is-text-x-ebuild : ℕ
-is-text-x-ebuild = 1079
+is-text-x-ebuild = 1083
 
 abbrev pub is-text-x-editorconfig : ℕ
-is-text-x-editorconfig = 1080
+is-text-x-editorconfig = 1084
 
 abbrev pub is-text-x-eex : ℕ
-is-text-x-eex = 1081
+is-text-x-eex = 1085
 
 abbrev pub is-text-x-eiffel : ℕ
-is-text-x-eiffel = 1082
+is-text-x-eiffel = 1086
 
 abbrev pub is-text-x-ejs : ℕ
-is-text-x-ejs = 1083
+is-text-x-ejs = 1087
 
 abbrev pub is-text-x-elixir : ℕ
-is-text-x-elixir = 1084
+is-text-x-elixir = 1088
 
 abbrev pub is-text-x-elm : ℕ
-is-text-x-elm = 1085
+is-text-x-elm = 1089
 
 abbrev pub is-text-x-emacs-config : ℕ
-is-text-x-emacs-config = 1086
+is-text-x-emacs-config = 1090
 
 abbrev pub is-text-x-emacs-lisp : ℕ
-is-text-x-emacs-lisp = 1087
+is-text-x-emacs-lisp = 1091
 
 abbrev pub is-text-x-erlang : ℕ
-is-text-x-erlang = 1088
+is-text-x-erlang = 1092
 
 abbrev pub is-text-x-expect : ℕ
-is-text-x-expect = 1089
+is-text-x-expect = 1093
 
 abbrev pub is-text-x-factor : ℕ
-is-text-x-factor = 1090
+is-text-x-factor = 1094
 
 abbrev pub is-text-x-fasta : ℕ
-is-text-x-fasta = 1091
+is-text-x-fasta = 1095
 
 abbrev pub is-text-x-fastq : ℕ
-is-text-x-fastq = 1092
+is-text-x-fastq = 1096
 
 abbrev pub is-text-x-fennel : ℕ
-is-text-x-fennel = 1093
+is-text-x-fennel = 1097
 
 abbrev pub is-text-x-flatbuffers : ℕ
-is-text-x-flatbuffers = 1094
+is-text-x-flatbuffers = 1098
 
 abbrev pub is-text-x-forth : ℕ
-is-text-x-forth = 1095
+is-text-x-forth = 1099
 
 abbrev pub is-text-x-fortran : ℕ
-is-text-x-fortran = 1096
+is-text-x-fortran = 1100
 
 abbrev pub is-text-x-fountain : ℕ
-is-text-x-fountain = 1097
+is-text-x-fountain = 1101
 
 abbrev pub is-text-x-freemarker : ℕ
-is-text-x-freemarker = 1098
+is-text-x-freemarker = 1102
 
 abbrev pub is-text-x-fsharp : ℕ
-is-text-x-fsharp = 1099
+is-text-x-fsharp = 1103
 
 abbrev pub is-text-x-gams : ℕ
-is-text-x-gams = 1100
+is-text-x-gams = 1104
 
 abbrev pub is-text-x-gap : ℕ
-is-text-x-gap = 1101
+is-text-x-gap = 1105
 
 abbrev pub is-text-x-gcode-gx : ℕ
-is-text-x-gcode-gx = 1102
+is-text-x-gcode-gx = 1106
 
 abbrev pub is-text-x-gdb : ℕ
-is-text-x-gdb = 1103
+is-text-x-gdb = 1107
 
 abbrev pub is-text-x-genbank : ℕ
-is-text-x-genbank = 1104
+is-text-x-genbank = 1108
 
 abbrev pub is-text-x-genie : ℕ
-is-text-x-genie = 1105
+is-text-x-genie = 1109
 
 abbrev pub is-text-x-gerber : ℕ
-is-text-x-gerber = 1106
+is-text-x-gerber = 1110
 
 abbrev pub is-text-x-gettext-translation : ℕ
-is-text-x-gettext-translation = 1107
+is-text-x-gettext-translation = 1111
 
 abbrev pub is-text-x-gettext-translation-template : ℕ
-is-text-x-gettext-translation-template = 1108
+is-text-x-gettext-translation-template = 1112
 
 abbrev pub is-text-x-gff : ℕ
-is-text-x-gff = 1109
+is-text-x-gff = 1113
 
 abbrev pub is-text-x-gff3 : ℕ
-is-text-x-gff3 = 1110
+is-text-x-gff3 = 1114
 
 abbrev pub is-text-x-gfortran-module : ℕ
-is-text-x-gfortran-module = 1111
+is-text-x-gfortran-module = 1115
 
 abbrev pub is-text-x-gherkin : ℕ
-is-text-x-gherkin = 1112
+is-text-x-gherkin = 1116
 
 abbrev pub is-text-x-gimp-ggr : ℕ
-is-text-x-gimp-ggr = 1113
+is-text-x-gimp-ggr = 1117
 
 abbrev pub is-text-x-gimp-gpl : ℕ
-is-text-x-gimp-gpl = 1114
+is-text-x-gimp-gpl = 1118
 
 abbrev pub is-text-x-gitattributes : ℕ
-is-text-x-gitattributes = 1115
+is-text-x-gitattributes = 1119
 
 abbrev pub is-text-x-gitconfig : ℕ
-is-text-x-gitconfig = 1116
+is-text-x-gitconfig = 1120
 
 abbrev pub is-text-x-gitignore : ℕ
-is-text-x-gitignore = 1117
+is-text-x-gitignore = 1121
 
 abbrev pub is-text-x-gleam : ℕ
-is-text-x-gleam = 1118
+is-text-x-gleam = 1122
 
 abbrev pub is-text-x-glsl : ℕ
-is-text-x-glsl = 1119
+is-text-x-glsl = 1123
 
 abbrev pub is-text-x-gn : ℕ
-is-text-x-gn = 1120
+is-text-x-gn = 1124
 
 abbrev pub is-text-x-go : ℕ
-is-text-x-go = 1121
+is-text-x-go = 1125
 
 abbrev pub is-text-x-gomod : ℕ
-is-text-x-gomod = 1122
+is-text-x-gomod = 1126
 
 abbrev pub is-text-x-gosum : ℕ
-is-text-x-gosum = 1123
+is-text-x-gosum = 1127
 
 abbrev pub is-text-x-gotemplate : ℕ
-is-text-x-gotemplate = 1124
+is-text-x-gotemplate = 1128
 
 abbrev pub is-text-x-gpr : ℕ
-is-text-x-gpr = 1125
+is-text-x-gpr = 1129
 
 abbrev pub is-text-x-gradle : ℕ
-is-text-x-gradle = 1126
+is-text-x-gradle = 1130
 
 abbrev pub is-text-x-groovy : ℕ
-is-text-x-groovy = 1127
+is-text-x-groovy = 1131
 
 abbrev pub is-text-x-haml : ℕ
-is-text-x-haml = 1128
+is-text-x-haml = 1132
 
 abbrev pub is-text-x-handlebars : ℕ
-is-text-x-handlebars = 1129
+is-text-x-handlebars = 1133
 
 abbrev pub is-text-x-haskell : ℕ
-is-text-x-haskell = 1130
+is-text-x-haskell = 1134
 
 abbrev pub is-text-x-haxe : ℕ
-is-text-x-haxe = 1131
+is-text-x-haxe = 1135
 
 abbrev pub is-text-x-hcl : ℕ
-is-text-x-hcl = 1132
+is-text-x-hcl = 1136
 
 abbrev pub is-text-x-hive : ℕ
-is-text-x-hive = 1133
+is-text-x-hive = 1137
 
 abbrev pub is-text-x-hlsl : ℕ
-is-text-x-hlsl = 1134
+is-text-x-hlsl = 1138
 
 abbrev pub is-text-x-hunspell-affix : ℕ
-is-text-x-hunspell-affix = 1135
+is-text-x-hunspell-affix = 1139
 
 abbrev pub is-text-x-hy : ℕ
-is-text-x-hy = 1136
+is-text-x-hy = 1140
 
 abbrev pub is-text-x-icon-theme : ℕ
-is-text-x-icon-theme = 1137
+is-text-x-icon-theme = 1141
 
 abbrev pub is-text-x-idl : ℕ
-is-text-x-idl = 1138
+is-text-x-idl = 1142
 
 abbrev pub is-text-x-idris : ℕ
-is-text-x-idris = 1139
+is-text-x-idris = 1143
 
 abbrev pub is-text-x-igor : ℕ
-is-text-x-igor = 1140
+is-text-x-igor = 1144
 
 abbrev pub is-text-x-imagej : ℕ
-is-text-x-imagej = 1141
+is-text-x-imagej = 1145
 
 abbrev pub is-text-x-imelody : ℕ
-is-text-x-imelody = 1142
+is-text-x-imelody = 1146
 
 abbrev pub is-text-x-info : ℕ
-is-text-x-info = 1143
+is-text-x-info = 1147
 
 abbrev pub is-text-x-ini : ℕ
-is-text-x-ini = 1144
+is-text-x-ini = 1148
 
 abbrev pub is-text-x-innosetup : ℕ
-is-text-x-innosetup = 1145
+is-text-x-innosetup = 1149
 
 abbrev pub is-text-x-io : ℕ
-is-text-x-io = 1146
+is-text-x-io = 1150
 
 abbrev pub is-text-x-ipxe : ℕ
-is-text-x-ipxe = 1147
+is-text-x-ipxe = 1151
 
 abbrev pub is-text-x-irclog : ℕ
-is-text-x-irclog = 1148
+is-text-x-irclog = 1152
 
 abbrev pub is-text-x-isabelle : ℕ
-is-text-x-isabelle = 1149
+is-text-x-isabelle = 1153
 
 abbrev pub is-text-x-janet : ℕ
-is-text-x-janet = 1150
+is-text-x-janet = 1154
 
 abbrev pub is-text-x-java : ℕ
-is-text-x-java = 1151
+is-text-x-java = 1155
 
 abbrev pub is-text-x-java-manifest : ℕ
-is-text-x-java-manifest = 1152
+is-text-x-java-manifest = 1156
 
 abbrev pub is-text-x-java-properties : ℕ
-is-text-x-java-properties = 1153
+is-text-x-java-properties = 1157
 
 abbrev pub is-text-x-jcl : ℕ
-is-text-x-jcl = 1154
+is-text-x-jcl = 1158
 
 abbrev pub is-text-x-jelly : ℕ
-is-text-x-jelly = 1155
+is-text-x-jelly = 1159
 
 abbrev pub is-text-x-jinja : ℕ
-is-text-x-jinja = 1156
+is-text-x-jinja = 1160
 
 abbrev pub is-text-x-jq : ℕ
-is-text-x-jq = 1157
+is-text-x-jq = 1161
 
 abbrev pub is-text-x-julia : ℕ
-is-text-x-julia = 1158
+is-text-x-julia = 1162
 
 abbrev pub is-text-x-just : ℕ
-is-text-x-just = 1159
+is-text-x-just = 1163
 
 abbrev pub is-text-x-kaitai-struct : ℕ
-is-text-x-kaitai-struct = 1160
+is-text-x-kaitai-struct = 1164
 
 abbrev pub is-text-x-kconfig : ℕ
-is-text-x-kconfig = 1161
+is-text-x-kconfig = 1165
 
 abbrev pub is-text-x-kickstart : ℕ
-is-text-x-kickstart = 1162
+is-text-x-kickstart = 1166
 
 abbrev pub is-text-x-kotlin : ℕ
-is-text-x-kotlin = 1163
+is-text-x-kotlin = 1167
 
 abbrev pub is-text-x-krl : ℕ
-is-text-x-krl = 1164
+is-text-x-krl = 1168
 
 abbrev pub is-text-x-kusto : ℕ
-is-text-x-kusto = 1165
+is-text-x-kusto = 1169
 
 abbrev pub is-text-x-latte : ℕ
-is-text-x-latte = 1166
+is-text-x-latte = 1170
 
 abbrev pub is-text-x-ld-script : ℕ
-is-text-x-ld-script = 1167
+is-text-x-ld-script = 1171
 
 abbrev pub is-text-x-ldif : ℕ
-is-text-x-ldif = 1168
+is-text-x-ldif = 1172
 
 abbrev pub is-text-x-lean : ℕ
-is-text-x-lean = 1169
+is-text-x-lean = 1173
 
 abbrev pub is-text-x-less : ℕ
-is-text-x-less = 1170
+is-text-x-less = 1174
 
 abbrev pub is-text-x-lex : ℕ
-is-text-x-lex = 1171
+is-text-x-lex = 1175
 
 abbrev pub is-text-x-lfe : ℕ
-is-text-x-lfe = 1172
+is-text-x-lfe = 1176
 
 abbrev pub is-text-x-lilypond : ℕ
-is-text-x-lilypond = 1173
+is-text-x-lilypond = 1177
 
 abbrev pub is-text-x-liquid : ℕ
-is-text-x-liquid = 1174
+is-text-x-liquid = 1178
 
 abbrev pub is-text-x-literate-haskell : ℕ
-is-text-x-literate-haskell = 1175
+is-text-x-literate-haskell = 1179
 
 abbrev pub is-text-x-livescript : ℕ
-is-text-x-livescript = 1176
+is-text-x-livescript = 1180
 
 abbrev pub is-text-x-llvm : ℕ
-is-text-x-llvm = 1177
+is-text-x-llvm = 1181
 
 abbrev pub is-text-x-logtalk : ℕ
-is-text-x-logtalk = 1178
+is-text-x-logtalk = 1182
 
 abbrev pub is-text-x-lsl : ℕ
-is-text-x-lsl = 1179
+is-text-x-lsl = 1183
 
 abbrev pub is-text-x-lua : ℕ
-is-text-x-lua = 1180
+is-text-x-lua = 1184
 
 abbrev pub is-text-x-luatex : ℕ
-is-text-x-luatex = 1181
+is-text-x-luatex = 1185
 
 abbrev pub is-text-x-makefile : ℕ
-is-text-x-makefile = 1182
+is-text-x-makefile = 1186
 
 abbrev pub is-text-x-mako : ℕ
-is-text-x-mako = 1183
+is-text-x-mako = 1187
 
 abbrev pub is-text-x-marko : ℕ
-is-text-x-marko = 1184
+is-text-x-marko = 1188
 
 abbrev pub is-text-x-matlab : ℕ
-is-text-x-matlab = 1185
+is-text-x-matlab = 1189
 
 abbrev pub is-text-x-maven-xml : ℕ
-is-text-x-maven-xml = 1186
+is-text-x-maven-xml = 1190
 
 abbrev pub is-text-x-maxima : ℕ
-is-text-x-maxima = 1187
+is-text-x-maxima = 1191
 
 abbrev pub is-text-x-mcfunction : ℕ
-is-text-x-mcfunction = 1188
+is-text-x-mcfunction = 1192
 
 abbrev pub is-text-x-mediawiki : ℕ
-is-text-x-mediawiki = 1189
+is-text-x-mediawiki = 1193
 
 abbrev pub is-text-x-mermaid : ℕ
-is-text-x-mermaid = 1190
+is-text-x-mermaid = 1194
 
 abbrev pub is-text-x-meson : ℕ
-is-text-x-meson = 1191
+is-text-x-meson = 1195
 
 abbrev pub is-text-x-metafont : ℕ
-is-text-x-metafont = 1192
+is-text-x-metafont = 1196
 
 abbrev pub is-text-x-metal : ℕ
-is-text-x-metal = 1193
+is-text-x-metal = 1197
 
 abbrev pub is-text-x-mib : ℕ
-is-text-x-mib = 1194
+is-text-x-mib = 1198
 
 abbrev pub is-text-x-mirc : ℕ
-is-text-x-mirc = 1195
+is-text-x-mirc = 1199
 
 abbrev pub is-text-x-mlir : ℕ
-is-text-x-mlir = 1196
+is-text-x-mlir = 1200
 
 abbrev pub is-text-x-modelica : ℕ
-is-text-x-modelica = 1197
+is-text-x-modelica = 1201
 
 abbrev pub is-text-x-modula : ℕ
-is-text-x-modula = 1198
+is-text-x-modula = 1202
 
 abbrev pub is-text-x-mojo : ℕ
-is-text-x-mojo = 1199
+is-text-x-mojo = 1203
 
 abbrev pub is-text-x-monkey : ℕ
-is-text-x-monkey = 1200
+is-text-x-monkey = 1204
 
 abbrev pub is-text-x-moonscript : ℕ
-is-text-x-moonscript = 1201
+is-text-x-moonscript = 1205
 
 abbrev pub is-text-x-move : ℕ
-is-text-x-move = 1202
+is-text-x-move = 1206
 
 abbrev pub is-text-x-mpsub : ℕ
-is-text-x-mpsub = 1203
+is-text-x-mpsub = 1207
 
 abbrev pub is-text-x-ms-regedit : ℕ
-is-text-x-ms-regedit = 1204
+is-text-x-ms-regedit = 1208
 
 abbrev pub is-text-x-msdos-batch : ℕ
-is-text-x-msdos-batch = 1205
+is-text-x-msdos-batch = 1209
 
 abbrev pub is-text-x-mup : ℕ
-is-text-x-mup = 1206
+is-text-x-mup = 1210
 
 abbrev pub is-text-x-newick : ℕ
-is-text-x-newick = 1207
+is-text-x-newick = 1211
 
 abbrev pub is-text-x-nextflow : ℕ
-is-text-x-nextflow = 1208
+is-text-x-nextflow = 1212
 
 abbrev pub is-text-x-nexus : ℕ
-is-text-x-nexus = 1209
+is-text-x-nexus = 1213
 
 abbrev pub is-text-x-nftables : ℕ
-is-text-x-nftables = 1210
+is-text-x-nftables = 1214
 
 abbrev pub is-text-x-nginx-conf : ℕ
-is-text-x-nginx-conf = 1211
+is-text-x-nginx-conf = 1215
 
 abbrev pub is-text-x-nim : ℕ
-is-text-x-nim = 1212
+is-text-x-nim = 1216
 
 abbrev pub is-text-x-ninja : ℕ
-is-text-x-ninja = 1213
+is-text-x-ninja = 1217
 
 abbrev pub is-text-x-nix : ℕ
-is-text-x-nix = 1214
+is-text-x-nix = 1218
 
 abbrev pub is-text-x-nsis : ℕ
-is-text-x-nsis = 1215
+is-text-x-nsis = 1219
 
 abbrev pub is-text-x-nushell : ℕ
-is-text-x-nushell = 1216
+is-text-x-nushell = 1220
 
 abbrev pub is-text-x-objc-src : ℕ
-is-text-x-objc-src = 1217
+is-text-x-objc-src = 1221
 
 abbrev pub is-text-x-objcsrc : ℕ
-is-text-x-objcsrc = 1218
+is-text-x-objcsrc = 1222
 
 abbrev pub is-text-x-ocaml : ℕ
-is-text-x-ocaml = 1219
+is-text-x-ocaml = 1223
 
 abbrev pub is-text-x-octave : ℕ
-is-text-x-octave = 1220
+is-text-x-octave = 1224
 
 abbrev pub is-text-x-odin : ℕ
-is-text-x-odin = 1221
+is-text-x-odin = 1225
 
 abbrev pub is-text-x-ooc : ℕ
-is-text-x-ooc = 1222
+is-text-x-ooc = 1226
 
 abbrev pub is-text-x-opencl-src : ℕ
-is-text-x-opencl-src = 1223
+is-text-x-opencl-src = 1227
 
 abbrev pub is-text-x-openscad : ℕ
-is-text-x-openscad = 1224
+is-text-x-openscad = 1228
 
 abbrev pub is-text-x-opentype-feature : ℕ
-is-text-x-opentype-feature = 1225
+is-text-x-opentype-feature = 1229
 
 abbrev pub is-text-x-opml-xml : ℕ
-is-text-x-opml-xml = 1226
+is-text-x-opml-xml = 1230
 
 abbrev pub is-text-x-oz : ℕ
-is-text-x-oz = 1227
+is-text-x-oz = 1231
 
 abbrev pub is-text-x-pascal : ℕ
-is-text-x-pascal = 1228
+is-text-x-pascal = 1232
 
 abbrev pub is-text-x-patch : ℕ
-is-text-x-patch = 1229
+is-text-x-patch = 1233
 
 abbrev pub is-text-x-pawn : ℕ
-is-text-x-pawn = 1230
+is-text-x-pawn = 1234
 
 abbrev pub is-text-x-perl : ℕ
-is-text-x-perl = 1231
+is-text-x-perl = 1235
 
 abbrev pub is-text-x-php : ℕ
-is-text-x-php = 1232
+is-text-x-php = 1236
 
 abbrev pub is-text-x-pic : ℕ
-is-text-x-pic = 1233
+is-text-x-pic = 1237
 
 abbrev pub is-text-x-pig : ℕ
-is-text-x-pig = 1234
+is-text-x-pig = 1238
 
 abbrev pub is-text-x-pike : ℕ
-is-text-x-pike = 1235
+is-text-x-pike = 1239
 
 abbrev pub is-text-x-pkg-config : ℕ
-is-text-x-pkg-config = 1236
+is-text-x-pkg-config = 1240
 
 abbrev pub is-text-x-plantuml : ℕ
-is-text-x-plantuml = 1237
+is-text-x-plantuml = 1241
 
 abbrev pub is-text-x-pli : ℕ
-is-text-x-pli = 1238
+is-text-x-pli = 1242
 
 abbrev pub is-text-x-pod : ℕ
-is-text-x-pod = 1239
+is-text-x-pod = 1243
 
 abbrev pub is-text-x-pony : ℕ
-is-text-x-pony = 1240
+is-text-x-pony = 1244
 
 abbrev pub is-text-x-postcss : ℕ
-is-text-x-postcss = 1241
+is-text-x-postcss = 1245
 
 abbrev pub is-text-x-praat : ℕ
-is-text-x-praat = 1242
+is-text-x-praat = 1246
 
 abbrev pub is-text-x-preseed : ℕ
-is-text-x-preseed = 1243
+is-text-x-preseed = 1247
 
 abbrev pub is-text-x-prisma : ℕ
-is-text-x-prisma = 1244
+is-text-x-prisma = 1248
 
 abbrev pub is-text-x-procfile : ℕ
-is-text-x-procfile = 1245
+is-text-x-procfile = 1249
 
 abbrev pub is-text-x-prolog : ℕ
-is-text-x-prolog = 1246
+is-text-x-prolog = 1250
 
 abbrev pub is-text-x-protobuf : ℕ
-is-text-x-protobuf = 1247
+is-text-x-protobuf = 1251
 
 abbrev pub is-text-x-psv : ℕ
-is-text-x-psv = 1248
+is-text-x-psv = 1252
 
 abbrev pub is-text-x-pth : ℕ
-is-text-x-pth = 1249
+is-text-x-pth = 1253
 
 abbrev pub is-text-x-pug : ℕ
-is-text-x-pug = 1250
+is-text-x-pug = 1254
 
 abbrev pub is-text-x-puppet : ℕ
-is-text-x-puppet = 1251
+is-text-x-puppet = 1255
 
 abbrev pub is-text-x-purescript : ℕ
-is-text-x-purescript = 1252
+is-text-x-purescript = 1256
 
 abbrev pub is-text-x-python-as-known : ℕ
-is-text-x-python-as-known = 1253
+is-text-x-python-as-known = 1257
 
 abbrev pub is-text-x-python-as-row-py : ℕ
-is-text-x-python-as-row-py = 1254
+is-text-x-python-as-row-py = 1258
 
 abbrev pub is-text-x-qmake : ℕ
-is-text-x-qmake = 1255
+is-text-x-qmake = 1259
 
 abbrev pub is-text-x-qml : ℕ
-is-text-x-qml = 1256
+is-text-x-qml = 1260
 
 abbrev pub is-text-x-r-doc : ℕ
-is-text-x-r-doc = 1257
+is-text-x-r-doc = 1261
 
 abbrev pub is-text-x-racket : ℕ
-is-text-x-racket = 1258
+is-text-x-racket = 1262
 
 abbrev pub is-text-x-ragel : ℕ
-is-text-x-ragel = 1259
+is-text-x-ragel = 1263
 
 abbrev pub is-text-x-raku : ℕ
-is-text-x-raku = 1260
+is-text-x-raku = 1264
 
 abbrev pub is-text-x-razor : ℕ
-is-text-x-razor = 1261
+is-text-x-razor = 1265
 
 abbrev pub is-text-x-rdoc : ℕ
-is-text-x-rdoc = 1262
+is-text-x-rdoc = 1266
 
 abbrev pub is-text-x-readline : ℕ
-is-text-x-readline = 1263
+is-text-x-readline = 1267
 
 abbrev pub is-text-x-reason : ℕ
-is-text-x-reason = 1264
+is-text-x-reason = 1268
 
 abbrev pub is-text-x-rebol : ℕ
-is-text-x-rebol = 1265
+is-text-x-rebol = 1269
 
 abbrev pub is-text-x-red : ℕ
-is-text-x-red = 1266
+is-text-x-red = 1270
 
 abbrev pub is-text-x-rego : ℕ
-is-text-x-rego = 1267
+is-text-x-rego = 1271
 
 abbrev pub is-text-x-reject : ℕ
-is-text-x-reject = 1268
+is-text-x-reject = 1272
 
 abbrev pub is-text-x-rexx : ℕ
-is-text-x-rexx = 1269
+is-text-x-rexx = 1273
 
 abbrev pub is-text-x-ring : ℕ
-is-text-x-ring = 1270
+is-text-x-ring = 1274
 
 abbrev pub is-text-x-rmarkdown : ℕ
-is-text-x-rmarkdown = 1271
+is-text-x-rmarkdown = 1275
 
 abbrev pub is-text-x-robotframework : ℕ
-is-text-x-robotframework = 1272
+is-text-x-robotframework = 1276
 
 abbrev pub is-text-x-roc : ℕ
-is-text-x-roc = 1273
+is-text-x-roc = 1277
 
 abbrev pub is-text-x-rpgle : ℕ
-is-text-x-rpgle = 1274
+is-text-x-rpgle = 1278
 
 abbrev pub is-text-x-rpm-spec : ℕ
-is-text-x-rpm-spec = 1275
+is-text-x-rpm-spec = 1279
 
 abbrev pub is-text-x-rsrc : ℕ
-is-text-x-rsrc = 1276
+is-text-x-rsrc = 1280
 
 abbrev pub is-text-x-rst : ℕ
-is-text-x-rst = 1277
+is-text-x-rst = 1281
 
 abbrev pub is-text-x-ruby : ℕ
-is-text-x-ruby = 1278
+is-text-x-ruby = 1282
 
 abbrev pub is-text-x-sagemath : ℕ
-is-text-x-sagemath = 1279
+is-text-x-sagemath = 1283
 
 abbrev pub is-text-x-sam : ℕ
-is-text-x-sam = 1280
+is-text-x-sam = 1284
 
 abbrev pub is-text-x-sas : ℕ
-is-text-x-sas = 1281
+is-text-x-sas = 1285
 
 abbrev pub is-text-x-sass : ℕ
-is-text-x-sass = 1282
+is-text-x-sass = 1286
 
 abbrev pub is-text-x-scala : ℕ
-is-text-x-scala = 1283
+is-text-x-scala = 1287
 
 abbrev pub is-text-x-scc : ℕ
-is-text-x-scc = 1284
+is-text-x-scc = 1288
 
 abbrev pub is-text-x-scheme : ℕ
-is-text-x-scheme = 1285
+is-text-x-scheme = 1289
 
 abbrev pub is-text-x-scilab : ℕ
-is-text-x-scilab = 1286
+is-text-x-scilab = 1290
 
 abbrev pub is-text-x-scons : ℕ
-is-text-x-scons = 1287
+is-text-x-scons = 1291
 
 abbrev pub is-text-x-scss : ℕ
-is-text-x-scss = 1288
+is-text-x-scss = 1292
 
 abbrev pub is-text-x-sdc : ℕ
-is-text-x-sdc = 1289
+is-text-x-sdc = 1293
 
 abbrev pub is-text-x-sed : ℕ
-is-text-x-sed = 1290
+is-text-x-sed = 1294
 
 abbrev pub is-text-x-selinux : ℕ
-is-text-x-selinux = 1291
+is-text-x-selinux = 1295
 
 abbrev pub is-text-x-setext : ℕ
-is-text-x-setext = 1292
+is-text-x-setext = 1296
 
 abbrev pub is-text-x-shell-config : ℕ
-is-text-x-shell-config = 1293
+is-text-x-shell-config = 1297
 
 abbrev pub is-text-x-shellscript : ℕ
-is-text-x-shellscript = 1294
+is-text-x-shellscript = 1298
 
 abbrev pub is-text-x-sieve : ℕ
-is-text-x-sieve = 1295
+is-text-x-sieve = 1299
 
 abbrev pub is-text-x-slim : ℕ
-is-text-x-slim = 1296
+is-text-x-slim = 1300
 
 abbrev pub is-text-x-slint : ℕ
-is-text-x-slint = 1297
+is-text-x-slint = 1301
 
 abbrev pub is-text-x-sln : ℕ
-is-text-x-sln = 1298
+is-text-x-sln = 1302
 
 abbrev pub is-text-x-smali : ℕ
-is-text-x-smali = 1299
+is-text-x-smali = 1303
 
 abbrev pub is-text-x-smarty : ℕ
-is-text-x-smarty = 1300
+is-text-x-smarty = 1304
 
 abbrev pub is-text-x-sml : ℕ
-is-text-x-sml = 1301
+is-text-x-sml = 1305
 
 abbrev pub is-text-x-smt : ℕ
-is-text-x-smt = 1302
+is-text-x-smt = 1306
 
 abbrev pub is-text-x-snakemake : ℕ
-is-text-x-snakemake = 1303
+is-text-x-snakemake = 1307
 
 abbrev pub is-text-x-solidity : ℕ
-is-text-x-solidity = 1304
+is-text-x-solidity = 1308
 
 abbrev pub is-text-x-sourcepawn : ℕ
-is-text-x-sourcepawn = 1305
+is-text-x-sourcepawn = 1309
 
 abbrev pub is-text-x-soy : ℕ
-is-text-x-soy = 1306
+is-text-x-soy = 1310
 
 abbrev pub is-text-x-spice : ℕ
-is-text-x-spice = 1307
+is-text-x-spice = 1311
 
 abbrev pub is-text-x-spin : ℕ
-is-text-x-spin = 1308
+is-text-x-spin = 1312
 
 abbrev pub is-text-x-squirrel : ℕ
-is-text-x-squirrel = 1309
+is-text-x-squirrel = 1313
 
 abbrev pub is-text-x-ssa : ℕ
-is-text-x-ssa = 1310
+is-text-x-ssa = 1314
 
 abbrev pub is-text-x-stan : ℕ
-is-text-x-stan = 1311
+is-text-x-stan = 1315
 
 abbrev pub is-text-x-starlark : ℕ
-is-text-x-starlark = 1312
+is-text-x-starlark = 1316
 
 abbrev pub is-text-x-stata : ℕ
-is-text-x-stata = 1313
+is-text-x-stata = 1317
 
 abbrev pub is-text-x-strings : ℕ
-is-text-x-strings = 1314
+is-text-x-strings = 1318
 
 abbrev pub is-text-x-stylus : ℕ
-is-text-x-stylus = 1315
+is-text-x-stylus = 1319
 
 abbrev pub is-text-x-subviewer : ℕ
-is-text-x-subviewer = 1316
+is-text-x-subviewer = 1320
 
 abbrev pub is-text-x-supercollider : ℕ
-is-text-x-supercollider = 1317
+is-text-x-supercollider = 1321
 
 abbrev pub is-text-x-svelte : ℕ
-is-text-x-svelte = 1318
+is-text-x-svelte = 1322
 
 abbrev pub is-text-x-svhdr : ℕ
-is-text-x-svhdr = 1319
+is-text-x-svhdr = 1323
 
 abbrev pub is-text-x-svsrc : ℕ
-is-text-x-svsrc = 1320
+is-text-x-svsrc = 1324
 
 abbrev pub is-text-x-swift : ℕ
-is-text-x-swift = 1321
+is-text-x-swift = 1325
 
 abbrev pub is-text-x-systemd-unit : ℕ
-is-text-x-systemd-unit = 1322
+is-text-x-systemd-unit = 1326
 
 abbrev pub is-text-x-tablegen : ℕ
-is-text-x-tablegen = 1323
+is-text-x-tablegen = 1327
 
 abbrev pub is-text-x-tcl : ℕ
-is-text-x-tcl = 1324
+is-text-x-tcl = 1328
 
 abbrev pub is-text-x-template-toolkit : ℕ
-is-text-x-template-toolkit = 1325
+is-text-x-template-toolkit = 1329
 
 abbrev pub is-text-x-tex : ℕ
-is-text-x-tex = 1326
+is-text-x-tex = 1330
 
 abbrev pub is-text-x-texinfo : ℕ
-is-text-x-texinfo = 1327
+is-text-x-texinfo = 1331
 
 abbrev pub is-text-x-textile : ℕ
-is-text-x-textile = 1328
+is-text-x-textile = 1332
 
 abbrev pub is-text-x-textproto : ℕ
-is-text-x-textproto = 1329
+is-text-x-textproto = 1333
 
 abbrev pub is-text-x-thrift : ℕ
-is-text-x-thrift = 1330
+is-text-x-thrift = 1334
 
 abbrev pub is-text-x-tla : ℕ
-is-text-x-tla = 1331
+is-text-x-tla = 1335
 
 abbrev pub is-text-x-tmux-conf : ℕ
-is-text-x-tmux-conf = 1332
+is-text-x-tmux-conf = 1336
 
 abbrev pub is-text-x-tsx : ℕ
-is-text-x-tsx = 1333
+is-text-x-tsx = 1337
 
 abbrev pub is-text-x-twig : ℕ
-is-text-x-twig = 1334
+is-text-x-twig = 1338
 
 abbrev pub is-text-x-txt2tags : ℕ
-is-text-x-txt2tags = 1335
+is-text-x-txt2tags = 1339
 
 abbrev pub is-text-x-typescript : ℕ
-is-text-x-typescript = 1336
+is-text-x-typescript = 1340
 
 abbrev pub is-text-x-typst : ℕ
-is-text-x-typst = 1337
+is-text-x-typst = 1341
 
 abbrev pub is-text-x-uc : ℕ
-is-text-x-uc = 1338
+is-text-x-uc = 1342
 
 abbrev pub is-text-x-udev-rules : ℕ
-is-text-x-udev-rules = 1339
+is-text-x-udev-rules = 1343
 
 abbrev pub is-text-x-unity : ℕ
-is-text-x-unity = 1340
+is-text-x-unity = 1344
 
 abbrev pub is-text-x-uri : ℕ
-is-text-x-uri = 1341
+is-text-x-uri = 1345
 
 abbrev pub is-text-x-uuencode : ℕ
-is-text-x-uuencode = 1342
+is-text-x-uuencode = 1346
 
 abbrev pub is-text-x-vagrantfile : ℕ
-is-text-x-vagrantfile = 1343
+is-text-x-vagrantfile = 1347
 
 abbrev pub is-text-x-vala : ℕ
-is-text-x-vala = 1344
+is-text-x-vala = 1348
 
 abbrev pub is-text-x-vb : ℕ
-is-text-x-vb = 1345
+is-text-x-vb = 1349
 
 abbrev pub is-text-x-vcf : ℕ
-is-text-x-vcf = 1346
+is-text-x-vcf = 1350
 
 abbrev pub is-text-x-vcl : ℕ
-is-text-x-vcl = 1347
+is-text-x-vcl = 1351
 
 abbrev pub is-text-x-vdf : ℕ
-is-text-x-vdf = 1348
+is-text-x-vdf = 1352
 
 abbrev pub is-text-x-verilog : ℕ
-is-text-x-verilog = 1349
+is-text-x-verilog = 1353
 
 abbrev pub is-text-x-vhdl : ℕ
-is-text-x-vhdl = 1350
+is-text-x-vhdl = 1354
 
 abbrev pub is-text-x-vim : ℕ
-is-text-x-vim = 1351
+is-text-x-vim = 1355
 
 abbrev pub is-text-x-vnote : ℕ
-is-text-x-vnote = 1352
+is-text-x-vnote = 1356
 
 abbrev pub is-text-x-vue : ℕ
-is-text-x-vue = 1353
+is-text-x-vue = 1357
 
 abbrev pub is-text-x-vyper : ℕ
-is-text-x-vyper = 1354
+is-text-x-vyper = 1358
 
 abbrev pub is-text-x-wat : ℕ
-is-text-x-wat = 1355
+is-text-x-wat = 1359
 
 abbrev pub is-text-x-wdl : ℕ
-is-text-x-wdl = 1356
+is-text-x-wdl = 1360
 
 abbrev pub is-text-x-wkt : ℕ
-is-text-x-wkt = 1357
+is-text-x-wkt = 1361
 
 abbrev pub is-text-x-wren : ℕ
-is-text-x-wren = 1358
+is-text-x-wren = 1362
 
 abbrev pub is-text-x-xcu-rng : ℕ
-is-text-x-xcu-rng = 1359
+is-text-x-xcu-rng = 1363
 
 abbrev pub is-text-x-xmcd : ℕ
-is-text-x-xmcd = 1360
+is-text-x-xmcd = 1364
 
 abbrev pub is-text-x-xmi : ℕ
-is-text-x-xmi = 1361
+is-text-x-xmi = 1365
 
 abbrev pub is-text-x-xonsh : ℕ
-is-text-x-xonsh = 1362
+is-text-x-xonsh = 1366
 
 abbrev pub is-text-x-xresources : ℕ
-is-text-x-xresources = 1363
+is-text-x-xresources = 1367
 
 abbrev pub is-text-x-yacc : ℕ
-is-text-x-yacc = 1364
+is-text-x-yacc = 1368
 
 abbrev pub is-text-x-yang : ℕ
-is-text-x-yang = 1365
+is-text-x-yang = 1369
 
 abbrev pub is-text-x-zig : ℕ
-is-text-x-zig = 1366
+is-text-x-zig = 1370
 
 abbrev pub is-text-x-zimpl : ℕ
-is-text-x-zimpl = 1367
+is-text-x-zimpl = 1371
 
 abbrev pub is-text-x-gcode : ℕ
-is-text-x-gcode = 1368
+is-text-x-gcode = 1372
 
 abbrev pub is-text-xml : ℕ
-is-text-xml = 1369
+is-text-xml = 1373
 
 abbrev pub is-video-3gpp : ℕ
-is-video-3gpp = 1370
+is-video-3gpp = 1374
 
 abbrev pub is-video-3gpp2 : ℕ
-is-video-3gpp2 = 1371
+is-video-3gpp2 = 1375
 
 abbrev pub is-video-dv : ℕ
-is-video-dv = 1372
+is-video-dv = 1376
 
 abbrev pub is-video-h264 : ℕ
-is-video-h264 = 1373
+is-video-h264 = 1377
 
 abbrev pub is-video-h265 : ℕ
-is-video-h265 = 1374
+is-video-h265 = 1378
 
 abbrev pub is-video-mj2 : ℕ
-is-video-mj2 = 1375
+is-video-mj2 = 1379
 
 abbrev pub is-video-mp2t : ℕ
-is-video-mp2t = 1376
+is-video-mp2t = 1380
 
 abbrev pub is-video-mp4 : ℕ
-is-video-mp4 = 1377
+is-video-mp4 = 1381
 
 abbrev pub is-video-mpeg : ℕ
-is-video-mpeg = 1378
+is-video-mpeg = 1382
 
 abbrev pub is-video-ogg : ℕ
-is-video-ogg = 1379
+is-video-ogg = 1383
 
 abbrev pub is-video-quicktime-as-row-mov : ℕ
-is-video-quicktime-as-row-mov = 1380
+is-video-quicktime-as-row-mov = 1384
 
 abbrev pub is-video-quicktime-as-row-mqv : ℕ
-is-video-quicktime-as-row-mqv = 1381
+is-video-quicktime-as-row-mqv = 1385
 
 abbrev pub is-video-vnd-dvb-file : ℕ
-is-video-vnd-dvb-file = 1382
+is-video-vnd-dvb-file = 1386
 
 abbrev pub is-video-vnd-mpegurl : ℕ
-is-video-vnd-mpegurl = 1383
+is-video-vnd-mpegurl = 1387
 
 abbrev pub is-video-vnd-radgamettools-bink : ℕ
-is-video-vnd-radgamettools-bink = 1384
+is-video-vnd-radgamettools-bink = 1388
 
 abbrev pub is-video-vnd-radgamettools-smacker : ℕ
-is-video-vnd-radgamettools-smacker = 1385
+is-video-vnd-radgamettools-smacker = 1389
 
 abbrev pub is-video-webm : ℕ
-is-video-webm = 1386
+is-video-webm = 1390
 
 abbrev pub is-video-x-4xmv : ℕ
-is-video-x-4xmv = 1387
+is-video-x-4xmv = 1391
 
 abbrev pub is-video-x-amv : ℕ
-is-video-x-amv = 1388
+is-video-x-amv = 1392
 
 abbrev pub is-video-x-anim : ℕ
-is-video-x-anim = 1389
+is-video-x-anim = 1393
 
 abbrev pub is-video-x-cdxa : ℕ
-is-video-x-cdxa = 1390
+is-video-x-cdxa = 1394
 
 abbrev pub is-video-x-dirac : ℕ
-is-video-x-dirac = 1391
+is-video-x-dirac = 1395
 
 abbrev pub is-video-x-f4v : ℕ
-is-video-x-f4v = 1392
+is-video-x-f4v = 1396
 
 abbrev pub is-video-x-flic : ℕ
-is-video-x-flic = 1393
+is-video-x-flic = 1397
 
 abbrev pub is-video-x-flv : ℕ
-is-video-x-flv = 1394
+is-video-x-flv = 1398
 
 abbrev pub is-video-x-ifo : ℕ
-is-video-x-ifo = 1395
+is-video-x-ifo = 1399
 
 abbrev pub is-video-x-interplay-mve : ℕ
-is-video-x-interplay-mve = 1396
+is-video-x-interplay-mve = 1400
 
 abbrev pub is-video-x-ivf : ℕ
-is-video-x-ivf = 1397
+is-video-x-ivf = 1401
 
 abbrev pub is-video-x-m4v : ℕ
-is-video-x-m4v = 1398
+is-video-x-m4v = 1402
 
 abbrev pub is-video-x-matroska : ℕ
-is-video-x-matroska = 1399
+is-video-x-matroska = 1403
 
 abbrev pub is-video-x-matroska-3d : ℕ
-is-video-x-matroska-3d = 1400
+is-video-x-matroska-3d = 1404
 
 abbrev pub is-video-x-mmm : ℕ
-is-video-x-mmm = 1401
+is-video-x-mmm = 1405
 
 abbrev pub is-video-x-mng : ℕ
-is-video-x-mng = 1402
+is-video-x-mng = 1406
 
 abbrev pub is-video-x-ms-wmv : ℕ
-is-video-x-ms-wmv = 1403
+is-video-x-ms-wmv = 1407
 
 abbrev pub is-video-x-ms-wtv : ℕ
-is-video-x-ms-wtv = 1404
+is-video-x-ms-wtv = 1408
 
 abbrev pub is-video-x-msvideo : ℕ
-is-video-x-msvideo = 1405
+is-video-x-msvideo = 1409
 
 abbrev pub is-video-x-nsv : ℕ
-is-video-x-nsv = 1406
+is-video-x-nsv = 1410
 
 abbrev pub is-video-x-nut : ℕ
-is-video-x-nut = 1407
+is-video-x-nut = 1411
 
 abbrev pub is-video-x-ogm-ogg : ℕ
-is-video-x-ogm-ogg = 1408
+is-video-x-ogm-ogg = 1412
 
 abbrev pub is-video-x-red-r3d : ℕ
-is-video-x-red-r3d = 1409
+is-video-x-red-r3d = 1413
 
 abbrev pub is-video-x-roq : ℕ
-is-video-x-roq = 1410
+is-video-x-roq = 1414
 
 abbrev pub is-video-x-sgi-movie : ℕ
-is-video-x-sgi-movie = 1411
+is-video-x-sgi-movie = 1415
 
 abbrev pub is-video-x-vdr : ℕ
-is-video-x-vdr = 1412
+is-video-x-vdr = 1416
 
 abbrev pub is-video-x-yuv4mpeg : ℕ
-is-video-x-yuv4mpeg = 1413
+is-video-x-yuv4mpeg = 1417
 
 abbrev pub is-x-epoc-x-sisx-app : ℕ
-is-x-epoc-x-sisx-app = 1414
+is-x-epoc-x-sisx-app = 1418
 
 unfoldable pub types_0 : List NamedType
 types_0 =
@@ -4614,6 +4626,7 @@ types_1 =
     ∷ named (codes "application/x-gameboy-color-rom") (row (codes "gbc"))
     ∷ named (codes "application/x-gameboy-rom") (row (codes "gb"))
     ∷ named (codes "application/x-gamecube-rom") (row (codes "gcm"))
+    ∷ named (codes "application/x-gamegear-rom") (row (codes "gg"))
     ∷ named (codes "application/x-gba-rom") known
     ∷ named (codes "application/x-gba-rom") (row (codes "gba"))
     ∷ named (codes "application/x-gcc-pch") (row (codes "gch"))
@@ -4693,6 +4706,7 @@ types_1 =
     ∷ named (codes "application/x-java-serialized-object") own
     ∷ named (codes "application/x-java-web-archive") own
     ∷ named (codes "application/x-jffs2") (row (codes "jffs2"))
+    ∷ named (codes "application/x-jfs-filesystem") (row (codes "jfs"))
     ∷ named (codes "application/x-jmeter+xml") own
     ∷ named (codes "application/x-jsa") own
     ∷ named (codes "application/x-jsonc") own
@@ -4763,13 +4777,13 @@ types_1 =
     ∷ named (codes "application/x-ms-registry") (row (codes "regf"))
     ∷ named (codes "application/x-ms-registry-hive") own
     ∷ named (codes "application/x-ms-resource") (row (codes "res"))
-    ∷ named (codes "application/x-ms-sdb") (row (codes "sdb"))
-    ∷ named (codes "application/x-ms-sdi") (row (codes "sdi"))
     ∷ []
 
 unfoldable pub types_2 : List NamedType
 types_2 =
-    named (codes "application/x-ms-shortcut") (row (codes "lnk"))
+    named (codes "application/x-ms-sdb") (row (codes "sdb"))
+    ∷ named (codes "application/x-ms-sdi") (row (codes "sdi"))
+    ∷ named (codes "application/x-ms-shortcut") (row (codes "lnk"))
     ∷ named (codes "application/x-ms-wim") (row (codes "wim"))
     ∷ named (codes "application/x-msaccess") (row (codes "accdb"))
     ∷ named (codes "application/x-msaccess") (row (codes "mdb"))
@@ -4883,6 +4897,7 @@ types_2 =
     ∷ named (codes "application/x-silverlight-app") (row (codes "xap"))
     ∷ named (codes "application/x-sketch") own
     ∷ named (codes "application/x-sketchup") own
+    ∷ named (codes "application/x-sms-rom") (row (codes "sms"))
     ∷ named (codes "application/x-snappy-framed") (row (codes "sz"))
     ∷ named (codes "application/x-snoop") (row (codes "snoop"))
     ∷ named (codes "application/x-sony-bbeb") (row (codes "lrf"))
@@ -4929,6 +4944,7 @@ types_2 =
     ∷ named (codes "application/x-trid-trd") (row (codes "trd"))
     ∷ named (codes "application/x-ubi") (row (codes "ubi"))
     ∷ named (codes "application/x-ubifs") (row (codes "ubifs"))
+    ∷ named (codes "application/x-udf-image") (row (codes "udf"))
     ∷ named (codes "application/x-uf2") (row (codes "uf2"))
     ∷ named (codes "application/x-uimage") (row (codes "uimage"))
     ∷ named (codes "application/x-unity-asmdef+json") own
@@ -5021,15 +5037,15 @@ types_2 =
     ∷ named (codes "audio/x-bcwav") (row (codes "bcwav"))
     ∷ named (codes "audio/x-bfstm") (row (codes "bfstm"))
     ∷ named (codes "audio/x-brstm") (row (codes "brstm"))
-    ∷ named (codes "audio/x-caf") (row (codes "caf"))
-    ∷ named (codes "audio/x-dbm") (row (codes "dbm"))
-    ∷ named (codes "audio/x-dff") (row (codes "dff"))
-    ∷ named (codes "audio/x-dsf") (row (codes "dsf"))
     ∷ []
 
 unfoldable pub types_3 : List NamedType
 types_3 =
-    named (codes "audio/x-dss") (row (codes "dss"))
+    named (codes "audio/x-caf") (row (codes "caf"))
+    ∷ named (codes "audio/x-dbm") (row (codes "dbm"))
+    ∷ named (codes "audio/x-dff") (row (codes "dff"))
+    ∷ named (codes "audio/x-dsf") (row (codes "dsf"))
+    ∷ named (codes "audio/x-dss") (row (codes "dss"))
     ∷ named (codes "audio/x-flac") (row (codes "flac"))
     ∷ named (codes "audio/x-gbs") (row (codes "gbs"))
     ∷ named (codes "audio/x-gsm") known
@@ -5175,7 +5191,7 @@ types_3 =
     ∷ named (codes "image/x-mvg") (row (codes "mvg"))
     ∷ named (codes "image/x-niff") (row (codes "niff"))
     ∷ named (codes "image/x-nikon-nef") (row (codes "nef"))
-    ∷ named (codes "image/x-nikon-nrw") known
+    ∷ named (codes "image/x-nikon-nrw") (row (codes "nrw"))
     ∷ named (codes "image/x-olympus-orf") (row (codes "orf"))
     ∷ named (codes "image/x-paintnet") (row (codes "pdn"))
     ∷ named (codes "image/x-paintshoppro") (row (codes "psp"))
@@ -5281,15 +5297,15 @@ types_3 =
     ∷ named (codes "text/x-asn1") own
     ∷ named (codes "text/x-astro") own
     ∷ named (codes "text/x-asymptote") own
-    ∷ named (codes "text/x-autoconf") own
-    ∷ named (codes "text/x-autohotkey") own
-    ∷ named (codes "text/x-autoit") own
-    ∷ named (codes "text/x-automake") own
     ∷ []
 
 unfoldable pub types_4 : List NamedType
 types_4 =
-    named (codes "text/x-awk") (row (codes "awk"))
+    named (codes "text/x-autoconf") own
+    ∷ named (codes "text/x-autohotkey") own
+    ∷ named (codes "text/x-autoit") own
+    ∷ named (codes "text/x-automake") own
+    ∷ named (codes "text/x-awk") (row (codes "awk"))
     ∷ named (codes "text/x-ballerina") own
     ∷ named (codes "text/x-basic") own
     ∷ named (codes "text/x-bats") own
@@ -5541,15 +5557,15 @@ types_4 =
     ∷ named (codes "text/x-roc") own
     ∷ named (codes "text/x-rpgle") own
     ∷ named (codes "text/x-rpm-spec") (row (codes "spec"))
-    ∷ named (codes "text/x-rsrc") known
-    ∷ named (codes "text/x-rst") known
-    ∷ named (codes "text/x-ruby") (row (codes "rb"))
-    ∷ named (codes "text/x-sagemath") known
     ∷ []
 
 unfoldable pub types_5 : List NamedType
 types_5 =
-    named (codes "text/x-sam") (row (codes "sam"))
+    named (codes "text/x-rsrc") known
+    ∷ named (codes "text/x-rst") known
+    ∷ named (codes "text/x-ruby") (row (codes "rb"))
+    ∷ named (codes "text/x-sagemath") known
+    ∷ named (codes "text/x-sam") (row (codes "sam"))
     ∷ named (codes "text/x-sas") known
     ∷ named (codes "text/x-sass") known
     ∷ named (codes "text/x-scala") (row (codes "scala"))

@@ -67,9 +67,9 @@ _sample: Callable[..., int] = _declare("infer_sample", _SIZE, _ROW, ctypes.c_cha
 
 def sample(row: int) -> bytes:
     """The row's sample, or nothing if it is never the answer."""
-    out = ctypes.create_string_buffer(4136)
-    size = _sample(row, out, len(out))
-    return out.raw[:size]
+    out = ctypes.create_string_buffer(_sample(row, None, 0))
+    _sample(row, out, len(out))
+    return out.raw
 
 
 def verdict(front: Sized) -> tuple[int, bool]:

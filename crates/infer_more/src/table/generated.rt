@@ -802,9 +802,9 @@ fn widens_before_768(i: usize, parent: Option<usize>, buf: &[u8]) -> bool
     }
 }
 
-/// [`widens`] for the rows before 924.
+/// [`widens`] for the rows before 930.
 #[inline(always)]
-fn widens_before_924(i: usize, parent: Option<usize>, buf: &[u8]) -> bool
+fn widens_before_930(i: usize, parent: Option<usize>, buf: &[u8]) -> bool
     ensures { IsTrue result ↔ WidensAt parent buf.now i }
 {
     match i {
@@ -964,6 +964,12 @@ fn widens_before_924(i: usize, parent: Option<usize>, buf: &[u8]) -> bool
         921 => widens_row::<921>(parent, buf),
         922 => widens_row::<922>(parent, buf),
         923 => widens_row::<923>(parent, buf),
+        924 => widens_row::<924>(parent, buf),
+        925 => widens_row::<925>(parent, buf),
+        926 => widens_row::<926>(parent, buf),
+        927 => widens_row::<927>(parent, buf),
+        928 => widens_row::<928>(parent, buf),
+        929 => widens_row::<929>(parent, buf),
         _ => widens_any(i, parent, buf),
     }
 }
@@ -982,5 +988,5 @@ pub(crate) fn widens(i: usize, parent: Option<usize>, buf: &[u8]) -> bool
     if i < 768 {
         return widens_before_768(i, parent, buf);
     }
-    widens_before_924(i, parent, buf)
+    widens_before_930(i, parent, buf)
 }

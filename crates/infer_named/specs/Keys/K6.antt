@@ -2,8 +2,8 @@
 use Rattle.std.specs.Prelude.{List, [], ◌∷◌, codes, false, true}
 use Rattle.infer_named.specs.Key.{Key, key}
 use Rattle.infer_named.specs.Listed.{reading}
-use Rattle.infer_named.specs.Sets.{any-lead, leads-10, no-rows, rows-3dsx, rows-3g2-3gp-f4v-m4a-m4b-m4v-mov, rows-aac-adif, rows-aifc, rows-aiff, rows-alz, rows-amf, rows-ape, rows-apk-jar-zip, rows-application-x-ole-storage, rows-application-x-ole-storage-pptx-zip, rows-application-x-ole-storage-xlsm-xlsx-zip, rows-aptcache, rows-ar, rows-asar, rows-avif, rows-awk, rows-ay, rows-bc-bcw, rows-bcstm, rows-bfstm, rows-bookmarks, rows-brstm, rows-cbor, rows-clj, rows-cma, rows-cmo, rows-csi, rows-cupsraster, rows-dds, rows-desktop, rows-dif, rows-dsf, rows-dxf, rows-elf-so, rows-eps, rows-escript, rows-exe-dll-efi-lx-ne-sys, rows-ext2, rows-fbx-fbxtext, rows-flatpakrepo, rows-g64, rows-ged, rows-gff3, rows-gnumeric, rows-grib, rows-grp, rows-gschema, rows-gv, rows-gvdb, rows-gx, rows-gz-html-txt-xhtml-xml, rows-hdf4, rows-hdf5, rows-hdt, rows-heic, rows-heif, rows-html, rows-html-json-php-svg-txt-xhtml-xml, rows-html-rss-txt-xml, rows-html-sh-svg-txt-xhtml-xml, rows-html-txt-xhtml-xml, rows-http, rows-iff, rows-iiq, rows-ilbm, rows-j2c, rows-jar-zip, rows-jbig2, rows-jks, rows-jl, rows-jp2, rows-jph-jpm-jpx-mj2, rows-json, rows-json-ndjson-txt, rows-json-plist-txt-xml, rows-kate-oga-ogm-ogv-ogx-opus-spx-vorbis, rows-ktx2, rows-lisp, rows-lua, rows-lz, rows-m4a, rows-m4b-m4v-mp4, rows-mach, rows-mbtiles, rows-meta4, rows-midi, rows-mids, rows-mk, rows-mkv, rows-mlp, rows-mo, rows-mp3, rows-mp4, rows-mpg, rows-msbuild, rows-mscx, rows-mtm, rows-mtn, rows-ncch, rows-nex, rows-nso, rows-odg-zip, rows-ogg, rows-openssl, rows-osm, rows-otf, rows-otg, rows-p12, rows-pak, rows-parquet, rows-pf2, rows-pgf, rows-php, rows-php-svg-txt-xhtml-xml, rows-pkl, rows-pl, rows-por, rows-ps, rows-ps-sh-txt, rows-psw, rows-psx, rows-pvf, rows-py, rows-pyc, rows-qml, rows-qtif, rows-rar, rows-ras, rows-rb, rows-rdb, rows-rdf, rows-rkt, rows-roff, rows-sap, rows-scala, rows-sh, rows-sh-txt, rows-slk, rows-sqlite, rows-squashfs, rows-srt, rows-subviewer, rows-swap, rows-swf-swfz, rows-sxm, rows-tar, rows-tei, rows-thomsap, rows-tif, rows-tres, rows-ttf, rows-ttl, rows-txt, rows-txt-xml, rows-txt-yaml, rows-unit, rows-url, rows-vdr, rows-vpnpcf, rows-vsd, rows-webm, rows-wmf, rows-wpd, rows-xls, rows-xmp, rows-xslt, rows-yaml, rows-z, rows-zip, text-rows}
-use Rattle.infer_named.specs.Types.{is-application-brotli, is-application-cbor, is-application-dita-xml, is-application-font-sfnt-as-row-otf, is-application-graphql, is-application-hta, is-application-metalink4-xml, is-application-pkcs12, is-application-rdf-xml, is-application-relax-ng-compact-syntax, is-application-sql, is-application-tei-xml, is-application-vnd-apache-parquet, is-application-vnd-coffeescript, is-application-vnd-cups-raster, is-application-vnd-flatpak-repo, is-application-vnd-hdt, is-application-vnd-mbtiles, is-application-vnd-microsoft-portable-executable, is-application-vnd-mozilla-webapp-json, is-application-vnd-ms-excel, is-application-vnd-ms-excel-addin-macroenabled-12, is-application-vnd-oasis-opendocument-graphics-template, is-application-vnd-openstreetmap-data-xml, is-application-vnd-openxmlformats-officedocument-presentationml-slideshow, is-application-vnd-rar, is-application-vnd-snap, is-application-vnd-sun-xml-math, is-application-vnd-visio, is-application-vnd-wordperfect, is-application-x-alz, is-application-x-amf, is-application-x-android-archive, is-application-x-apkm, is-application-x-apt-cache, is-application-x-asar, is-application-x-asp, is-application-x-avro-schema-json, is-application-x-build-grp, is-application-x-cbt, is-application-x-cisco-vpn-settings, is-application-x-csi, is-application-x-desktop, is-application-x-dif, is-application-x-eclipse-xml, is-application-x-erb, is-application-x-ext-filesystem, is-application-x-fbx, is-application-x-font-pf2, is-application-x-g64-disk, is-application-x-genesis-rom-as-known, is-application-x-gettext-translation, is-application-x-gnumeric, is-application-x-godot-resource, is-application-x-grib, is-application-x-gschema-xml, is-application-x-gvdb, is-application-x-hdf, is-application-x-hdf5, is-application-x-hwpx, is-application-x-hxml, is-application-x-iff, is-application-x-java-enterprise-archive, is-application-x-java-keystore, is-application-x-jsa, is-application-x-jsonc, is-application-x-llvm, is-application-x-lzip, is-application-x-mach-binary, is-application-x-maya-binary, is-application-x-monotone-database, is-application-x-ms-registry-hive, is-application-x-msbuild-xml, is-application-x-mswinurl, is-application-x-musescore-xml, is-application-x-nintendo-3ds-executable, is-application-x-nintendo-ncch, is-application-x-nintendo-nso, is-application-x-ocaml-cma, is-application-x-ocaml-cmo, is-application-x-openssl-encrypted, is-application-x-osm-pbf, is-application-x-pak, is-application-x-pocket-word, is-application-x-psx-executable, is-application-x-python-bytecode, is-application-x-python-pickle, is-application-x-quattropro, is-application-x-redis-dump, is-application-x-rust-rlib, is-application-x-shapefile-index, is-application-x-shockwave-flash, is-application-x-sketch, is-application-x-sketchup, is-application-x-spss-por, is-application-x-stata-dta, is-application-x-sublime-syntax, is-application-x-subrip, is-application-x-swap, is-application-x-swiftmodule, is-application-x-tarz, is-application-x-terraform-state-json, is-application-x-tex-pk, is-application-x-tex-tfm, is-application-x-theme-xml, is-application-x-thomson-sap-image, is-application-x-urdf-xml, is-application-x-xmp-xml, is-application-xproc-xml, is-application-xslt-xml, is-application-yaml, is-audio-aac, is-audio-m4a, is-audio-midi, is-audio-mpeg, is-audio-ogg-as-row-ogg, is-audio-vnd-dolby-mlp, is-audio-x-aifc, is-audio-x-ape, is-audio-x-ay, is-audio-x-bcstm, is-audio-x-bfstm, is-audio-x-brstm, is-audio-x-dsf, is-audio-x-mids, is-audio-x-mod-as-known, is-audio-x-pvf, is-audio-x-sap, is-image-heif, is-image-jp2, is-image-ktx2, is-image-vnd-dxf, is-image-vnd-ms-dds, is-image-wmf, is-image-x-cmu-raster, is-image-x-eps, is-image-x-ilbm, is-image-x-jbig2, is-image-x-jp2-codestream, is-image-x-pgf, is-image-x-phaseone-iiq, is-image-x-quicktime, is-message-http, is-text-html, is-text-markdown, is-text-plain, is-text-spreadsheet, is-text-troff, is-text-turtle, is-text-velocity, is-text-vnd-familysearch-gedcom, is-text-vnd-graphviz, is-text-x-adasrc, is-text-x-agda, is-text-x-apex, is-text-x-asm, is-text-x-awk, is-text-x-bc, is-text-x-c-src, is-text-x-chapel, is-text-x-checksums, is-text-x-chuck, is-text-x-clojure, is-text-x-common-lisp, is-text-x-coq, is-text-x-csharp, is-text-x-cython, is-text-x-dns-zone, is-text-x-dune, is-text-x-ebuild, is-text-x-editorconfig, is-text-x-eex, is-text-x-elm, is-text-x-erlang, is-text-x-fasta, is-text-x-forth, is-text-x-fortran, is-text-x-gap, is-text-x-gcode, is-text-x-gcode-gx, is-text-x-gerber, is-text-x-gff3, is-text-x-gitconfig, is-text-x-gitignore, is-text-x-haml, is-text-x-hcl, is-text-x-idris, is-text-x-igor, is-text-x-ini, is-text-x-java, is-text-x-jelly, is-text-x-jinja, is-text-x-julia, is-text-x-kaitai-struct, is-text-x-kotlin, is-text-x-lean, is-text-x-lua, is-text-x-makefile, is-text-x-matlab, is-text-x-mlir, is-text-x-moonscript, is-text-x-nexus, is-text-x-nginx-conf, is-text-x-ninja, is-text-x-opencl-src, is-text-x-perl, is-text-x-php, is-text-x-pike, is-text-x-pod, is-text-x-python-as-row-py, is-text-x-qml, is-text-x-racket, is-text-x-razor, is-text-x-reject, is-text-x-rexx, is-text-x-ruby, is-text-x-scala, is-text-x-scilab, is-text-x-shell-config, is-text-x-shellscript, is-text-x-slim, is-text-x-stata, is-text-x-subviewer, is-text-x-supercollider, is-text-x-systemd-unit, is-text-x-textile, is-text-x-tsx, is-text-x-unity, is-text-x-vala, is-text-x-vim, is-text-x-xmi, is-text-x-yang, is-text-x-zig, is-video-mp4, is-video-mpeg, is-video-x-matroska, is-video-x-vdr}
+use Rattle.infer_named.specs.Sets.{any-lead, leads-10, no-rows, rows-3dsx, rows-3g2-3gp-f4v-m4a-m4b-m4v-mov, rows-aac-adif, rows-aifc, rows-aiff, rows-alz, rows-amf, rows-ape, rows-apk-jar-zip, rows-application-x-ole-storage, rows-application-x-ole-storage-pptx-zip, rows-application-x-ole-storage-xlsm-xlsx-zip, rows-aptcache, rows-ar, rows-asar, rows-avif, rows-awk, rows-ay, rows-bc-bcw, rows-bcstm, rows-bfstm, rows-bookmarks, rows-brstm, rows-cbor, rows-clj, rows-cma, rows-cmo, rows-csi, rows-cupsraster, rows-dds, rows-desktop, rows-dif, rows-dsf, rows-dxf, rows-elf-so, rows-eps, rows-escript, rows-exe-dll-efi-lx-ne-sys, rows-ext2, rows-fbx-fbxtext, rows-flatpakrepo, rows-g64, rows-ged, rows-gff3, rows-gg, rows-gnumeric, rows-grib, rows-grp, rows-gschema, rows-gv, rows-gvdb, rows-gx, rows-gz-html-txt-xhtml-xml, rows-hdf4, rows-hdf5, rows-hdt, rows-heic, rows-heif, rows-html, rows-html-json-php-svg-txt-xhtml-xml, rows-html-rss-txt-xml, rows-html-sh-svg-txt-xhtml-xml, rows-html-txt-xhtml-xml, rows-http, rows-iff, rows-iiq, rows-ilbm, rows-j2c, rows-jar-zip, rows-jbig2, rows-jks, rows-jl, rows-jp2, rows-jph-jpm-jpx-mj2, rows-json, rows-json-ndjson-txt, rows-json-plist-txt-xml, rows-kate-oga-ogm-ogv-ogx-opus-spx-vorbis, rows-ktx2, rows-lisp, rows-lua, rows-lz, rows-m4a, rows-m4b-m4v-mp4, rows-mach, rows-mbtiles, rows-meta4, rows-midi, rows-mids, rows-mk, rows-mkv, rows-mlp, rows-mo, rows-mp3, rows-mp4, rows-mpg, rows-msbuild, rows-mscx, rows-mtm, rows-mtn, rows-ncch, rows-nex, rows-nso, rows-odg-zip, rows-ogg, rows-openssl, rows-osm, rows-otf, rows-otg, rows-p12, rows-pak, rows-parquet, rows-pf2, rows-pgf, rows-php, rows-php-svg-txt-xhtml-xml, rows-pkl, rows-pl, rows-por, rows-ps, rows-ps-sh-txt, rows-psw, rows-psx, rows-pvf, rows-py, rows-pyc, rows-qml, rows-qtif, rows-rar, rows-ras, rows-rb, rows-rdb, rows-rdf, rows-rkt, rows-roff, rows-sap, rows-scala, rows-sh, rows-sh-txt, rows-slk, rows-sms, rows-sqlite, rows-squashfs, rows-srt, rows-subviewer, rows-swap, rows-swf-swfz, rows-sxm, rows-tar, rows-tei, rows-thomsap, rows-tif, rows-tres, rows-ttf, rows-ttl, rows-txt, rows-txt-xml, rows-txt-yaml, rows-udf, rows-unit, rows-url, rows-vdr, rows-vpnpcf, rows-vsd, rows-webm, rows-wmf, rows-wpd, rows-xls, rows-xmp, rows-xslt, rows-yaml, rows-z, rows-zip, text-rows}
+use Rattle.infer_named.specs.Types.{is-application-brotli, is-application-cbor, is-application-dita-xml, is-application-font-sfnt-as-row-otf, is-application-graphql, is-application-hta, is-application-metalink4-xml, is-application-pkcs12, is-application-rdf-xml, is-application-relax-ng-compact-syntax, is-application-sql, is-application-tei-xml, is-application-vnd-apache-parquet, is-application-vnd-coffeescript, is-application-vnd-cups-raster, is-application-vnd-flatpak-repo, is-application-vnd-hdt, is-application-vnd-mbtiles, is-application-vnd-microsoft-portable-executable, is-application-vnd-mozilla-webapp-json, is-application-vnd-ms-excel, is-application-vnd-ms-excel-addin-macroenabled-12, is-application-vnd-oasis-opendocument-graphics-template, is-application-vnd-openstreetmap-data-xml, is-application-vnd-openxmlformats-officedocument-presentationml-slideshow, is-application-vnd-rar, is-application-vnd-snap, is-application-vnd-sun-xml-math, is-application-vnd-visio, is-application-vnd-wordperfect, is-application-x-alz, is-application-x-amf, is-application-x-android-archive, is-application-x-apkm, is-application-x-apt-cache, is-application-x-asar, is-application-x-asp, is-application-x-avro-schema-json, is-application-x-build-grp, is-application-x-cbt, is-application-x-cisco-vpn-settings, is-application-x-csi, is-application-x-desktop, is-application-x-dif, is-application-x-eclipse-xml, is-application-x-erb, is-application-x-ext-filesystem, is-application-x-fbx, is-application-x-font-pf2, is-application-x-g64-disk, is-application-x-gamegear-rom, is-application-x-genesis-rom-as-known, is-application-x-gettext-translation, is-application-x-gnumeric, is-application-x-godot-resource, is-application-x-grib, is-application-x-gschema-xml, is-application-x-gvdb, is-application-x-hdf, is-application-x-hdf5, is-application-x-hwpx, is-application-x-hxml, is-application-x-iff, is-application-x-java-enterprise-archive, is-application-x-java-keystore, is-application-x-jsa, is-application-x-jsonc, is-application-x-llvm, is-application-x-lzip, is-application-x-mach-binary, is-application-x-maya-binary, is-application-x-monotone-database, is-application-x-ms-registry-hive, is-application-x-msbuild-xml, is-application-x-mswinurl, is-application-x-musescore-xml, is-application-x-nintendo-3ds-executable, is-application-x-nintendo-ncch, is-application-x-nintendo-nso, is-application-x-ocaml-cma, is-application-x-ocaml-cmo, is-application-x-openssl-encrypted, is-application-x-osm-pbf, is-application-x-pak, is-application-x-pocket-word, is-application-x-psx-executable, is-application-x-python-bytecode, is-application-x-python-pickle, is-application-x-quattropro, is-application-x-redis-dump, is-application-x-rust-rlib, is-application-x-shapefile-index, is-application-x-shockwave-flash, is-application-x-sketch, is-application-x-sketchup, is-application-x-sms-rom, is-application-x-spss-por, is-application-x-stata-dta, is-application-x-sublime-syntax, is-application-x-subrip, is-application-x-swap, is-application-x-swiftmodule, is-application-x-tarz, is-application-x-terraform-state-json, is-application-x-tex-pk, is-application-x-tex-tfm, is-application-x-theme-xml, is-application-x-thomson-sap-image, is-application-x-udf-image, is-application-x-urdf-xml, is-application-x-xmp-xml, is-application-xproc-xml, is-application-xslt-xml, is-application-yaml, is-audio-aac, is-audio-m4a, is-audio-midi, is-audio-mpeg, is-audio-ogg-as-row-ogg, is-audio-vnd-dolby-mlp, is-audio-x-aifc, is-audio-x-ape, is-audio-x-ay, is-audio-x-bcstm, is-audio-x-bfstm, is-audio-x-brstm, is-audio-x-dsf, is-audio-x-mids, is-audio-x-mod-as-known, is-audio-x-pvf, is-audio-x-sap, is-image-heif, is-image-jp2, is-image-ktx2, is-image-vnd-dxf, is-image-vnd-ms-dds, is-image-wmf, is-image-x-cmu-raster, is-image-x-eps, is-image-x-ilbm, is-image-x-jbig2, is-image-x-jp2-codestream, is-image-x-pgf, is-image-x-phaseone-iiq, is-image-x-quicktime, is-message-http, is-text-html, is-text-markdown, is-text-plain, is-text-spreadsheet, is-text-troff, is-text-turtle, is-text-velocity, is-text-vnd-familysearch-gedcom, is-text-vnd-graphviz, is-text-x-adasrc, is-text-x-agda, is-text-x-apex, is-text-x-asm, is-text-x-awk, is-text-x-bc, is-text-x-c-src, is-text-x-chapel, is-text-x-checksums, is-text-x-chuck, is-text-x-clojure, is-text-x-common-lisp, is-text-x-coq, is-text-x-csharp, is-text-x-cython, is-text-x-dns-zone, is-text-x-dune, is-text-x-ebuild, is-text-x-editorconfig, is-text-x-eex, is-text-x-elm, is-text-x-erlang, is-text-x-fasta, is-text-x-forth, is-text-x-fortran, is-text-x-gap, is-text-x-gcode, is-text-x-gcode-gx, is-text-x-gerber, is-text-x-gff3, is-text-x-gitconfig, is-text-x-gitignore, is-text-x-haml, is-text-x-hcl, is-text-x-idris, is-text-x-igor, is-text-x-ini, is-text-x-java, is-text-x-jelly, is-text-x-jinja, is-text-x-julia, is-text-x-kaitai-struct, is-text-x-kotlin, is-text-x-lean, is-text-x-lua, is-text-x-makefile, is-text-x-matlab, is-text-x-mlir, is-text-x-moonscript, is-text-x-nexus, is-text-x-nginx-conf, is-text-x-ninja, is-text-x-opencl-src, is-text-x-perl, is-text-x-php, is-text-x-pike, is-text-x-pod, is-text-x-python-as-row-py, is-text-x-qml, is-text-x-racket, is-text-x-razor, is-text-x-reject, is-text-x-rexx, is-text-x-ruby, is-text-x-scala, is-text-x-scilab, is-text-x-shell-config, is-text-x-shellscript, is-text-x-slim, is-text-x-stata, is-text-x-subviewer, is-text-x-supercollider, is-text-x-systemd-unit, is-text-x-textile, is-text-x-tsx, is-text-x-unity, is-text-x-vala, is-text-x-vim, is-text-x-xmi, is-text-x-yang, is-text-x-zig, is-video-mp4, is-video-mpeg, is-video-x-matroska, is-video-x-vdr}
 use Rattle.infer_named.specs.declared.table.Asks.TheVariants.{Bytes, Signature, Text}
 use Rattle.infer_named.specs.declared.table.Part.TheVariants.{Extension, Whole}
 
@@ -99,6 +99,7 @@ keys =
     ∷ key Extension (codes "sp") true (reading is-text-plain Text rows-txt no-rows text-rows any-lead ∷ [])
     ∷ key Extension (codes "mid") false (reading is-audio-midi Signature rows-midi no-rows no-rows any-lead ∷ [])
     ∷ key Extension (codes "sub") true (reading is-text-x-subviewer Text rows-subviewer rows-txt no-rows any-lead ∷ [])
+    ∷ key Extension (codes "udf") false (reading is-application-x-udf-image Bytes rows-udf no-rows no-rows any-lead ∷ [])
     ∷ key Extension (codes "jpg2") false (reading is-image-jp2 Bytes rows-jp2 no-rows rows-jph-jpm-jpx-mj2 any-lead ∷ [])
     ∷ key Extension (codes "fa") false (reading is-text-x-fasta Text no-rows rows-txt no-rows any-lead ∷ [])
     ∷ key Whole (codes ".gemrc") false (reading is-text-plain Text rows-txt no-rows text-rows any-lead ∷ [])
@@ -148,6 +149,7 @@ keys =
     ∷ key Whole (codes ".zshrc") false (reading is-text-x-shell-config Text no-rows rows-sh-txt no-rows any-lead ∷ [])
     ∷ key Extension (codes "g64") false (reading is-application-x-g64-disk Signature rows-g64 no-rows no-rows any-lead ∷ [])
     ∷ key Extension (codes "sublime-syntax") false (reading is-application-x-sublime-syntax Text no-rows rows-json-ndjson-txt no-rows any-lead ∷ [])
+    ∷ key Extension (codes "sms") false (reading is-application-x-sms-rom Bytes rows-sms no-rows no-rows any-lead ∷ [])
     ∷ key Extension (codes "cljc") false (reading is-text-x-clojure Text rows-clj rows-sh-txt no-rows any-lead ∷ [])
     ∷ key Extension (codes "php3") false (reading is-text-x-php Text rows-php rows-html-sh-svg-txt-xhtml-xml no-rows any-lead ∷ [])
     ∷ key Extension (codes "kt") false (reading is-text-x-kotlin Text no-rows rows-sh-txt no-rows any-lead ∷ [])
@@ -170,6 +172,7 @@ keys =
     ∷ key Extension (codes "hwpx") false (reading is-application-x-hwpx Bytes no-rows rows-zip no-rows any-lead ∷ [])
     ∷ key Extension (codes "sketch") false (reading is-application-x-sketch Signature no-rows rows-zip no-rows any-lead ∷ [])
     ∷ key Whole (codes "jsconfig.json") false (reading is-application-x-jsonc Text no-rows rows-txt rows-json any-lead ∷ [])
+    ∷ key Extension (codes "gg") false (reading is-application-x-gamegear-rom Bytes rows-gg no-rows no-rows any-lead ∷ [])
     ∷ key Extension (codes "cpl") false (reading is-application-vnd-microsoft-portable-executable Signature rows-exe-dll-efi-lx-ne-sys no-rows no-rows any-lead ∷ [])
     ∷ key Extension (codes "mlp") false (reading is-audio-vnd-dolby-mlp Signature rows-mlp no-rows no-rows any-lead ∷ [])
     ∷ key Extension (codes "otg") false (reading is-application-vnd-oasis-opendocument-graphics-template Signature rows-otg rows-odg-zip no-rows any-lead ∷ [])

@@ -2,8 +2,8 @@
 use Rattle.std.specs.Prelude.{List, [], ◌∷◌, codes, false, true}
 use Rattle.infer_named.specs.Key.{Key, key}
 use Rattle.infer_named.specs.Listed.{reading}
-use Rattle.infer_named.specs.Sets.{any-lead, leads-10, leads-12, no-rows, rows-3mf-apk-application-vnd-apple-keynote-chrt-docx-epub-fbz-fcstd-flw-iwa-jar-karbon-kfo-kmz-kon-kpr-kra-ksp-kwd-mscz-odb-odc-odf-odg-odi-odp-ods-odt-ora-otg-otp-ots-ott-pkpass-pptx-qgz-sxc-sxd-sxi-sxm-sxw-vsdx-xap-xlsx, rows-aaf, rows-aifc, rows-aiff, rows-amv, rows-application-x-ole-storage, rows-application-x-ole-storage-xlsx-zip, rows-ar, rows-arrow, rows-arsc, rows-arw, rows-asc, rows-au, rows-aw, rows-bcachefs, rows-bplist, rows-bzimage, rows-cdx, rows-cer, rows-clj, rows-cram, rows-dcm, rows-deb, rows-der-application-x-pem-key-pem, rows-der-pem-txt, rows-diff, rows-dng, rows-docm, rows-docx-application-x-ole-storage-zip, rows-dpx, rows-dtb, rows-edid, rows-exe-dll-efi-lx-ne-sys, rows-exr, rows-exs, rows-ext2, rows-f4a, rows-fb2, rows-fbz, rows-fccache, rows-fl, rows-flac, rows-gd2, rows-gjs-js, rows-gltf, rows-gnuplot, rows-grib-grib2, rows-gtkbuilder, rows-gz, rows-gz-kwdcrypt-zip, rows-gz-zip, rows-hi, rows-hs, rows-hsi, rows-html-json-php-svg-txt-xhtml-xml, rows-html-sh-svg-txt-xhtml-xml, rows-html-txt-xhtml-xml, rows-html-txt-xml, rows-icns, rows-imy, rows-indd, rows-inf, rows-itc, rows-jad, rows-jar, rows-jar-zip, rows-jfr, rows-jks, rows-jls, rows-jp2, rows-jpg, rows-jpm, rows-json, rows-json-ndjson-txt, rows-json-plist-txt-xml, rows-json-sh-txt, rows-jxr, rows-kbx, rows-kdbx, rows-kfo, rows-kil, rows-kwd, rows-laz, rows-lisp, rows-lnx, rows-lwo, rows-lwp, rows-lz4, rows-lzh, rows-lzma, rows-lzo, rows-m4u, rows-mdb, rows-mf, rows-mif, rows-mk, rows-mkv, rows-mml, rows-mng, rows-mo, rows-mobi, rows-model-obj, rows-mp3, rows-msbuild, rows-mscz, rows-msg, rows-msi, rows-musicxml, rows-mxf, rows-nft, rows-niff, rows-nsc, rows-nut, rows-o, rows-obj, rows-odm, rows-orf, rows-os2inf, rows-os2msg, rows-otf, rows-p7b-p7c, rows-p8, rows-pam, rows-pem, rows-pfb, rows-pfmap, rows-pgp, rows-php, rows-pl, rows-plist-txt-xml, rows-pnm, rows-ppt, rows-ps-sh-txt, rows-ps-txt, rows-ps1, rows-py, rows-qml, rows-raf, rows-raku, rows-rb, rows-rm, rows-rmi, rows-roff, rows-rss, rows-rw2, rows-sar, rows-scf, rows-sfd, rows-sh, rows-sh-txt, rows-shar, rows-sig, rows-simg, rows-sit, rows-spc, rows-spd, rows-ssa, rows-stex, rows-svm, rows-t602, rows-tbi, rows-tcb, rows-tex, rows-tif, rows-tnef, rows-trd, rows-ttf, rows-txt, rows-txt-xml, rows-txt-yaml, rows-uf2, rows-ui, rows-ult, rows-unit, rows-vnt, rows-vsd, rows-wad, rows-wbfs, rows-webm, rows-wiiwad, rows-wim, rows-wmv, rows-wps, rows-x3d, rows-xap, rows-xlsm, rows-xmcd, rows-xwd, rows-xz, rows-yaml, rows-zck, rows-zip, rows-zoo, rows-zst-zstold, text-rows}
-use Rattle.infer_named.specs.Types.{is-application-ccxml-xml, is-application-dicom, is-application-font-sfnt-as-row-ttf, is-application-java-archive, is-application-mathml-xml, is-application-mxf, is-application-pgp-encrypted, is-application-pgp-keys-as-row-asc, is-application-pgp-signature, is-application-pkcs7-mime, is-application-pkcs8, is-application-pkix-cert, is-application-rss-xml, is-application-sarif-json, is-application-sql, is-application-srgs-xml, is-application-vnd-apache-arrow-file, is-application-vnd-cyclonedx-json, is-application-vnd-debian-binary-package, is-application-vnd-font-fontforge-sfd, is-application-vnd-laszip, is-application-vnd-lotus-wordpro, is-application-vnd-microsoft-portable-executable, is-application-vnd-mif, is-application-vnd-ms-excel-sheet-macroenabled-12, is-application-vnd-ms-outlook, is-application-vnd-ms-powerpoint, is-application-vnd-ms-tnef, is-application-vnd-ms-word-document-macroenabled-12, is-application-vnd-ms-works, is-application-vnd-nintendo-snes-rom, is-application-vnd-oasis-opendocument-text-master, is-application-vnd-oasis-opendocument-text-web, is-application-vnd-recordare-musicxml-xml, is-application-vnd-rn-realmedia, is-application-vnd-sar, is-application-vnd-visio, is-application-x-aaf, is-application-x-android-resources, is-application-x-android-sparse-image, is-application-x-appdata-xml, is-application-x-applix-word, is-application-x-atari-lynx-rom, is-application-x-avro-schema-json, is-application-x-bcachefs, is-application-x-bplist, is-application-x-cram, is-application-x-designer, is-application-x-doom-wad, is-application-x-dtb, is-application-x-edid-dump, is-application-x-entitlements, is-application-x-executable-as-row-obj, is-application-x-ext-filesystem, is-application-x-fictionbook-xml, is-application-x-fluid, is-application-x-font-speedo, is-application-x-font-type1, is-application-x-fontconfig-cache, is-application-x-gettext-translation, is-application-x-ghc-interface, is-application-x-gnupg-keybox, is-application-x-gnuplot, is-application-x-grib2, is-application-x-gtk-builder, is-application-x-indesign, is-application-x-java-flight-recording, is-application-x-java-keystore, is-application-x-java-web-archive, is-application-x-jsp, is-application-x-keepass2, is-application-x-kformula, is-application-x-killustrator, is-application-x-kword, is-application-x-linux-kernel-as-row-bzimage, is-application-x-lottie-json, is-application-x-lz4, is-application-x-lzh-compressed, is-application-x-lzma, is-application-x-lzop, is-application-x-magic-database, is-application-x-mobipocket-ebook, is-application-x-ms-wim, is-application-x-msaccess-as-row-mdb, is-application-x-msbuild-xml, is-application-x-musescore, is-application-x-mxml, is-application-x-netshow-channel, is-application-x-nuspec-xml, is-application-x-object, is-application-x-os2-inf, is-application-x-os2-msg, is-application-x-perf-data, is-application-x-powershell, is-application-x-ps1xml, is-application-x-pytorch, is-application-x-qgis-project-as-own, is-application-x-scf, is-application-x-setupscript, is-application-x-shar, is-application-x-silverlight-app, is-application-x-storyboard-xml, is-application-x-stuffit, is-application-x-t602, is-application-x-tabix, is-application-x-theme, is-application-x-theme-xml, is-application-x-tokyocabinet-btree, is-application-x-trid-trd, is-application-x-uf2, is-application-x-virtualbox-saved-state, is-application-x-wii-rom-as-row-wbfs, is-application-x-wii-wad, is-application-x-xz-compressed-tar, is-application-x-zchunk, is-application-x-zcml, is-application-x-zip-compressed-fb2, is-application-x-zoo, is-application-xquery, is-application-yaml, is-application-zip, is-application-zstd, is-audio-basic, is-audio-mid, is-audio-mp4, is-audio-mpeg, is-audio-x-aiff, is-audio-x-flac, is-audio-x-spc, is-audio-x-ult, is-chemical-x-cdx, is-image-dpx, is-image-geotiff, is-image-jpeg, is-image-jpm, is-image-svg-xml-compressed, is-image-vnd-ms-photo, is-image-x-adobe-dng, is-image-x-exr, is-image-x-fuji-raf, is-image-x-gd2, is-image-x-godot-stex, is-image-x-hsi, is-image-x-icns, is-image-x-itc, is-image-x-lwo, is-image-x-niff, is-image-x-nikon-nrw, is-image-x-olympus-orf, is-image-x-panasonic-rw2, is-image-x-portable-arbitrarymap, is-image-x-portable-floatmap, is-image-x-portable-pixmap, is-image-x-sony-arw, is-image-x-sony-srf, is-image-x-svm, is-image-x-xwindowdump, is-model-gltf-json, is-model-obj, is-model-x3d-xml, is-text-cache-manifest, is-text-javascript, is-text-markdown, is-text-plain, is-text-rust, is-text-troff, is-text-vnd-sun-j2me-app-descriptor, is-text-x-adasrc, is-text-x-apacheconf, is-text-x-asciidoc, is-text-x-c-hdr, is-text-x-c-src, is-text-x-cfm, is-text-x-checksums, is-text-x-clojure, is-text-x-common-lisp, is-text-x-component, is-text-x-creole, is-text-x-ebuild, is-text-x-elixir, is-text-x-fasta, is-text-x-fsharp, is-text-x-gerber, is-text-x-gettext-translation-template, is-text-x-gff, is-text-x-gitattributes, is-text-x-gitignore, is-text-x-glsl, is-text-x-gomod, is-text-x-handlebars, is-text-x-haskell, is-text-x-haxe, is-text-x-hlsl, is-text-x-hunspell-affix, is-text-x-imagej, is-text-x-imelody, is-text-x-ini, is-text-x-innosetup, is-text-x-ipxe, is-text-x-jinja, is-text-x-just, is-text-x-latte, is-text-x-lex, is-text-x-logtalk, is-text-x-makefile, is-text-x-mediawiki, is-text-x-modelica, is-text-x-modula, is-text-x-mojo, is-text-x-nextflow, is-text-x-nftables, is-text-x-nushell, is-text-x-odin, is-text-x-opencl-src, is-text-x-patch, is-text-x-perl, is-text-x-php, is-text-x-pony, is-text-x-postcss, is-text-x-prolog, is-text-x-python-as-row-py, is-text-x-qml, is-text-x-r-doc, is-text-x-raku, is-text-x-readline, is-text-x-rego, is-text-x-ruby, is-text-x-scons, is-text-x-selinux, is-text-x-shell-config, is-text-x-smt, is-text-x-spin, is-text-x-squirrel, is-text-x-ssa, is-text-x-starlark, is-text-x-stata, is-text-x-systemd-unit, is-text-x-template-toolkit, is-text-x-tex, is-text-x-textproto, is-text-x-typescript, is-text-x-unity, is-text-x-vagrantfile, is-text-x-vala, is-text-x-vb, is-text-x-vnote, is-text-x-xmcd, is-text-x-yacc, is-text-x-zig, is-text-x-zimpl, is-video-vnd-mpegurl, is-video-webm, is-video-x-amv, is-video-x-mng, is-video-x-ms-wmv, is-video-x-nut}
+use Rattle.infer_named.specs.Sets.{any-lead, leads-10, leads-12, no-rows, rows-3mf-apk-application-vnd-apple-keynote-chrt-docx-epub-fbz-fcstd-flw-iwa-jar-karbon-kfo-kmz-kon-kpr-kra-ksp-kwd-mscz-odb-odc-odf-odg-odi-odp-ods-odt-ora-otg-otp-ots-ott-pkpass-pptx-qgz-sxc-sxd-sxi-sxm-sxw-vsdx-xap-xlsx, rows-aaf, rows-aifc, rows-aiff, rows-amv, rows-application-x-ole-storage, rows-application-x-ole-storage-xlsx-zip, rows-ar, rows-arrow, rows-arsc, rows-arw, rows-asc, rows-au, rows-aw, rows-bcachefs, rows-bplist, rows-bzimage, rows-cdx, rows-cer, rows-clj, rows-cram, rows-dcm, rows-deb, rows-der-application-x-pem-key-pem, rows-der-pem-txt, rows-diff, rows-dng, rows-docm, rows-docx-application-x-ole-storage-zip, rows-dpx, rows-dtb, rows-edid, rows-exe-dll-efi-lx-ne-sys, rows-exr, rows-exs, rows-ext2, rows-f4a, rows-fb2, rows-fbz, rows-fccache, rows-fl, rows-flac, rows-gd2, rows-gjs-js, rows-gltf, rows-gnuplot, rows-grib-grib2, rows-gtkbuilder, rows-gz, rows-gz-kwdcrypt-zip, rows-gz-zip, rows-hi, rows-hs, rows-hsi, rows-html-json-php-svg-txt-xhtml-xml, rows-html-sh-svg-txt-xhtml-xml, rows-html-txt-xhtml-xml, rows-html-txt-xml, rows-icns, rows-imy, rows-indd, rows-inf, rows-itc, rows-jad, rows-jar, rows-jar-zip, rows-jfr, rows-jfs, rows-jks, rows-jls, rows-jp2, rows-jpg, rows-jpm, rows-json, rows-json-ndjson-txt, rows-json-plist-txt-xml, rows-json-sh-txt, rows-jxr, rows-kbx, rows-kdbx, rows-kfo, rows-kil, rows-kwd, rows-laz, rows-lisp, rows-lnx, rows-lwo, rows-lwp, rows-lz4, rows-lzh, rows-lzma, rows-lzo, rows-m4u, rows-mdb, rows-mf, rows-mif, rows-mk, rows-mkv, rows-mml, rows-mng, rows-mo, rows-mobi, rows-model-obj, rows-mp3, rows-msbuild, rows-mscz, rows-msg, rows-msi, rows-musicxml, rows-mxf, rows-nft, rows-niff, rows-nrw, rows-nsc, rows-nut, rows-o, rows-obj, rows-odm, rows-orf, rows-os2inf, rows-os2msg, rows-otf, rows-p7b-p7c, rows-p8, rows-pam, rows-pem, rows-pfb, rows-pfmap, rows-pgp, rows-php, rows-pl, rows-plist-txt-xml, rows-pnm, rows-ppt, rows-ps-sh-txt, rows-ps-txt, rows-ps1, rows-py, rows-qml, rows-raf, rows-raku, rows-rb, rows-rm, rows-rmi, rows-roff, rows-rss, rows-rw2, rows-sar, rows-scf, rows-sfd, rows-sh, rows-sh-txt, rows-shar, rows-sig, rows-simg, rows-sit, rows-spc, rows-spd, rows-ssa, rows-stex, rows-svm, rows-t602, rows-tbi, rows-tcb, rows-tex, rows-tif, rows-tnef, rows-trd, rows-ttf, rows-txt, rows-txt-xml, rows-txt-yaml, rows-uf2, rows-ui, rows-ult, rows-unit, rows-vnt, rows-vsd, rows-wad, rows-wbfs, rows-webm, rows-wiiwad, rows-wim, rows-wmv, rows-wps, rows-x3d, rows-xap, rows-xlsm, rows-xmcd, rows-xwd, rows-xz, rows-yaml, rows-zck, rows-zip, rows-zoo, rows-zst-zstold, text-rows}
+use Rattle.infer_named.specs.Types.{is-application-ccxml-xml, is-application-dicom, is-application-font-sfnt-as-row-ttf, is-application-java-archive, is-application-mathml-xml, is-application-mxf, is-application-pgp-encrypted, is-application-pgp-keys-as-row-asc, is-application-pgp-signature, is-application-pkcs7-mime, is-application-pkcs8, is-application-pkix-cert, is-application-rss-xml, is-application-sarif-json, is-application-sql, is-application-srgs-xml, is-application-vnd-apache-arrow-file, is-application-vnd-cyclonedx-json, is-application-vnd-debian-binary-package, is-application-vnd-font-fontforge-sfd, is-application-vnd-laszip, is-application-vnd-lotus-wordpro, is-application-vnd-microsoft-portable-executable, is-application-vnd-mif, is-application-vnd-ms-excel-sheet-macroenabled-12, is-application-vnd-ms-outlook, is-application-vnd-ms-powerpoint, is-application-vnd-ms-tnef, is-application-vnd-ms-word-document-macroenabled-12, is-application-vnd-ms-works, is-application-vnd-nintendo-snes-rom, is-application-vnd-oasis-opendocument-text-master, is-application-vnd-oasis-opendocument-text-web, is-application-vnd-recordare-musicxml-xml, is-application-vnd-rn-realmedia, is-application-vnd-sar, is-application-vnd-visio, is-application-x-aaf, is-application-x-android-resources, is-application-x-android-sparse-image, is-application-x-appdata-xml, is-application-x-applix-word, is-application-x-atari-lynx-rom, is-application-x-avro-schema-json, is-application-x-bcachefs, is-application-x-bplist, is-application-x-cram, is-application-x-designer, is-application-x-doom-wad, is-application-x-dtb, is-application-x-edid-dump, is-application-x-entitlements, is-application-x-executable-as-row-obj, is-application-x-ext-filesystem, is-application-x-fictionbook-xml, is-application-x-fluid, is-application-x-font-speedo, is-application-x-font-type1, is-application-x-fontconfig-cache, is-application-x-gettext-translation, is-application-x-ghc-interface, is-application-x-gnupg-keybox, is-application-x-gnuplot, is-application-x-grib2, is-application-x-gtk-builder, is-application-x-indesign, is-application-x-java-flight-recording, is-application-x-java-keystore, is-application-x-java-web-archive, is-application-x-jfs-filesystem, is-application-x-jsp, is-application-x-keepass2, is-application-x-kformula, is-application-x-killustrator, is-application-x-kword, is-application-x-linux-kernel-as-row-bzimage, is-application-x-lottie-json, is-application-x-lz4, is-application-x-lzh-compressed, is-application-x-lzma, is-application-x-lzop, is-application-x-magic-database, is-application-x-mobipocket-ebook, is-application-x-ms-wim, is-application-x-msaccess-as-row-mdb, is-application-x-msbuild-xml, is-application-x-musescore, is-application-x-mxml, is-application-x-netshow-channel, is-application-x-nuspec-xml, is-application-x-object, is-application-x-os2-inf, is-application-x-os2-msg, is-application-x-perf-data, is-application-x-powershell, is-application-x-ps1xml, is-application-x-pytorch, is-application-x-qgis-project-as-own, is-application-x-scf, is-application-x-setupscript, is-application-x-shar, is-application-x-silverlight-app, is-application-x-storyboard-xml, is-application-x-stuffit, is-application-x-t602, is-application-x-tabix, is-application-x-theme, is-application-x-theme-xml, is-application-x-tokyocabinet-btree, is-application-x-trid-trd, is-application-x-uf2, is-application-x-virtualbox-saved-state, is-application-x-wii-rom-as-row-wbfs, is-application-x-wii-wad, is-application-x-xz-compressed-tar, is-application-x-zchunk, is-application-x-zcml, is-application-x-zip-compressed-fb2, is-application-x-zoo, is-application-xquery, is-application-yaml, is-application-zip, is-application-zstd, is-audio-basic, is-audio-mid, is-audio-mp4, is-audio-mpeg, is-audio-x-aiff, is-audio-x-flac, is-audio-x-spc, is-audio-x-ult, is-chemical-x-cdx, is-image-dpx, is-image-geotiff, is-image-jpeg, is-image-jpm, is-image-svg-xml-compressed, is-image-vnd-ms-photo, is-image-x-adobe-dng, is-image-x-exr, is-image-x-fuji-raf, is-image-x-gd2, is-image-x-godot-stex, is-image-x-hsi, is-image-x-icns, is-image-x-itc, is-image-x-lwo, is-image-x-niff, is-image-x-nikon-nrw, is-image-x-olympus-orf, is-image-x-panasonic-rw2, is-image-x-portable-arbitrarymap, is-image-x-portable-floatmap, is-image-x-portable-pixmap, is-image-x-sony-arw, is-image-x-sony-srf, is-image-x-svm, is-image-x-xwindowdump, is-model-gltf-json, is-model-obj, is-model-x3d-xml, is-text-cache-manifest, is-text-javascript, is-text-markdown, is-text-plain, is-text-rust, is-text-troff, is-text-vnd-sun-j2me-app-descriptor, is-text-x-adasrc, is-text-x-apacheconf, is-text-x-asciidoc, is-text-x-c-hdr, is-text-x-c-src, is-text-x-cfm, is-text-x-checksums, is-text-x-clojure, is-text-x-common-lisp, is-text-x-component, is-text-x-creole, is-text-x-ebuild, is-text-x-elixir, is-text-x-fasta, is-text-x-fsharp, is-text-x-gerber, is-text-x-gettext-translation-template, is-text-x-gff, is-text-x-gitattributes, is-text-x-gitignore, is-text-x-glsl, is-text-x-gomod, is-text-x-handlebars, is-text-x-haskell, is-text-x-haxe, is-text-x-hlsl, is-text-x-hunspell-affix, is-text-x-imagej, is-text-x-imelody, is-text-x-ini, is-text-x-innosetup, is-text-x-ipxe, is-text-x-jinja, is-text-x-just, is-text-x-latte, is-text-x-lex, is-text-x-logtalk, is-text-x-makefile, is-text-x-mediawiki, is-text-x-modelica, is-text-x-modula, is-text-x-mojo, is-text-x-nextflow, is-text-x-nftables, is-text-x-nushell, is-text-x-odin, is-text-x-opencl-src, is-text-x-patch, is-text-x-perl, is-text-x-php, is-text-x-pony, is-text-x-postcss, is-text-x-prolog, is-text-x-python-as-row-py, is-text-x-qml, is-text-x-r-doc, is-text-x-raku, is-text-x-readline, is-text-x-rego, is-text-x-ruby, is-text-x-scons, is-text-x-selinux, is-text-x-shell-config, is-text-x-smt, is-text-x-spin, is-text-x-squirrel, is-text-x-ssa, is-text-x-starlark, is-text-x-stata, is-text-x-systemd-unit, is-text-x-template-toolkit, is-text-x-tex, is-text-x-textproto, is-text-x-typescript, is-text-x-unity, is-text-x-vagrantfile, is-text-x-vala, is-text-x-vb, is-text-x-vnote, is-text-x-xmcd, is-text-x-yacc, is-text-x-zig, is-text-x-zimpl, is-video-vnd-mpegurl, is-video-webm, is-video-x-amv, is-video-x-mng, is-video-x-ms-wmv, is-video-x-nut}
 use Rattle.infer_named.specs.declared.table.Asks.TheVariants.{Bytes, Signature, Text}
 use Rattle.infer_named.specs.declared.table.Part.TheVariants.{Extension, Whole}
 
@@ -108,10 +108,10 @@ keys =
     ∷ key Extension (codes "wad") true (reading is-application-x-doom-wad Bytes rows-wad no-rows no-rows any-lead ∷ reading is-application-x-wii-wad Bytes rows-wiiwad no-rows no-rows any-lead ∷ [])
     ∷ key Extension (codes "bcachefs") false (reading is-application-x-bcachefs Signature rows-bcachefs no-rows no-rows any-lead ∷ [])
     ∷ key Extension (codes "lz4") false (reading is-application-x-lz4 Signature rows-lz4 no-rows no-rows any-lead ∷ [])
+    ∷ key Extension (codes "nrw") false (reading is-image-x-nikon-nrw Signature rows-nrw rows-tif no-rows any-lead ∷ [])
     ∷ key Extension (codes "pfm") false (reading is-application-x-font-type1 Bytes rows-pfb no-rows no-rows any-lead ∷ reading is-image-x-portable-floatmap Signature rows-pfmap no-rows no-rows any-lead ∷ [])
     ∷ key Extension (codes "wps") false (reading is-application-vnd-ms-works Signature rows-wps rows-application-x-ole-storage no-rows any-lead ∷ [])
     ∷ key Extension (codes "xlsm") false (reading is-application-vnd-ms-excel-sheet-macroenabled-12 Signature rows-xlsm rows-application-x-ole-storage-xlsx-zip no-rows any-lead ∷ [])
-    ∷ key Extension (codes "nrw") false (reading is-image-x-nikon-nrw Signature no-rows rows-tif no-rows any-lead ∷ [])
     ∷ key Extension (codes "rego") false (reading is-text-x-rego Text no-rows rows-txt no-rows any-lead ∷ [])
     ∷ key Extension (codes "fl") true (reading is-application-x-fluid Text rows-fl no-rows no-rows any-lead ∷ [])
     ∷ key Extension (codes "jad") true (reading is-text-vnd-sun-j2me-app-descriptor Text rows-jad no-rows no-rows any-lead ∷ [])
@@ -207,6 +207,7 @@ keys =
     ∷ key Extension (codes "mathml") false (reading is-application-mathml-xml Text rows-mml rows-html-txt-xhtml-xml no-rows leads-10 ∷ [])
     ∷ key Extension (codes "mojo") false (reading is-text-x-mojo Text no-rows rows-txt no-rows any-lead ∷ [])
     ∷ key Extension (codes "exe") false (reading is-application-vnd-microsoft-portable-executable Signature rows-exe-dll-efi-lx-ne-sys no-rows no-rows any-lead ∷ [])
+    ∷ key Extension (codes "jfs") false (reading is-application-x-jfs-filesystem Bytes rows-jfs no-rows no-rows any-lead ∷ [])
     ∷ key Extension (codes "jake") false (reading is-text-javascript Text rows-gjs-js rows-json-sh-txt no-rows any-lead ∷ [])
     ∷ key Extension (codes "asciidoc") false (reading is-text-x-asciidoc Text no-rows rows-txt no-rows any-lead ∷ [])
     ∷ key Extension (codes "textproto") false (reading is-text-x-textproto Text no-rows rows-txt no-rows any-lead ∷ [])

@@ -220,7 +220,7 @@ fn all_samples_as_files(rt: HostRuntime) -> Result<(), Fail> {
         if let Some(n) = infer_more::sample(i, &mut out) {
             fs::write(&rt, "wider.bin", &out[..n])?;
             let whole = infer_more::get_from_path(&rt, rt.alloc(), "wider.bin");
-            assert_eq!(rt; whole, Ok(infer_more::get(&out[..n])), "row {i}");
+            assert_eq!(rt; whole, Ok(infer_more::get(&out[..n.min(FRONT)])), "row {i}");
             let front = infer_more::get_from_path_within(&rt, rt.alloc(), "wider.bin", 4);
             assert_eq!(rt; front, Ok(infer_more::get(&out[..n.min(4)])), "row {i}");
             fs::remove_file(&rt, "wider.bin")?;
