@@ -1,6 +1,6 @@
 pub mod Common
 pub mod ListLemmas
-mod RangeLemmas
+pub mod RangeLemmas
 mod SearchLemmas
 mod PartLemmas
 pub mod ListedLemmas

@@ -1,12 +1,22 @@
 -- Which bytes of a buffer decide.
-use Rattle.std.specs.Prelude.{◌≡◌, ◌+◌, ◌*◌, ◌<◌, ◌≤◌, ℕ, zero, suc, List, Option, None, Some, All, IsTrue, length, slice_index, take}
+use Rattle.std.specs.Prelude.{◌≡◌, ◌+◌, ◌*◌, ◌<◌, ◌≤◌, ℕ, zero, suc, List, Option, None, Some, All, IsTrue, get_or, length, slice_index, take}
+use Rattle.std.specs.Option.{option_map_or}
 use Rattle.infer_evidence.specs.declared.ranges.Evidence.{Evidence}
 use Rattle.infer_evidence.specs.declared.ranges.Range.{Range}
 use Rattle.infer_evidence.specs.declared.ranges.TheConstants.{MOST_RANGES}
 
+-- the ranges that the evidence keeps: those that lie ready, if it has such, and else its own
+abbrev pub ranges_kept : Evidence → List Range
+ranges_kept e = option_map_or (λ ready. ready.now) e.ready e.ranges
+
 -- the ranges that the evidence names
 abbrev pub ranges_of : Evidence → List Range
-ranges_of e = take e.count e.ranges
+ranges_of e = take e.count (ranges_kept e)
+
+-- the first n of these ranges are those that lie ready, and behind the last of those have no byte
+abbrev pub AreCopied : (ready ranges : List Range) → ℕ → Type 0
+AreCopied ready ranges n =
+    (k : ℕ) (d : Range) → k < n → (k < length ready → get_or ranges k d ≡ get_or ready k d) × (length ready ≤ k → (get_or ranges k d).len ≡ 0)
 
 -- the place of a byte of the range
 abbrev pub place_in : Range → ℕ → ℕ

@@ -1,6 +1,6 @@
 //! Ranges of a buffer, and what is needed of its length.
-ghost use Rattle.std.specs.Prelude.{◌≡◌, ◌+◌, ◌<◌, ◌≤◌, ℕ, List, [], Any, IfSome, IsTrue, MatchOption, None, Some, false, length};
-ghost use Rattle.infer_evidence.specs.Evidence.{AgreesOn, Grows, HasSame, IsAround, IsInside, IsOf, IsSame, place_in, ranges_of, row_of};
+ghost use Rattle.std.specs.Prelude.{◌≡◌, ◌↔◌, ◌+◌, ◌<◌, ◌≤◌, ℕ, List, [], Any, IfSome, IsTrue, MatchOption, None, Some, false, get_or, length, min, take};
+ghost use Rattle.infer_evidence.specs.Evidence.{AgreesOn, AreCopied, Grows, HasSame, IsAround, IsInside, IsOf, IsSame, place_in, ranges_of, row_of};
 
 /// For how many ranges an [`Evidence`] has room.
 pub const MOST_RANGES: usize = 80;
@@ -21,7 +21,8 @@ pub struct Range {
     pub place: usize,
     pub len: usize,
     pub step: u32,
-    row: u32,
+    /// One more than the number of the row, and 0 for none. [`row`](Range::row) gives the number.
+    pub row: u32,
 }
 
 impl Range {
@@ -53,6 +54,13 @@ impl Range {
             step: 0,
             row: NO_ROW,
         }
+    }
+
+    /// Whether it has no byte.
+    pub fn is_empty(&self) -> bool
+        ensures { IsTrue result ↔ (self.now.len ≡ 0) }
+    {
+        self.len == 0
     }
 
     /// The row of which the bytes tell.
@@ -106,9 +114,11 @@ fn number(row: Option<usize>) -> u32
     }
 }
 
-/// What decides: ranges of a buffer, the least length that is needed, and whether another length is not enough.
+/// What decides: ranges of a buffer, the least length that is needed, and whether another length is not enough. The ranges
+/// of most answers lie ready in a list, and nothing of it is copied until more is asked for.
 #[derive(Drop)]
 pub struct Evidence {
+    ready: Option<&'static [Range]>,
     ranges: [Range; MOST_RANGES],
     count: usize,
     least: usize,
@@ -123,6 +133,7 @@ impl Evidence {
         ensures exact { result.exact ≡ false }
     {
         Evidence {
+            ready: None,
             ranges: [Range::blank(); MOST_RANGES],
             count: 0,
             least: 0,
@@ -134,7 +145,10 @@ impl Evidence {
     pub fn ranges(&self) -> &[Range]
         ensures { result.now ≡ ranges_of self.now }
     {
-        &self.ranges[..self.count.min(MOST_RANGES)]
+        match self.ready {
+            Some(ready) => &ready[..self.count.min(ready.len())],
+            None => &self.ranges[..self.count.min(MOST_RANGES)],
+        }
     }
 
     /// How many ranges are wanted. If there are more than [`MOST_RANGES`], those that there is room for are not enough.
@@ -165,9 +179,39 @@ impl Evidence {
         ensures least { self.new.least ≡ 0 }
         ensures exact { self.new.exact ≡ false }
     {
+        self.ready = None;
         self.count = 0;
         self.least = 0;
         self.exact = false;
+    }
+
+    /// Asks for the first `count` of the ranges that lie ready, for a length, and for nothing else.
+    #[inline(always)]
+    pub fn take_ready(&mut self, ready: &'static [Range], count: usize, least: usize, exact: bool)
+        ensures ranges { ranges_of self.new ≡ take count ready.now }
+        ensures count { self.new.count ≡ count }
+        ensures least { self.new.least ≡ least }
+        ensures exact { self.new.exact ≡ exact }
+    {
+        self.ready = Some(ready);
+        self.count = count;
+        self.least = least;
+        self.exact = exact;
+    }
+
+    /// Copies the ranges that lie ready, so that others can be put behind them. Where fewer lie there than are asked for, the
+    /// rest have no byte.
+    fn settle(&mut self)
+        ensures settled { self.new.ready ≡ None }
+        ensures long { length self.new.ranges ≡ MOST_RANGES }
+        ensures same { (b c : List ℕ) → AgreesOn self.new b c → AgreesOn self.old b c }
+        ensures inside { (b : List ℕ) → IsOf self.old b → IsOf self.new b }
+        ensures few { self.new.count ≡ self.old.count }
+    {
+        if let Some(ready) = self.ready {
+            copy_ready(ready, self.count, &mut self.ranges);
+            self.ready = None;
+        }
     }
 
     /// Whether a range that is asked for has all bytes of this one.
@@ -194,6 +238,7 @@ impl Evidence {
         if range.len == 0 {
             return;
         }
+        self.settle();
         if self.count >= MOST_RANGES {
             self.count = self.count.saturating_add(1);
             return;
@@ -209,6 +254,9 @@ impl Evidence {
         ensures inside { (b : List ℕ) → IsOf self.old b → IsInside b range → IsOf self.new b }
         ensures few { self.new.count ≤ self.old.count + 1 }
     {
+        if range.is_empty() {
+            return;
+        }
         if self.has(&range) {
             return;
         }
@@ -247,6 +295,27 @@ impl Evidence {
         ensures few { self.new.count ≡ self.old.count }
     {
         self.exact = true;
+    }
+}
+
+/// Copies as many of the ranges that lie ready.
+fn copy_ready(ready: &[Range], count: usize, ranges: &mut [Range; MOST_RANGES])
+    ensures copied { AreCopied ready.now ranges.new (min count MOST_RANGES) }
+    ensures long { length ranges.new ≡ MOST_RANGES }
+{
+    for k in 0..count.min(MOST_RANGES) {
+        ranges[k] = ready_at(ready, k);
+    }
+}
+
+/// The range that lies there, and one with no byte behind the last.
+fn ready_at(ready: &[Range], k: usize) -> Range
+    ensures there { (d : Range) → k < length ready.now → result ≡ get_or ready.now k d }
+    ensures behind { length ready.now ≤ k → result.len ≡ 0 }
+{
+    match ready.get(k) {
+        Some(range) => *range,
+        None => Range::blank(),
     }
 }
 

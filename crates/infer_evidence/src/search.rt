@@ -28,6 +28,7 @@ pub struct Hit {
 }
 
 /// Whether the byte at `place` is none that the text has there if it stands at `start` or behind.
+#[inline(always)]
 fn is_foreign(text: &[u8], buf: &[u8], start: usize, place: usize) -> bool
     requires here { place < length buf.now }
     requires low { start ≤ place }
@@ -38,6 +39,7 @@ fn is_foreign(text: &[u8], buf: &[u8], start: usize, place: usize) -> bool
 }
 
 /// The last byte which alone tells that the text stands at none of the places from `start` to it.
+#[inline(always)]
 fn last_foreign(text: &[u8], buf: &[u8], start: usize) -> Option<Hit>
     requires { start + length text.now ≤ length buf.now }
     ensures { IfSome result (IsHit text.now buf.now start) }
@@ -55,6 +57,7 @@ fn last_foreign(text: &[u8], buf: &[u8], start: usize) -> Option<Hit>
 }
 
 /// The byte by which the text stands at none of the most places from `start` on. There is one unless it stands there.
+#[inline(always)]
 fn hit_from(text: &[u8], buf: &[u8], start: usize) -> Option<Hit>
     requires { start + length text.now ≤ length buf.now }
     ensures some { IfSome result (IsHit text.now buf.now start) }
@@ -72,6 +75,7 @@ fn hit_from(text: &[u8], buf: &[u8], start: usize) -> Option<Hit>
 
 /// Asks for bytes by which the text stands nowhere in the first `end` bytes: for as many ranges as make `most` in all, the
 /// last of which may have all that is left.
+#[inline(always)]
 fn refuse_everywhere(
     search: &Search,
     end: usize,
@@ -110,6 +114,7 @@ fn refuse_everywhere(
 
 /// Asks for that by which the text of a search does not stand where it should: for bytes that are others, some of which it
 /// would have, and for the length if the buffer ends before that place.
+#[inline(always)]
 pub fn refuse_search(search: &Search, buf: &[u8], row: Option<usize>, evidence: &mut Evidence)
     requires { ¬ StandsBy search.now.text.now search.now.end buf.now }
     ensures tells { (c : List ℕ) → AgreesOn evidence.new buf.now c → AgreesOn evidence.old buf.now c
