@@ -4,6 +4,8 @@ probe does. The check refuses a list from which a row is left out; here the few 
 from signatures import signatures_of, text_of_alternative
 from terms import Call
 
+# How many rows stand in a list of the code, the last of which is filled with rows of no alternative.
+ROWS_OF_A_LIST = 8
 # What a place may have of which nothing is known.
 ALL = {*range(256)}
 # Rows that read deeper, but have a byte that is known: images of ISO media in a box "ftyp".
@@ -69,17 +71,35 @@ def guard(row, own, known):
     return sorted(probes.items()), left
 
 
-def text_of_guard(found, own):
-    """A guard as the code writes it: of each probe the place, the two bytes, whether the byte there is named already, and the
-    first row of which the probe tells."""
+def named(ranges, place):
+    """Whether a range has the byte at the place."""
+    return any(at <= place < at + length for at, length, _ in ranges)
+
+
+def ranges_of(alternative, constant):
+    """Where the parts of an alternative stand that a buffer has, none of which is one of several texts."""
+    return [(it.takes[0], len(it.takes[1]) if it.name == "text" else 1, constant) for it in alternative[1]]
+
+
+def lead_of(own, others):
+    """The byte with which this alternative alone begins, and what no byte is if there is none."""
+    led = [*own.get(0, ())]
+    return led[0] if len(led) == 1 and not any(led[0] in it.get(0, ALL) for it in others) else 0x100
+
+
+def text_of_guard(found, alternative, constant, lead):
+    """A guard as the code writes it: the ranges that lie ready, each with its row; the least length, and the lead; of each probe
+    the place, the two bytes, and how many ranges have a place before it; and the rows that are left."""
     if found is None:
         return " [none]"
-    probes = []
+    ranges, probes = ranges_of(alternative, constant), []
     for place, names in found[0]:
         listed = [*names]
-        for at in range(0, len(listed), 2):
-            probes.append(f"{place} 0x{listed[at]:02X} 0x{listed[at : at + 2][-1]:02X} {str(at > 0 or place in own).lower()} {names[listed[at]]}")
-    return f" [{', '.join(probes)};{''.join(f' {it}' for it in found[1])}]"
+        probes += [f"{place} 0x{listed[at]:02X} 0x{listed[at : at + 2][-1]:02X} {len(ranges)}" for at in range(0, len(listed), 2)]
+        if not named(ranges, place):
+            ranges.append((place, 1, names[listed[0]]))
+    ready = ", ".join(f"{at} {length} {row}" for at, length, row in ranges)
+    return f" [{ready}; {alternative[0]} 0x{lead:02X}; {', '.join(probes)};{''.join(f' {it}' for it in found[1])}]"
 
 
 def lines(names, constants):
@@ -88,15 +108,17 @@ def lines(names, constants):
     for row, (name, _, alternatives) in enumerate(known):
         owns = [*map(held, alternatives)]
         guards = [guard(row, own, [(constants[it[0]], *it[1:]) for it in known]) for own in owns]
-        told = "".join(map(text_of_guard, guards, owns)) if any(guards) else ""
+        leads = [lead_of(own, owns[:k] + owns[k + 1 :]) for k, own in enumerate(owns)]
+        told = "".join(map(text_of_guard, guards, alternatives, [constants[name]] * len(owns), leads)) if any(guards) else ""
         yield f"    {name}{''.join(map(text_of_alternative, alternatives))}{' =>' if alternatives else ''}{told};"
 
 
 def made(code, names, constants):
     """The code with what is known of the rows in its lists, eight a list."""
     known = list(lines(names, dict(zip(names, constants))))
-    for first in range(0, len(known), 8):
-        rows = known[first : first + 8]
-        before, begin, after = code.partition(f"static KNOWN_FROM_{first}: [Option<Known>; {len(rows)}] = known! {{\n")
+    for first in range(0, len(known), ROWS_OF_A_LIST):
+        rows = known[first : first + ROWS_OF_A_LIST]
+        rows += ["    NoRow [];"] * (ROWS_OF_A_LIST - len(rows))
+        before, begin, after = code.partition(f"static KNOWN_FROM_{first}: [Option<Known>; ROWS_OF_A_LIST] = known! {{\n")
         code = before + begin + "\n".join(rows) + "\n" + after[after.index("};\n") :]
     return code

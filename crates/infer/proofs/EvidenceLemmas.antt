@@ -1,5 +1,5 @@
 -- What is listed of a row.
-use Rattle.infer.proofs.Common.{list_all, zero, suc, ◌≡◌, ◌+◌, ◌-◌, ◌<◌, ◌≤◌, ◌∙◌, ℕ, List, Option, None, Some, IfSome, IsTrue, ap, arith, refl, length, sym, subst, slice_get, get_or, leb-true, signature_of, BuiltIn, fixed, length-range_with_len, length-map, option_map_or, [], Row, IsBuffer, MatchOption, Accepts, MayBecomeRow, IsAccepted, RowHas, table, ◌⊎◌, ◌↔◌, ◌++◌, inl, inr, take, drop, Lasts, length-take-le, get_or-take, take-append-drop, Bool, false, false≢true, AllWithin, AllWithin-more, AllWithin-upto, IsFirstAmong, get_or_default, candidates, candidates_of, ◌∷◌}
+use Rattle.infer.proofs.Common.{IsFirst, list_all, zero, suc, ◌≡◌, ◌+◌, ◌-◌, ◌<◌, ◌≤◌, ◌∙◌, ℕ, List, Option, None, Some, IfSome, IsTrue, ap, arith, refl, length, sym, subst, slice_get, get_or, leb-true, signature_of, BuiltIn, fixed, length-range_with_len, length-map, option_map_or, [], Row, IsBuffer, MatchOption, Accepts, MayBecomeRow, IsAccepted, RowHas, table, ◌⊎◌, ◌↔◌, ◌++◌, inl, inr, take, drop, Lasts, length-take-le, get_or-take, take-append-drop, Bool, false, false≢true, AllWithin, AllWithin-more, AllWithin-upto, IsFirstAmong, get_or_default, candidates, candidates_of, ◌∷◌}
 use Rattle.std.proofs.Math.ListN.{get_or-map}
 use Rattle.std.proofs.lemmas.List.FromFn.{get_or-map-range_with_len}
 use Rattle.std.proofs.lemmas.Grind.{same_number_lists}
@@ -133,6 +133,14 @@ pdf_most = refl
 pub pdf_searches : (b : List ℕ) → RowHas (Accepts b) PDF ↔ StandsBy (codes "%PDF") 1024 b
 unfolding signature_of table
 pdf_searches b = let told = row_accepts b PDF in (told.1, told.0)
+
+-- no row before the first that accepts does
+none_at : (b : List ℕ) (first : ℕ) → IsFirst (Accepts b) table first → (i : ℕ) → i < first → (o : Option (Row BuiltIn)) → slice_get table i ≡ o → ¬ MatchOption o ⊥ (Accepts b)
+none_at b first is i lt None found has = has
+none_at b first is i lt (Some r) found has = is.before i r (omega arith) lt (subst (Accepts b) (sym (get_or_from_slice_get table i r r found)) has)
+
+pub none_before : (b : List ℕ) (first : ℕ) → IsFirst (Accepts b) table first → (i : ℕ) → i < first → ¬ RowHas (Accepts b) i
+none_before b first is i lt = none_at b first is i lt (slice_get table i) refl
 
 -- for one row more they ask for as many more
 pub most_more : (rows : List ℕ) (i : ℕ) → i < length rows → most_of_all (take (i + 1) rows) ≡ most_of_all (take i rows) + most_of (signature_of (get_or rows i 0))

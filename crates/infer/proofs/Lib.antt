@@ -21,3 +21,4 @@ pub mod DecidedLemmas
 pub mod FirstByteLemmas
 pub mod EvidenceLemmas
 pub mod GuardLemmas
+pub mod ReadyLemmas

@@ -12,6 +12,14 @@ use Rattle.infer.specs.declared.why.known.Guard.{Guard}
 use Rattle.infer.specs.declared.why.known.Known.{Known}
 use Rattle.infer.specs.declared.why.known.Probe.{Probe}
 use Rattle.infer.specs.Evidence.{most_of_all}
+use Rattle.infer.specs.declared.why.known.TheConstants.{NO_LEAD}
+use Rattle.infer.specs.declared.why.Way.{Way}
+use Rattle.infer_evidence.specs.Listed.{alternative_listed, set_listed}
+use Rattle.infer_evidence.specs.Weighed.{HasAlternative}
+use Rattle.infer_evidence.specs.declared.ranges.Range.{Range}
+use Rattle.infer_evidence.specs.declared.signature.Alternative as listed
+use Rattle.infer_evidence.specs.declared.signature.Part as asked
+use Rattle.infer_evidence.specs.declared.signature.Part.TheVariants.{AnyText, Byte, Text}
 use Rattle.infer.specs.declared.why.TheConstants.{MOST_OF_CANDIDATES}
 
 -- the buffer has at the place neither byte that the probe looks for
@@ -106,3 +114,77 @@ unfoldable pub guard_rows : ℕ → List (Option Known) → Bool
 guard_rows row [] = true
 guard_rows row (k ∷ rest) =
     option_map_or (λ known. are_guards row known.guards.now (alternatives_of (signature_of row))) k true && guard_rows (suc row) rest
+
+-- ---- the ranges that lie ready
+
+-- the range has the bytes of the part, which is none of several texts
+abbrev pub is_range_of : asked.Part → Range → Bool
+is_range_of (Text place t) r = (r.place == place) && (r.len == length t.now) && (r.step == 1)
+is_range_of (AnyText place ts) r = false
+is_range_of (Byte place set) r = (r.place == place) && (r.len == 1) && (r.step == 1)
+
+-- a range has the byte at the place
+abbrev pub names : List Range → ℕ → Bool
+names ranges place = list_any (λ r. (r.step == 1) && nat_le r.place place && nat_lt place (r.place + r.len)) ranges
+
+-- the range is the byte of a probe whose place is near
+abbrev pub is_probed : (near : ℕ → Bool) → List Probe → Range → Bool
+is_probed near probes r = (r.len == 1) && (r.step == 1) && near r.place && list_any (λ p. p.place == r.place) probes
+
+-- these ranges have the bytes of each part, and of each probe whose place is near, and no others
+abbrev pub says : (near : ℕ → Bool) → List asked.Part → List Probe → List Range → Bool
+says near parts probes ranges =
+    list_all (λ part. list_any (is_range_of part) ranges) parts
+    && list_all (λ p. not (near p.place) || names ranges p.place) probes
+    && list_all (λ r. list_any (λ part. is_range_of part r) parts || is_probed near probes r) ranges
+
+-- so do all ranges of a guard with each probe, and those before a probe with the probes at places before it
+abbrev pub is_ready : listed.Alternative → Guard → Bool
+is_ready a g =
+    (g.least == a.least) && nat_le (length g.ranges.now) (length a.parts.now + length g.probes.now)
+    && says (λ k. true) a.parts.now g.probes.now g.ranges.now
+    && list_all (λ p. nat_le p.before (length g.ranges.now) && says (λ k. nat_lt k p.place) a.parts.now g.probes.now (take p.before g.ranges.now)) g.probes.now
+
+-- the text begins with another byte than x
+abbrev pub is_led_otherwise : ℕ → List ℕ → Bool
+is_led_otherwise x [] = false
+is_led_otherwise x (y ∷ t) = not (y == x)
+
+-- no buffer that begins with x has these parts
+abbrev pub begins_otherwise : ℕ → List asked.Part → Bool
+begins_otherwise x [] = false
+begins_otherwise x (Text place t ∷ parts) = (place == 0) && is_led_otherwise x t.now
+begins_otherwise x (AnyText place ts ∷ parts) = false
+begins_otherwise x (Byte place set ∷ parts) = (place == 0) && not (allows (set_listed set) x)
+
+-- nor those of another alternative than number k
+unfoldable pub is_only : ℕ → ℕ → List listed.Alternative → Bool
+is_only x k [] = true
+is_only x zero (a ∷ alternatives) = list_all (λ a. begins_otherwise x a.parts.now) alternatives
+is_only x (suc k) (a ∷ alternatives) = begins_otherwise x a.parts.now && is_only x k alternatives
+
+-- the guards from number k on are those of the alternatives that are left of all, and lie ready; by its lead each is told from
+-- the others
+unfoldable pub are_ready : ℕ → List (Option Guard) → (rest all : List listed.Alternative) → Bool
+are_ready k [] rest all = true
+are_ready k (g ∷ gs) [] all = false
+are_ready k (g ∷ gs) (a ∷ rest) all =
+    option_map_or (λ guard. is_ready a guard && (nat_le NO_LEAD guard.lead || is_only guard.lead k all)) g true && are_ready (suc k) gs rest all
+
+-- the alternatives of a row that is known have guards, each or none, which lie ready
+abbrev pub is_known_ready : Known → Bool
+is_known_ready k =
+    ((length k.guards.now == 0) || (length k.guards.now == length k.alternatives.now)) && are_ready 0 k.guards.now k.alternatives.now k.alternatives.now
+
+-- and so of each of these rows
+abbrev pub ready_rows : List (Option Known) → Bool
+ready_rows rows = list_all (λ k. option_map_or is_known_ready k true) rows
+
+-- by the way's alternative the row accepts the buffer, and by its guard no row before does, but of those that are left
+pub record IsWay (row : ℕ) (b : List ℕ) (w : Way) : Type 0 where
+  pub has : HasAlternative b w.alternative.now
+  pub accepts : (c : List ℕ) → HasAlternative c w.alternative.now → RowHas (Accepts c) row
+  pub guarded : IsGuardedBy row (alternative_listed w.alternative.now) w.guard.now
+  pub few : length w.alternative.now.parts.now + length w.guard.now.probes.now + most_of_all w.guard.now.left.now ≤ 1 + MOST_OF_CANDIDATES
+  pub ascending : IsAscending w.guard.now.probes.now
+  pub ready : IsTrue (is_ready w.alternative.now w.guard.now)

@@ -1,16 +1,17 @@
 //! The bytes of a buffer that decide its answer.
-ghost use Rattle.std.specs.Prelude.{◌≡◌, ◌↔◌, ◌+◌, ◌<◌, ◌≤◌, ℕ, List, All, IfSome, IsTrue, Some, length};
+ghost use Rattle.std.specs.Prelude.{◌≡◌, ◌↔◌, ◌+◌, ◌<◌, ◌≤◌, ℕ, List, All, IfSome, IsTrue, None, Some, length};
 ghost use Rattle.std.specs.List.{HoldsAt};
 ghost use Rattle.infer.specs.Evidence.{Decides, IsSearch, IsTold, TellsFirst, TellsRow, most_of, most_of_all};
 ghost use Rattle.infer.specs.First.{IsFirstOf};
-ghost use Rattle.infer.specs.Guards.{IsAscending, IsGuardedBy, Lacks};
+ghost use Rattle.infer.specs.BuiltIn.{fixed};
+ghost use Rattle.infer.specs.Guards.{IsAscending, IsWay, Lacks, alternatives_of, are_guards, is_known_ready, is_ready};
 ghost use Rattle.infer.specs.Row.{Accepts};
 ghost use Rattle.infer.specs.Table.{signature_of, table};
 ghost use Rattle.infer.specs.declared.why.TheConstants.{MOST_OF_CANDIDATES};
 ghost use Rattle.infer_evidence.specs.declared.search.TheConstants.{MOST_OF_A_SEARCH};
 ghost use Rattle.infer.specs.Walks.{IsFirstAmong, RowHas};
 ghost use Rattle.infer_evidence.specs.Evidence.{AgreesOn, HasSame, IsOf};
-ghost use Rattle.infer_evidence.specs.Listed.{alternative_listed};
+ghost use Rattle.infer_evidence.specs.Listed.{signature_listed};
 ghost use Rattle.infer_evidence.specs.Weighed.{HasAlternative, HasSignature};
 
 use crate::answers::position;
@@ -19,13 +20,13 @@ use crate::candidates::dispatch::{arm_of, blank, candidates_at, leads};
 use crate::decided::may_become;
 use crate::table::rows::ROW_COUNT;
 use infer_evidence::{
-    Alternative, Evidence, MOST_OF_A_SEARCH, Part, Range, Search, Told, accept, accept_search,
-    fits, refuse_search, shortest_front, weigh,
+    Alternative, Evidence, MOST_OF_A_SEARCH, Range, Search, Told, accept_search, fits,
+    refuse_search, shortest_front, weigh,
 };
 
 mod known;
 
-use known::{Guard, Probe, known_of, search_of};
+use known::{Guard, Known, known_at, known_of, search_of};
 
 /// For how many ranges all candidates of a first byte ask at most.
 pub const MOST_OF_CANDIDATES: usize = 67;
@@ -100,9 +101,7 @@ fn weigh_row(row: usize, buf: &[u8], evidence: &mut Evidence) -> bool
     accepts
 }
 
-/// The first of the rows that accepts the buffer, and asks for what tells that it is. It is not inlined, so that an answer
-/// with a guard alone pays nothing for it.
-#[inline(never)]
+/// The first of the rows that accepts the buffer, and asks for what tells that it is.
 fn weigh_rows(rows: &[usize], buf: &[u8], evidence: &mut Evidence) -> Option<usize>
     ensures first { IsFirstAmong (RowHas (Accepts buf.now)) rows.now result }
     ensures tells { TellsFirst evidence.old evidence.new buf.now rows.now result }
@@ -117,6 +116,42 @@ fn weigh_rows(rows: &[usize], buf: &[u8], evidence: &mut Evidence) -> Option<usi
     None
 }
 
+/// Asks for what tells that the row does not accept the buffer.
+fn refuse_row(row: usize, buf: &[u8], evidence: &mut Evidence)
+    requires { ¬ RowHas (Accepts buf.now) row }
+    ensures tells { TellsRow evidence.old evidence.new buf.now row }
+    ensures inside { IsOf evidence.old buf.now → IsOf evidence.new buf.now }
+    ensures few { evidence.new.count ≤ evidence.old.count + most_of (signature_of row) }
+{
+    match search_of(row) {
+        Some(search) => refuse_search(&search, buf, Some(row), evidence),
+        None => weigh_front(
+            &Acceptance {
+                row,
+                accepts: false,
+            },
+            buf,
+            evidence,
+        ),
+    }
+}
+
+/// Asks for what tells that none of these rows accepts the buffer, if each is before the first that does.
+fn refuse_rows(rows: &[usize], first: usize, buf: &[u8], evidence: &mut Evidence) -> bool
+    requires { IsFirstOf (Accepts buf.now) table (Some first) }
+    ensures tells { IsTrue result → TellsFirst evidence.old evidence.new buf.now rows.now None }
+    ensures inside { IsOf evidence.old buf.now → IsOf evidence.new buf.now }
+    ensures few { evidence.new.count ≤ evidence.old.count + most_of_all rows.now }
+{
+    for row in rows {
+        if *row >= first {
+            return false;
+        }
+        refuse_row(*row, buf, evidence);
+    }
+    true
+}
+
 /// An alternative of the signature of a row, and what is left to be asked of the rows before.
 #[derive(Drop)]
 struct Way {
@@ -124,49 +159,30 @@ struct Way {
     guard: &'static Guard,
 }
 
-/// Whether the buffer begins with another byte than the text with which the alternative does.
-fn begins_otherwise(alternative: &Alternative, buf: &[u8]) -> bool
-    ensures { IsTrue result → ¬ HasAlternative buf.now alternative.now }
+/// The number of the alternative that the buffer's first byte tells from the others.
+#[inline(always)]
+fn led(own: &Known, buf: &[u8]) -> Option<usize>
+    requires has { HasSignature buf.now own.now.alternatives.now }
+    requires ready { IsTrue (is_known_ready own.now) }
+    ensures { IfSome result (λ k. (k < length own.now.alternatives.now)
+        × HoldsAt (HasAlternative buf.now) own.now.alternatives.now k) }
 {
-    match alternative.parts.first() {
-        Some(Part::Text(0, text)) => match (text.first(), buf.first()) {
-            (Some(asked), Some(byte)) => asked != byte,
-            _ => false,
-        },
-        _ => false,
-    }
-}
-
-/// The number of the only alternative that the buffer's first byte does not rule out.
-fn only_beginning(signature: &[Alternative], buf: &[u8]) -> Option<usize>
-    requires { HasSignature buf.now signature.now }
-    ensures { IfSome result (λ k. (k < length signature.now)
-        × HoldsAt (HasAlternative buf.now) signature.now k) }
-{
-    let mut only = None;
-    for k in 0..signature.len() {
-        if !begins_otherwise(&signature[k], buf) {
-            if only.is_some() {
-                return None;
-            }
-            only = Some(k);
+    let lead = buf.first()?;
+    for k in 0..own.guards.len() {
+        if let Some(guard) = &own.guards[k]
+            && guard.lead == u16::from(*lead)
+        {
+            return Some(k);
         }
     }
-    only
+    None
 }
 
-/// The number of an alternative that the buffer has.
-fn fitting(signature: &[Alternative], buf: &[u8]) -> Option<usize>
-    requires { HasSignature buf.now signature.now }
+/// The number of the first alternative that the buffer has.
+fn first_fitting(signature: &[Alternative], buf: &[u8]) -> Option<usize>
     ensures { IfSome result (λ k. (k < length signature.now)
         × HoldsAt (HasAlternative buf.now) signature.now k) }
 {
-    if signature.len() == 1 {
-        return Some(0);
-    }
-    if let Some(k) = only_beginning(signature, buf) {
-        return Some(k);
-    }
     for k in 0..signature.len() {
         if fits(signature[k].least, signature[k].parts, buf) {
             return Some(k);
@@ -175,21 +191,18 @@ fn fitting(signature: &[Alternative], buf: &[u8]) -> Option<usize>
     None
 }
 
-/// The alternative by which the row accepts the buffer, if it is one that has a guard.
-fn guarded(row: usize, buf: &[u8]) -> Option<Way>
-    requires { RowHas (Accepts buf.now) row }
-    ensures has { IfSome result (λ w. HasAlternative buf.now w.alternative.now) }
-    ensures accepts { IfSome result (λ w. (b : List ℕ) → HasAlternative b w.alternative.now
-        → RowHas (Accepts b) row) }
-    ensures guarded { IfSome result (λ w. IsGuardedBy row (alternative_listed w.alternative.now) w.guard.now) }
-    ensures few { IfSome result (λ w. length w.alternative.now.parts.now + length w.guard.now.probes.now
-        + most_of_all w.guard.now.left.now ≤ 1 + MOST_OF_CANDIDATES) }
-    ensures ascending { IfSome result (λ w. IsAscending w.guard.now.probes.now) }
+/// The way by the alternative with that number, which the buffer has, if it is one that has a guard.
+#[inline(always)]
+fn way_at(row: usize, own: &'static Known, k: usize, buf: &[u8]) -> Option<Way>
+    requires signature { signature_of row ≡ fixed (signature_listed own.now.alternatives.now) }
+    requires guarded { IsTrue (are_guards row own.now.guards.now (alternatives_of (signature_of row))) }
+    requires ready { IsTrue (is_known_ready own.now) }
+    requires within { k < length own.now.alternatives.now }
+    requires has { HoldsAt (HasAlternative buf.now) own.now.alternatives.now k }
+    ensures { IfSome result (IsWay row buf.now) }
 {
     leads();
     infer_sig::laws::by_place();
-    let own = known_of(row)?;
-    let k = fitting(own.alternatives, buf)?;
     match own.guards.get(k)? {
         Some(guard) => Some(Way {
             alternative: &own.alternatives[k],
@@ -199,74 +212,61 @@ fn guarded(row: usize, buf: &[u8]) -> Option<Way>
     }
 }
 
-/// Asks for the byte at the place of a probe, unless it is named already.
+/// The way by which the row accepts the buffer, if its only alternative has a guard, or that which the first byte tells.
 #[inline(always)]
-fn ask_probe(probe: &Probe, evidence: &mut Evidence)
-    ensures same { (b c : List ℕ) → AgreesOn evidence.new b c → AgreesOn evidence.old b c
-        × HasSame b c probe.now.place 1 }
-    ensures inside { (b : List ℕ) → IsOf evidence.old b → probe.now.place < length b → IsOf evidence.new b }
-    ensures few { evidence.new.count ≤ evidence.old.count + 1 }
+fn led_way(row: usize, buf: &[u8]) -> Option<Way>
+    requires accepts { RowHas (Accepts buf.now) row }
+    requires bound { row < ROW_COUNT }
+    ensures { IfSome result (IsWay row buf.now) }
 {
-    let range = Range::new(probe.place, 1, Some(probe.row));
-    if probe.is_named {
-        evidence.ask(range);
-    } else {
-        evidence.ask_held(range);
+    infer_sig::laws::by_place();
+    let own = known_at(row)?;
+    if own.guards.len() == 1 {
+        return way_at(row, own, 0, buf);
     }
+    let k = led(own, buf)?;
+    way_at(row, own, k, buf)
 }
 
-/// Whether the buffer lacks what the probes look for, and asks for what tells that it does. One that ends before a probe's
-/// place has no byte at any later one.
-fn lacks(probes: &[Probe], buf: &[u8], evidence: &mut Evidence) -> bool
-    requires { IsAscending probes.now }
-    ensures tells { IsTrue result → (b : List ℕ) → AgreesOn evidence.new buf.now b
-        → AgreesOn evidence.old buf.now b × All (Lacks b) probes.now }
-    ensures inside { IsOf evidence.old buf.now → IsOf evidence.new buf.now }
-    ensures few { evidence.new.count ≤ evidence.old.count + length probes.now }
+/// The way by which the row accepts the buffer, if the first alternative that fits has a guard.
+fn fitting_way(row: usize, buf: &[u8]) -> Option<Way>
+    requires { row < ROW_COUNT }
+    ensures { IfSome result (IsWay row buf.now) }
 {
-    for probe in probes {
+    let own = known_at(row)?;
+    let k = first_fitting(own.alternatives, buf)?;
+    way_at(row, own, k, buf)
+}
+
+/// Whether the buffer lacks what the probes look for. If it does, just the ranges that lie ready for this are asked for: one that
+/// ends before a probe's place has no byte at any later one.
+#[inline(always)]
+fn ask_ready(way: &Way, buf: &[u8], evidence: &mut Evidence) -> bool
+    requires has { HasAlternative buf.now way.now.alternative.now }
+    requires ascending { IsAscending way.now.guard.now.probes.now }
+    requires ready { IsTrue (is_ready way.now.alternative.now way.now.guard.now) }
+    ensures tells { IsTrue result → (b : List ℕ) → AgreesOn evidence.new buf.now b
+        → HasAlternative b way.now.alternative.now × All (Lacks b) way.now.guard.now.probes.now }
+    ensures inside { IsTrue result → IsOf evidence.new buf.now }
+    ensures few { IsTrue result → evidence.new.count
+        ≤ length way.now.alternative.now.parts.now + length way.now.guard.now.probes.now }
+{
+    let guard = way.guard;
+    for probe in guard.probes {
         if probe.place >= buf.len() {
-            evidence.ask_exact();
+            evidence.take_ready(guard.ranges, probe.before, guard.least, true);
             return true;
         }
         let byte = buf[probe.place];
         if byte == probe.one || byte == probe.other {
             return false;
         }
-        ask_probe(probe, evidence);
     }
+    evidence.take_ready(guard.ranges, guard.ranges.len(), guard.least, false);
     true
 }
 
-/// Asks for what tells that the row is the first that accepts the buffer, if few bytes do: those of an alternative that has a
-/// guard, and of the guard.
-fn told_by_guard(row: usize, buf: &[u8], evidence: &mut Evidence) -> bool
-    requires { IsFirstOf (Accepts buf.now) table (Some row) }
-    ensures decides { IsTrue result → Decides evidence.new buf.now (Some row) }
-    ensures inside { IsOf evidence.new buf.now }
-    ensures few { evidence.new.count ≤ 1 + MOST_OF_CANDIDATES }
-{
-    infer_sig::laws::by_place();
-    evidence.clear();
-    let Some(way) = guarded(row, buf) else {
-        return false;
-    };
-    let alternative = way.alternative;
-    accept(
-        alternative.least,
-        alternative.parts,
-        buf,
-        Some(row),
-        evidence,
-    );
-    if !lacks(way.guard.probes, buf, evidence) {
-        return false;
-    }
-    way.guard.left.is_empty() || weigh_rows(way.guard.left, buf, evidence).is_none()
-}
-
 /// The first of the candidates that accepts the buffer, and asks for what tells that it is.
-#[inline(never)]
 fn weigh_candidates(buf: &[u8], evidence: &mut Evidence) -> Option<usize>
     ensures first { IsFirstOf (Accepts buf.now) table result }
     ensures decides { Decides evidence.new buf.now result }
@@ -281,6 +281,82 @@ fn weigh_candidates(buf: &[u8], evidence: &mut Evidence) -> Option<usize>
     };
     evidence.ask(Range::new(0, 1, None));
     weigh_rows(candidates_at(arm_of(*first)), buf, evidence)
+}
+
+/// The same, and asks for nothing else. Like each way but the shortest it is a function of its own, so that an answer with a
+/// guard alone pays nothing for it.
+#[inline(never)]
+fn weigh_anew(buf: &[u8], evidence: &mut Evidence) -> Option<usize>
+    ensures first { IsFirstOf (Accepts buf.now) table result }
+    ensures bound { IfSome result (λ i. i < ROW_COUNT) }
+    ensures decides { Decides evidence.new buf.now result }
+    ensures inside { IsOf evidence.new buf.now }
+    ensures few { evidence.new.count ≤ 1 + MOST_OF_CANDIDATES }
+{
+    evidence.clear();
+    weigh_candidates(buf, evidence)
+}
+
+/// The row, of which is asked for what tells that it is the first, but for these rows. Asks for what tells that none of them
+/// is.
+#[inline(never)]
+fn tell_before(row: usize, rows: &[usize], buf: &[u8], evidence: &mut Evidence) -> Option<usize>
+    requires accepts { IsFirstOf (Accepts buf.now) table (Some row) }
+    requires within { row < ROW_COUNT }
+    requires told { (c : List ℕ) → AgreesOn evidence.old buf.now c
+        → IsFirstAmong (RowHas (Accepts c)) rows.now None → IsFirstOf (Accepts c) table (Some row) }
+    requires of { IsOf evidence.old buf.now }
+    requires room { evidence.old.count + most_of_all rows.now ≤ 1 + MOST_OF_CANDIDATES }
+    ensures first { IsFirstOf (Accepts buf.now) table result }
+    ensures bound { IfSome result (λ i. i < ROW_COUNT) }
+    ensures decides { Decides evidence.new buf.now result }
+    ensures inside { IsOf evidence.new buf.now }
+    ensures few { evidence.new.count ≤ 1 + MOST_OF_CANDIDATES }
+{
+    if refuse_rows(rows, row, buf, evidence) {
+        return Some(row);
+    }
+    weigh_anew(buf, evidence)
+}
+
+/// The row, which is the first that accepts the buffer, and asks for what tells that it is: for what lies ready for the way, if
+/// the rows before are ruled out by it.
+#[inline(always)]
+fn tell(row: usize, way: &Way, buf: &[u8], evidence: &mut Evidence) -> Option<usize>
+    requires accepts { IsFirstOf (Accepts buf.now) table (Some row) }
+    requires within { row < ROW_COUNT }
+    requires way { IsWay row buf.now way.now }
+    ensures first { IsFirstOf (Accepts buf.now) table result }
+    ensures bound { IfSome result (λ i. i < ROW_COUNT) }
+    ensures decides { Decides evidence.new buf.now result }
+    ensures inside { IsOf evidence.new buf.now }
+    ensures few { evidence.new.count ≤ 1 + MOST_OF_CANDIDATES }
+{
+    infer_sig::laws::by_place();
+    if !ask_ready(way, buf, evidence) {
+        return weigh_anew(buf, evidence);
+    }
+    if way.guard.left.is_empty() {
+        return Some(row);
+    }
+    tell_before(row, way.guard.left, buf, evidence)
+}
+
+/// The same, by the first alternative that fits.
+#[inline(never)]
+fn tell_by_fitting(row: usize, buf: &[u8], evidence: &mut Evidence) -> Option<usize>
+    requires accepts { IsFirstOf (Accepts buf.now) table (Some row) }
+    requires within { row < ROW_COUNT }
+    ensures first { IsFirstOf (Accepts buf.now) table result }
+    ensures bound { IfSome result (λ i. i < ROW_COUNT) }
+    ensures decides { Decides evidence.new buf.now result }
+    ensures inside { IsOf evidence.new buf.now }
+    ensures few { evidence.new.count ≤ 1 + MOST_OF_CANDIDATES }
+{
+    match fitting_way(row, buf) {
+        Some(way) => tell(row, &way, buf, evidence),
+        None => weigh_anew(buf, evidence),
+    }
 }
 
 /// The number of the first built-in row that accepts `buf`, as [`position`](crate::position) answers, and what decides it: the
@@ -298,12 +374,11 @@ pub fn evidence(buf: &[u8], evidence: &mut Evidence) -> Option<usize>
     ensures inside { IsOf evidence.new buf.now }
     ensures few { evidence.new.count ≤ 1 + MOST_OF_CANDIDATES }
 {
-    let first = position(buf);
-    match first {
-        Some(row) if told_by_guard(row, buf, evidence) => first,
-        _ => {
-            evidence.clear();
-            weigh_candidates(buf, evidence)
-        }
+    let Some(row) = position(buf) else {
+        return weigh_anew(buf, evidence);
+    };
+    match led_way(row, buf) {
+        Some(way) => tell(row, &way, buf, evidence),
+        None => tell_by_fitting(row, buf, evidence),
     }
 }
