@@ -79,7 +79,7 @@ static ARE_PARENTS: &[bool] = &[
 
 /// Whether further rows stand below this built-in row: by one look, as below most there are none.
 #[inline(always)]
-fn is_parent(row: usize) -> bool
+pub(crate) fn is_parent(row: usize) -> bool
     ensures {{ IsTrue result ↔ IsTrue (has_row_below row) }}
 {{
     is_marked(ARE_PARENTS, row)

@@ -307,7 +307,7 @@ pub(crate) mod asked;
 mod generated;
 
 pub use generated::FURTHER_COUNT;
-pub(crate) use generated::found_below;
+pub(crate) use generated::{found_below, is_parent};
 use generated::{LAST_PLACE, NEAR_PLACE, PARENTLESS, told_below};
 
 /// How the rows below this built-in row are told: in a way by which just those are found that widen its answer.

@@ -1,5 +1,5 @@
 //! The bytes of a buffer that decide its wider answer.
-ghost use Rattle.std.specs.Prelude.{◌≡◌, ◌↔◌, ◌+◌, ◌<◌, All, Any, IfSome, IsTrue, Some, slice_get};
+ghost use Rattle.std.specs.Prelude.{◌≡◌, ◌↔◌, ◌+◌, ◌<◌, All, Any, IfSome, IsTrue, Some, false, slice_get};
 ghost use Rattle.infer.specs.First.{IsFirstOf};
 ghost use Rattle.infer.specs.declared.table.rows.TheConstants.{ROW_COUNT};
 ghost use Rattle.infer_evidence.specs.Evidence.{IsOf};
@@ -10,12 +10,12 @@ ghost use Rattle.infer_more.specs.Open.{is_row_sound};
 ghost use Rattle.infer_more.specs.Row.{is_row_closed};
 ghost use Rattle.infer_more.specs.Table.{further};
 ghost use Rattle.infer_more.specs.Why.{Decides, IsAlikeAt, IsTold, IsToldAt, LacksBytes, Tells, part_of};
-ghost use Rattle.infer_more.specs.Wider.{IsWider, Widens, WidensAt};
+ghost use Rattle.infer_more.specs.Wider.{IsWider, IsWidest, Widens, WidensAt};
 ghost use Rattle.infer_more.specs.declared.index.generated.TheConstants.{FURTHER_COUNT};
 ghost use Rattle.infer_more.specs.declared.signature.Alternative.TheVariants as listed;
 
 use crate::decided::is_stable;
-use crate::index::FURTHER_COUNT;
+use crate::index::{FURTHER_COUNT, is_parent};
 use crate::open::may_become_accepted;
 use crate::signature;
 use crate::signature::{ANY, Alternative, Bytes, Piece};
@@ -203,6 +203,17 @@ fn widen(parent: Option<usize>, buf: &[u8], evidence: &mut Evidence) -> Option<u
     None
 }
 
+/// Whether some further row may widen this answer: one that stands below it or, if there is no answer, below none.
+#[inline(always)]
+fn may_widen(parent: Option<usize>) -> bool
+    ensures { result ≡ false → IsWidest parent }
+{
+    match parent {
+        Some(row) => is_parent(row),
+        None => true,
+    }
+}
+
 /// The number of the wider answer of `buf`, as [`position`](crate::position) answers, and what decides it: the bytes of
 /// ranges, and what is needed of the length. Every buffer with the same bytes in these ranges and such a length has the same
 /// answer, unless more ranges are wanted than there is room for.
@@ -218,6 +229,10 @@ pub fn evidence(buf: &[u8], evidence: &mut Evidence) -> Option<usize>
 {
     law_numbers();
     let parent = infer::evidence(buf, evidence);
+    // Most built-in answers are wide enough whatever the buffer is.
+    if !may_widen(parent) {
+        return parent;
+    }
     match widen(parent, buf, evidence) {
         Some(i) => Some(ROW_COUNT + i),
         None => parent,
