@@ -32,3 +32,4 @@ pub mod DescribedLemmas
 pub mod OwnSizeLemmas
 pub mod AnswerLineLemmas
 pub mod WhyLemmas
+pub mod TriedLemmas

@@ -5,6 +5,8 @@ ghost use Rattle.infer.specs.declared.table.rows.TheConstants.{ROW_COUNT};
 ghost use Rattle.infer_evidence.specs.Evidence.{IsOf};
 ghost use Rattle.infer_evidence.specs.Weighed.{HasParts};
 ghost use Rattle.infer_notation.specs.Alternative.{Accepted};
+ghost use Rattle.infer_more.specs.Index.{FindsBelow, ascends, entry_row};
+ghost use Rattle.infer_more.specs.declared.index.Below.TheVariants as ways;
 ghost use Rattle.infer_more.specs.Listed.{row_listed, signature_listed};
 ghost use Rattle.infer_more.specs.Open.{is_row_sound};
 ghost use Rattle.infer_more.specs.Row.{is_row_closed};
@@ -15,7 +17,7 @@ ghost use Rattle.infer_more.specs.declared.index.generated.TheConstants.{FURTHER
 ghost use Rattle.infer_more.specs.declared.signature.Alternative.TheVariants as listed;
 
 use crate::decided::is_stable;
-use crate::index::{FURTHER_COUNT, is_parent};
+use crate::index::{Below, Entry, FURTHER_COUNT, is_parent, way_below};
 use crate::open::may_become_accepted;
 use crate::signature;
 use crate::signature::{ANY, Alternative, Bytes, Piece};
@@ -203,6 +205,58 @@ fn widen(parent: Option<usize>, buf: &[u8], evidence: &mut Evidence) -> Option<u
     None
 }
 
+/// The same of an answer below which just the rows of these entries stand: no other is looked at.
+fn widen_tried(
+    parent: usize,
+    entries: &[Entry],
+    buf: &[u8],
+    evidence: &mut Evidence,
+) -> Option<usize>
+    requires ascend { IsTrue (ascends entry_row entries.now) }
+    requires finds { FindsBelow parent (ways.Entries entries) }
+    ensures first { IsFirstOf (Widens (Some parent) buf.now) further result }
+    ensures bound { IfSome result (λ i. i < FURTHER_COUNT) }
+    ensures tells { Tells evidence.old evidence.new buf.now
+        (λ c. IsFirstOf (Widens (Some parent) c) further result) }
+    ensures inside { IsOf evidence.old buf.now → IsOf evidence.new buf.now }
+{
+    for entry in entries {
+        let i = entry.row as usize;
+        if weigh_at(i, Some(parent), buf, evidence) {
+            return Some(i);
+        }
+    }
+    None
+}
+
+/// The same of this built-in answer.
+fn widen_below(parent: usize, buf: &[u8], evidence: &mut Evidence) -> Option<usize>
+    ensures first { IsFirstOf (Widens (Some parent) buf.now) further result }
+    ensures bound { IfSome result (λ i. i < FURTHER_COUNT) }
+    ensures tells { Tells evidence.old evidence.new buf.now
+        (λ c. IsFirstOf (Widens (Some parent) c) further result) }
+    ensures inside { IsOf evidence.old buf.now → IsOf evidence.new buf.now }
+{
+    match way_below(parent) {
+        Below::Entries(entries) => widen_tried(parent, entries, buf, evidence),
+        _ => widen(Some(parent), buf, evidence),
+    }
+}
+
+/// The same of any answer.
+fn widen_any(parent: Option<usize>, buf: &[u8], evidence: &mut Evidence) -> Option<usize>
+    ensures first { IsFirstOf (Widens parent buf.now) further result }
+    ensures bound { IfSome result (λ i. i < FURTHER_COUNT) }
+    ensures tells { Tells evidence.old evidence.new buf.now
+        (λ c. IsFirstOf (Widens parent c) further result) }
+    ensures inside { IsOf evidence.old buf.now → IsOf evidence.new buf.now }
+{
+    match parent {
+        Some(row) => widen_below(row, buf, evidence),
+        None => widen(None, buf, evidence),
+    }
+}
+
 /// Whether some further row may widen this answer: one that stands below it or, if there is no answer, below none.
 #[inline(always)]
 fn may_widen(parent: Option<usize>) -> bool
@@ -233,7 +287,7 @@ pub fn evidence(buf: &[u8], evidence: &mut Evidence) -> Option<usize>
     if !may_widen(parent) {
         return parent;
     }
-    match widen(parent, buf, evidence) {
+    match widen_any(parent, buf, evidence) {
         Some(i) => Some(ROW_COUNT + i),
         None => parent,
     }
