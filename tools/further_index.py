@@ -35,10 +35,13 @@ use crate::index::{{
 /// How many further rows there are.
 pub const FURTHER_COUNT: usize = {};
 
-/// The last place but one at which the guards, the gate, the ranges and the spots look.
+/// The last place at which the guards, the gate, the ranges and the spots look in what is mostly read of a file.
 pub(super) const LAST_PLACE: usize = {};
 
-/// The last of the places at which they look that are near the front.
+/// The last of these places before the second sector of a disk.
+pub(super) const MIDDLE_PLACE: usize = {};
+
+/// The last of them near the front.
 pub(super) const NEAR_PLACE: usize = {};
 
 """
@@ -190,7 +193,7 @@ TEXT_OF_BYTES = rf"b{TEXT}"
 # The longest line of code, and the longest word of a list that has several a line.
 WIDTH, SHORT = 100, 10
 # How many buckets of programs there are, and of roots.
-BUCKETS, ROOT_BUCKETS = 32, 8
+BUCKETS, ROOT_BUCKETS = 32, 32
 # Of how many spans a second byte picks one.
 PICKS = 16
 # How many first bytes have a third byte: every buffer without an answer is asked for each of them.
@@ -199,8 +202,10 @@ MOST_THIRDS = 3
 ONE, LOOP, EACH = 14, 36, 11
 # Places behind this are far: few headers are as long. Most have the places up to the other.
 FAR, FRONT = 64, 32
-# How many marks there are at most, one for each spot.
-MARKS = 64
+# The size of a sector of a disk, and how much is mostly read of a file.
+SECTOR, READ = 512, 8192
+# How many marks there are at most for spots, one for each.
+MARKS = 63
 # How many rows a near spot tells at most, a far one and one of a zero, unless more have one byte: the fewer, the more spots are
 # asked for, and the fewer rows. A buffer with far places is asked for all spots, and one that begins with a zero for those of it.
 NEAR_SEEN, FAR_SEEN, ZERO_SEEN = 4, 3, 4
@@ -208,6 +213,8 @@ NEAR_SEEN, FAR_SEEN, ZERO_SEEN = 4, 3, 4
 LISTED = {"Nothing", "Entries"}
 # What is told last, without being tried.
 TEXTS = {"JsonLines", "JsonText", "PlainText"}
+# With which bytes markup begins, or an object: these have the last mark.
+TOLD_BYTES, TOLD_MARK = b"\t\n\r <{\xEF", 1 << 63
 # What is told without a parent and not tried.
 TOLD = TEXTS | {"Root", "RootWith", "FirstKey", "FirstKeyWith"}
 COMMON = set(b" etaoinshrdlu\n\x00\x01\xFF")
@@ -645,8 +652,9 @@ def is_behind(gate, alternative):
 
 
 def marks_of(spots):
-    """The marks of each byte: a bit for each of these spots that asks for it."""
-    return [sum(1 << bit for bit, (place, some) in enumerate(spots) if any(byte in it[place] for _, it in some)) for byte in range(256)]
+    """The marks of each byte: a bit for each of these spots that asks for it, and that of the bytes with which markup begins."""
+    of_spots = [sum(1 << bit for bit, (place, some) in enumerate(spots) if any(byte in it[place] for _, it in some)) for byte in range(256)]
+    return [mark | TOLD_MARK * (byte in TOLD_BYTES) for byte, mark in enumerate(of_spots)]
 
 
 def in_spots(spots, first):
@@ -945,6 +953,7 @@ def lists(rows, parents):
     yield "        ],"
     yield "    },"
     own = [(k, row) for k, row in numbered if not row.parent]
+    yield f"    told: 0x{TOLD_MARK:X},"
     yield f"    roots: {rooted(own)},"
     yield f"    keys: keyed!{bracketed(said for _, said in told_by(own, 'FirstKey'))},"
     yield "    texts: Texts {"
@@ -1022,9 +1031,9 @@ def block(numbers):
 
 
 def by_block(ends, call):
-    """The first block that ends behind row `i`, and the last for what is behind it."""
-    yield from (f"    if i < {end} {{\n        return {call.format(end)};\n    }}" for end in ends[:-1])
-    yield f"    {call.format(ends[-1])}"
+    """The last block first, whose rows have no first byte, so that their samples are the dearest."""
+    yield from (f"    if i >= {first} {{\n        return {call.format(end)};\n    }}" for first, end in reversed([*zip(ends, ends[1:])]))
+    yield f"    {call.format(ends[0])}"
 
 
 def by_number(rows):
@@ -1037,4 +1046,5 @@ def by_number(rows):
 def text(rows, parents):
     """The file of the index."""
     places = sorted(looked_at(rows))
-    return HEAD.format(len(rows), places[-2], max(it for it in places if it <= FRONT)) + "\n".join(lists(rows, parents)) + "\n" + by_parent(rows, parents)
+    last_places = (max(it for it in places if it < bound) for bound in (READ, SECTOR, FRONT + 1))
+    return HEAD.format(len(rows), *last_places) + "\n".join(lists(rows, parents)) + "\n" + by_parent(rows, parents)

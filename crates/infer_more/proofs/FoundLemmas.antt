@@ -1,6 +1,6 @@
 -- By the index just those rows are found that widen an answer.
-use Rattle.std.proofs.lemmas.Bool.{or_cases}
-use Rattle.infer_more.proofs.Common.{◌≡◌, ◌↔◌, ℕ, zero, suc, ◌+◌, ◌<◌, ◌≤◌, ◌==◌, inl, inr, ◌⊎◌, Bool, true, false, IsTrue, List, [], ◌∷◌, Option, None, Some, length, get_or, ap, sym, ◌∙◌, subst, arith, refl, ◌%◌, ◌&&◌, ◌||◌, ◌++◌, slice_index, nat_le, list_all, list_any, option_map_or, cases_lt, eqb-true, leb-true, get_or_default, slice_get_cases, Bor, IsJson, IsJsonLines, BeginsElement, IsRootElement, IsXmlSpace, there, IsProgram, IsOneOf, IsPackageWith, applications, accepts, fits, stands, StandsByPlace, IsBuffer, is_listed, HasTagText, IsFoundBelow, IsLeast, IsNamed, IsOfProgram, IsRootedBy, IsRooted, IsRowOf, IsTried, ascends, candidates, excepted, is_covered, is_excepted, is_plain, is_tried_parentless, is_true_below, named_row, rooted_row, tried_parentless, lines, Further, Accepted, Fits, related, json_lines, json_text, package_with, plain_text, program, root, root_with, further, Widens, WidensAt, Nothing, Except, Named, Parentless, Rooted, FURTHER_COUNT, and_from, bucket_of, class_id, if◌then◌else◌, not, eq-eqb}
+use Rattle.std.proofs.lemmas.Bool.{ltb-true, or_cases}
+use Rattle.infer_more.proofs.Common.{◌≡◌, ◌↔◌, ℕ, zero, suc, ◌+◌, ◌<◌, ◌≤◌, ◌==◌, inl, inr, ◌⊎◌, Bool, true, false, IsTrue, List, [], ◌∷◌, Option, None, Some, length, get_or, ap, sym, ◌∙◌, subst, arith, refl, ◌%◌, ◌&&◌, ◌||◌, ◌++◌, slice_index, nat_le, nat_lt, list_all, list_any, option_map_or, cases_lt, eqb-true, leb-true, get_or_default, slice_get_cases, Bor, IsJson, IsJsonLines, BeginsElement, IsRootElement, IsXmlSpace, there, IsProgram, IsOneOf, IsPackageWith, applications, accepts, fits, stands, StandsByPlace, IsBuffer, is_listed, HasTagText, IsFoundBelow, IsLeast, IsNamed, IsOfProgram, IsRootedBy, IsRooted, IsRowOf, IsTried, ascends, candidates, excepted, is_covered, is_excepted, is_plain, is_tried_parentless, is_true_below, named_row, rooted_row, tried_parentless, lines, Further, Accepted, Fits, related, json_lines, json_text, package_with, plain_text, program, root, root_with, further, Widens, WidensAt, Nothing, Except, Named, Parentless, Rooted, FURTHER_COUNT, and_from, bucket_of, class_id, if◌then◌else◌, not, eq-eqb}
 use Rattle.std.specs.Prelude.{slice_get}
 use Rattle.std.proofs.lemmas.List.Sums.{AllPass-from_list_all}
 use Rattle.infer_deep.specs.ClassId.{HasClassId}
@@ -12,14 +12,14 @@ use Rattle.infer_formats.specs.Laws.{Leads}
 use Rattle.infer_formats.specs.Relation.{first_key, first_key_with}
 use Rattle.infer_formats.specs.Markup.{HasInTag, MayBeRooted}
 use Rattle.infer_sig.specs.Signature as fixed
-use Rattle.infer_more.specs.Index.{AllApplications, AreClassIds, AreWaysBelow, EachParentlessIsFound, FindsBelow, FindsParentless, IsFoundParentless, IsKeyed, IsKeyedBy, IsTold, IsWayBelow, IsTextRow, HasKeyValue, MayBeTold, all_ascend, are_keyed, are_rooted, are_roots_of, are_spans, are_spots, are_texts, are_true, asks_class_id, asks_folder, asks_key, asks_program, asks_root, below_at, bucket_by, has_named, has_rooted, keyed_row, roots_of, is_application, is_child, is_found_below, is_found_parentless, is_in_class_ids, is_in_folders, is_in_keys, is_in_programs, is_in_roots, is_json, is_lines, is_row_below, is_row_parentless, is_row_with, is_text_row, is_tried_below, is_tried_in, bucket_at, same, same_text}
+use Rattle.infer_more.specs.Index.{AllApplications, AreClassIds, AreWaysBelow, EachParentlessIsFound, FindsBelow, FindsParentless, IsFoundParentless, IsKeyed, IsKeyedBy, IsTold, IsWayBelow, IsTextRow, HasKeyValue, MayBeTold, all_ascend, has_mark, are_keyed, are_rooted, are_roots_of, are_spans, are_spots, are_texts, are_told, are_true, asks_class_id, asks_folder, asks_key, asks_program, asks_root, below_at, bucket_by, has_byte, has_named, has_rooted, keyed_row, roots_of, is_application, is_child, is_found_below, is_found_parentless, is_in_class_ids, is_in_folders, is_in_keys, is_in_programs, is_in_roots, is_json, is_lines, is_row_below, is_row_parentless, is_row_with, is_text_row, is_tried_below, is_tried_in, bucket_at, same, same_text}
 use Rattle.infer_notation.specs.Alternative.{Alternative}
 use Rattle.infer_more.specs.declared.index.Below as below
 use Rattle.infer_more.specs.declared.index.Below.TheVariants.{ClassIds, Entries, Packages, Programs, Roots}
 use Rattle.infer_more.specs.declared.index.Entry.{Entry}
 use Rattle.infer_more.specs.declared.index.Keyed.{Keyed}
 use Rattle.infer_more.specs.declared.index.Texts.{Texts}
-use Rattle.infer_more.proofs.IndexLemmas.{both_left, both_right, covered_here, excepted_here, listed_left, listed_right, parentless_here}
+use Rattle.infer_more.proofs.IndexLemmas.{all_of_listed, both_left, both_right, covered_here, excepted_here, listed_left, listed_right, parentless_here}
 use Rattle.infer_more.proofs.LeastLemmas.{least_both, least_late, least_same}
 use Rattle.infer_more.proofs.OutlineLemmas.{has_lines, small_bytes}
 use Rattle.infer_more.proofs.TableLemmas.{NoRowFails, each_row}
@@ -315,7 +315,7 @@ module _ (b : List ℕ) where
   widens_root parent roots i h (name, rest, element, is) =
       rows_widen rooted_row (λ e. (e.name.now ≡ name) × HasTagText rest e.text) (λ e. asks_root e.name.now e.text) parent b
       (λ e p. fits_root name rest element e.name.now e.text p) (roots_of roots name) i
-      (listed_in_bucket (list_all (λ e. is_row_with parent (asks_root e.name.now e.text) e.row)) refl 8 roots name h) is
+      (listed_in_bucket (list_all (λ e. is_row_with parent (asks_root e.name.now e.text) e.row)) refl 32 roots name h) is
 
   widens_key : (keys : List Keyed) (i : ℕ) → IsTrue (are_keyed keys) → IsKeyed b keys i → WidensAt None b i
   widens_key keys i h (key, rest, first, is) =
@@ -511,8 +511,10 @@ pub ways_below : (apart : List ℕ) (ways : List below.Below)
 ways_below apart ways none told = record { found = each_row _ none; told = told }
 
 pub each_parentless : (index : Parentless) → NoRowFails (at_row (λ i r. is_row_parentless index i r.parent r)) → IsTrue (are_texts index.texts)
-    → IsTrue (are_rooted index.roots.now) → IsTrue (are_keyed index.keys.now) → IsTrue (are_spans index.first) → IsTrue (are_spots index.spots) → EachParentlessIsFound index
-each_parentless index none texts roots keys spans spots = record { found = each_row _ none; texts = texts; roots = roots; keys = keys; spans = spans; spots = spots }
+    → IsTrue (are_rooted index.roots.now) → IsTrue (are_keyed index.keys.now) → IsTrue (are_spans index.first) → IsTrue (are_spots index.spots) → IsTrue (are_told index)
+    → EachParentlessIsFound index
+each_parentless index none texts roots keys spans spots begins =
+    record { found = each_row _ none; texts = texts; roots = roots; keys = keys; spans = spans; spots = spots; begins = begins }
 
 blank_space : (x : ℕ) → IsBlank x → IsXmlSpace x
 blank_space x (inl e) = inr (inr (inr e))
@@ -541,6 +543,23 @@ key_starts b key rest is = elim (key_first key rest b is) [
   | inl first ↦ let (some, begins) = dark_starts 0x7B b first in (some, elim begins [ inl space ↦ inl space | inr e ↦ inr (inr (inl e)) ])
   | inr first ↦ let (some, begins) = dark_starts 0xEF b first in (some, elim begins [ inl space ↦ inl space | inr e ↦ inr (inr (inr e)) ])
 ]
+
+-- a byte with which one begins has the mark of these
+pub told_marked : (index : Parentless) (b : List ℕ) → IsTrue (are_told index) → MayBeTold b → IsTrue (has_mark index.spots.marks.now index.told (slice_index b 0))
+told_marked index b h (some, starts) = elim starts [
+  | inl (inl e) ↦ marked 0x09 e refl
+  | inl (inr (inl e)) ↦ marked 0x0A e refl
+  | inl (inr (inr (inl e))) ↦ marked 0x0D e refl
+  | inl (inr (inr (inr e))) ↦ marked 0x20 e refl
+  | inr (inl e) ↦ marked 0x3C e refl
+  | inr (inr (inl e)) ↦ marked 0x7B e refl
+  | inr (inr (inr e)) ↦ marked 0xEF e refl
+]
+  where
+    marked : (x : ℕ) → slice_index b 0 ≡ x → IsTrue (list_any (λ y. x == y) (0x09 ∷ 0x0A ∷ 0x0D ∷ 0x20 ∷ 0x3C ∷ 0x7B ∷ 0xEF ∷ [])) → IsTrue (has_mark index.spots.marks.now index.told (slice_index b 0))
+    marked x e listed =
+        subst (λ y. IsTrue (has_mark index.spots.marks.now index.told y)) (sym e)
+        (all_of_listed (has_mark index.spots.marks.now index.told) x (0x09 ∷ 0x0A ∷ 0x0D ∷ 0x20 ∷ 0x3C ∷ 0x7B ∷ 0xEF ∷ []) h listed)
 
 -- what none begins has none
 pub none_told : (index : Parentless) (b : List ℕ) → Leads → (¬ MayBeTold b) → (i : ℕ) → ¬ IsTold index b i
@@ -575,6 +594,23 @@ module _ (b : List ℕ) (dark : ℕ) (is_dark : ¬ IsBlank dark) (stands_first :
     | inl first ↦ other (first_same dark 0x7B b is_dark (λ h. grind arith) stands_first first)
     | inr first ↦ mark (first_same dark 0xEF b is_dark (λ h. grind arith) stands_first first)
   ]
+
+-- what begins with "<" begins with no object
+front_stands : (x : ℕ) (b : List ℕ) → 0 < length b → slice_index b 0 ≡ x → StandsFirst x b
+front_stands x [] lt e = absurd (omega arith)
+front_stands x (y ∷ b) lt e = let first : y ≡ x = e in subst (λ z. StandsFirst z (y ∷ b)) first (b, inl refl)
+
+pub told_rooted : (index : Parentless) (b : List ℕ) (on : Bool) (before after : ℕ) → on ≡ has_byte b 0 0x3C → on ≡ true
+    → IsLeast (IsRooted b index.roots.now) before after → IsLeast (IsTold index b) before after
+told_rooted index b on before after same holds h =
+    let is : IsTrue (has_byte b 0 0x3C) = sym same ∙ holds in
+    let lt : 0 < length b = ltb-true 0 (length b) (both_left (nat_lt 0 (length b)) _ is) in
+    let first : slice_index b 0 ≡ 0x3C = eqb-true (slice_index b 0) 0x3C (both_right (nat_lt 0 (length b)) _ is) in
+    least_same _ _ before after (λ i r. inl r)
+    (λ i told. elim told [
+      | inl r ↦ r
+      | inr k ↦ absurd (no_key b 0x3C (λ blank. grind arith) (front_stands 0x3C b lt first) index.keys.now (λ s. omega arith) (λ s. omega arith) i k)
+    ]) h
 
 -- and behind its first "<" stands an element or another "<"
 pub root_may : (b : List ℕ) → Leads → (name rest : List ℕ) → IsRootElement name rest b → MayBeRooted b

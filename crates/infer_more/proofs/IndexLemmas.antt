@@ -45,7 +45,7 @@ all_of_range test low (suc n) z h le lt = elim (cases_lt low z) [
   | inr l ↦ let e : low ≡ z = omega arith in subst (λ y. IsTrue (test y)) e (both_left (test low) _ h)
 ]
 
-all_of_listed : (test : ℕ → Bool) (z : ℕ) (xs : List ℕ) → IsTrue (list_all test xs) → IsTrue (list_any (λ y. z == y) xs) → IsTrue (test z)
+pub all_of_listed : (test : ℕ → Bool) (z : ℕ) (xs : List ℕ) → IsTrue (list_all test xs) → IsTrue (list_any (λ y. z == y) xs) → IsTrue (test z)
 all_of_listed test z [] h k = absurd (cc)
 all_of_listed test z (x ∷ xs) h k = elim (or_cases (z == x) _ k) [
   | inl e ↦ let same : x ≡ z = sym (eqb-true z x e) in subst (λ y. IsTrue (test y)) same (both_left (test x) _ h)

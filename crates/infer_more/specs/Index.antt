@@ -223,12 +223,12 @@ abbrev pub bucket_by : {A : Type 0} → ℕ → List (Bor (List A)) → List ℕ
 bucket_by many buckets [] = []
 bucket_by many buckets (x ∷ xs) = bucket_at buckets (x % many)
 
--- of names five bits tell it, and of roots three
+-- five bits tell it
 abbrev pub bucket_of : List (Bor (List Named)) → List ℕ → List Named
 bucket_of buckets name = bucket_by 32 buckets name
 
 abbrev pub roots_of : List (Bor (List Rooted)) → List ℕ → List Rooted
-roots_of buckets name = bucket_by 8 buckets name
+roots_of buckets name = bucket_by 32 buckets name
 
 -- the rows of each bucket ascend
 abbrev pub all_ascend : {A : Type 0} → (A → ℕ) → List (Bor (List A)) → Bool
@@ -285,6 +285,10 @@ IsTextRow t b i = ((t.lines ≡ i) × IsJsonLines b) ⊎ ((t.json ≡ i) × IsJs
 -- the first byte is white space, "<", "{" or the first of a byte order mark
 abbrev pub MayBeTold : List ℕ → Type 0
 MayBeTold b = (0 < length b) × (IsXmlSpace (slice_index b 0) ⊎ (slice_index b 0 ≡ 0x3C) ⊎ (slice_index b 0 ≡ 0x7B) ⊎ (slice_index b 0 ≡ 0xEF))
+
+-- each byte with which it begins so has one of the marks for that
+abbrev pub are_told : Parentless → Bool
+are_told index = list_all (has_mark index.spots.marks.now index.told) (0x09 ∷ 0x0A ∷ 0x0D ∷ 0x20 ∷ 0x3C ∷ 0x7B ∷ 0xEF ∷ [])
 
 -- row i is found without a built-in answer
 abbrev pub IsFoundParentless : Parentless → List ℕ → ℕ → Type 0
@@ -587,6 +591,7 @@ pub record EachParentlessIsFound (index : Parentless) : Type 0 where
   pub keys : IsTrue (are_keyed index.keys.now)
   pub spans : IsTrue (are_spans index.first)
   pub spots : IsTrue (are_spots index.spots)
+  pub begins : IsTrue (are_told index)
 
 -- just the rows that widen that answer are found
 abbrev pub FindsBelow : ℕ → below.Below → Type 0

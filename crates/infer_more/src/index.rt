@@ -136,13 +136,15 @@ pub(crate) struct Begun {
 /// The rows without a parent that are tried: by their first byte and a second or third one, and behind guards those that
 /// allow any first byte. Of these the rows that share another byte stand behind the gate, so that a buffer without it is told
 /// by one look. Ranges have the rows that allow many bytes, and spots the last rows, told by a byte elsewhere. The root of
-/// markup and the first key of an object are looked for once for all rows that ask for one. The texts come last.
+/// markup and the first key of an object are looked for once for all rows that ask for one, if the first byte has a mark
+/// among those of the spots. The texts come last.
 pub(crate) struct Parentless {
     pub first: Begun,
     pub guards: &'static [Guard],
     pub gate: Gate,
     pub ranges: &'static [Range],
     pub spots: Spots,
+    pub told: u64,
     pub roots: &'static [&'static [Rooted]],
     pub keys: &'static [Keyed],
     pub texts: Texts,
@@ -308,7 +310,7 @@ mod generated;
 
 pub use generated::FURTHER_COUNT;
 pub(crate) use generated::{found_below, is_parent};
-use generated::{LAST_PLACE, NEAR_PLACE, PARENTLESS, told_below};
+use generated::{LAST_PLACE, MIDDLE_PLACE, NEAR_PLACE, PARENTLESS, told_below};
 
 /// How the rows below this built-in row are told: in a way by which just those are found that widen its answer.
 #[inline(always)]

@@ -6,14 +6,15 @@ ghost use Rattle.infer_deep.specs.Find.{OccursAt};
 ghost use Rattle.infer_formats.specs.FirstKey.{StandsFirst};
 ghost use Rattle.infer_formats.specs.Json.{IsBlank, IsJson, IsJsonLines};
 ghost use Rattle.infer_formats.specs.Zip.{IsPackageWith};
-ghost use Rattle.infer_more.specs.Index.{AllApplications, AreClassIds, HasKeyValue, HasTagText, IsFoundBelow, IsKeyed, IsKeyedBy, IsLeast, IsNamed, IsOfProgram, IsRooted, IsRootedBy, IsTextRow, IsTold, IsTried, MayBeTold, all_ascend, are_spans, are_spots, are_texts, all_seen, ascends, begun, behind, below_at, bucket_at, bucket_of, candidate, candidates, entries_at, entry_row, excepted, gated, guarded, has_between, has_byte, has_marked, has_other, is_far, is_true_below, keyed_row, mark_at, named_row, picked, ranged, rooted_row, roots_of, seconded, seen, spotted, third, thirded, tried_elsewhere, tried_parentless, unless, within, zeroed};
+ghost use Rattle.infer_more.specs.Index.{AllApplications, AreClassIds, HasKeyValue, HasTagText, IsFoundBelow, IsKeyed, IsKeyedBy, IsLeast, IsNamed, IsOfProgram, IsRooted, IsRootedBy, IsTextRow, IsTold, IsTried, MayBeTold, all_ascend, are_spans, are_spots, are_texts, all_seen, are_told, ascends, begun, behind, below_at, bucket_at, bucket_of, candidate, candidates, entries_at, entry_row, excepted, gated, guarded, has_between, has_byte, has_mark, has_marked, has_other, is_far, is_true_below, keyed_row, mark_at, named_row, picked, ranged, rooted_row, roots_of, seconded, seen, spotted, third, thirded, tried_elsewhere, tried_parentless, unless, within, zeroed};
 ghost use Rattle.infer_more.specs.Parents.{is_marked};
 ghost use Rattle.infer_more.specs.Wider.{IsWidened, WidensAt};
 ghost use Rattle.infer_more.specs.declared.index.generated.TheConstants.{FURTHER_COUNT};
 
 use crate::index::{
-    Begun, Below, Entry, Except, FURTHER_COUNT, Gate, Guard, Keyed, LAST_PLACE, NEAR_PLACE, Named,
-    Parentless, Range, Rooted, Second, Spot, Spots, Texts, Third, way_below, without_parent,
+    Begun, Below, Entry, Except, FURTHER_COUNT, Gate, Guard, Keyed, LAST_PLACE, MIDDLE_PLACE,
+    NEAR_PLACE, Named, Parentless, Range, Rooted, Second, Spot, Spots, Texts, Third, way_below,
+    without_parent,
 };
 use crate::table::widens;
 use infer::rows::ROW_COUNT;
@@ -29,7 +30,7 @@ use infer_formats::zip::package_folder;
 const BUCKETS: usize = 32;
 
 /// How many buckets of roots there are.
-const ROOT_BUCKETS: usize = 8;
+const ROOT_BUCKETS: usize = 32;
 
 /// Of how many spans a second byte picks one.
 const PICKS: usize = 16;
@@ -133,8 +134,9 @@ fn least_of(entries: &[Entry], buf: &[u8], before: usize) -> usize
     least_among(entries, None, buf, before)
 }
 
-/// [`least_of`] entries in any order.
-#[inline(never)]
+/// [`least_of`] entries in any order. Of those that it knows the compiler writes out the walk, so that a row that is found
+/// costs no call but that which tries it.
+#[inline(always)]
 fn least_each(entries: &[Entry], buf: &[u8], before: usize) -> usize
     ensures { IsLeast (IsTried None buf.now (candidates buf.now entries.now)) before result }
 {
@@ -145,6 +147,14 @@ fn least_each(entries: &[Entry], buf: &[u8], before: usize) -> usize
     least
 }
 
+/// [`least_each`] as a function of its own.
+#[inline(never)]
+fn least_each_apart(entries: &[Entry], buf: &[u8], before: usize) -> usize
+    ensures { IsLeast (IsTried None buf.now (candidates buf.now entries.now)) before result }
+{
+    least_each(entries, buf, before)
+}
+
 /// [`least_each`], without a loop if there is one entry, as mostly.
 #[inline(always)]
 fn least_few(entries: &[Entry], buf: &[u8], before: usize) -> usize
@@ -152,7 +162,7 @@ fn least_few(entries: &[Entry], buf: &[u8], before: usize) -> usize
 {
     match only(entries) {
         Some(entry) => least_at(entry, None, buf, before),
-        None => least_each(entries, buf, before),
+        None => least_each_apart(entries, buf, before),
     }
 }
 
@@ -265,18 +275,26 @@ fn mark_at(marks: &[u64], byte: usize) -> u64
     }
 }
 
+/// Whether that byte has one of these marks.
+#[inline(always)]
+fn has_mark(marks: &[u64], mark: u64, byte: usize) -> bool
+    ensures { result ≡ has_mark marks.now mark byte }
+{
+    mark_at(marks, byte) & mark != 0
+}
+
 /// Whether the buffer has a byte at the spot's place that has its mark.
 #[inline(always)]
 fn has_marked(marks: &[u64], spot: &Spot, buf: &[u8]) -> bool
     ensures { result ≡ has_marked marks.now buf.now spot.now }
 {
     match buf.get(spot.place as usize) {
-        Some(byte) => mark_at(marks, usize::from(*byte)) & spot.mark != 0,
+        Some(byte) => has_mark(marks, spot.mark, usize::from(*byte)),
         None => false,
     }
 }
 
-/// [`least_few`] of the entries of the spot: the number before if the buffer has no byte there with its mark.
+/// [`least_each`] of the entries of the spot: the number before if the buffer has no byte there with its mark.
 #[tactic(auto, using(crate::proofs::LeastLemmas::tried_behind, crate::proofs::LeastLemmas::tried_shut))]
 #[inline(always)]
 fn least_seen(marks: &[u64], spot: &Spot, buf: &[u8], before: usize) -> usize
@@ -285,10 +303,10 @@ fn least_seen(marks: &[u64], spot: &Spot, buf: &[u8], before: usize) -> usize
     if !has_marked(marks, spot, buf) {
         return before;
     }
-    least_few(spot.entries, buf, before)
+    least_each(spot.entries, buf, before)
 }
 
-/// [`least_few`] of the entries of all these spots.
+/// [`least_each`] of the entries of all these spots.
 #[inline(always)]
 fn least_all_seen(marks: &[u64], spots: &[Spot], buf: &[u8], before: usize) -> usize
     ensures { IsLeast (IsTried None buf.now (all_seen marks.now buf.now spots.now)) before result }
@@ -457,7 +475,41 @@ fn only(entries: &[Entry]) -> Option<&Entry>
     }
 }
 
-/// [`least_of`], without a call if there are no entries, and without a loop if there is one, as mostly.
+/// Both entries of a list that has two.
+#[inline(always)]
+fn both(entries: &[Entry]) -> Option<(&Entry, &Entry)>
+    ensures { MatchOption result (length entries.now ≢ 2)
+        (λ e. entries.now ≡ e.0.now ∷ e.1.now ∷ []) }
+{
+    match entries {
+        [one, other] => Some((one, other)),
+        _ => None,
+    }
+}
+
+/// The least of the number before and of the rows of these two entries that widen the answer.
+#[inline(always)]
+fn least_of_both(one: &Entry, other: &Entry, buf: &[u8], before: usize) -> usize
+    ensures { IsLeast (IsTried None buf.now
+        (candidates buf.now (one.now ∷ other.now ∷ []))) before result }
+{
+    let least = least_at(one, None, buf, before);
+    least_at(other, None, buf, least)
+}
+
+/// [`least_of`], without a loop if there are two entries, as often.
+#[inline(always)]
+fn least_of_more(entries: &[Entry], buf: &[u8], before: usize) -> usize
+    requires { IsTrue (ascends entry_row entries.now) }
+    ensures { IsLeast (IsTried None buf.now (candidates buf.now entries.now)) before result }
+{
+    match both(entries) {
+        Some((one, other)) => least_of_both(one, other, buf, before),
+        None => least_of(entries, buf, before),
+    }
+}
+
+/// [`least_of_more`], without a call if there are no entries, and with one test if there is one, as mostly.
 #[inline(always)]
 fn least_listed(entries: &[Entry], buf: &[u8], before: usize) -> usize
     requires { IsTrue (ascends entry_row entries.now) }
@@ -468,7 +520,7 @@ fn least_listed(entries: &[Entry], buf: &[u8], before: usize) -> usize
     }
     match only(entries) {
         Some(entry) => least_at(entry, None, buf, before),
-        None => least_of(entries, buf, before),
+        None => least_of_more(entries, buf, before),
     }
 }
 
@@ -538,8 +590,7 @@ fn least_thirded(lists: &Begun, buf: &[u8], before: usize) -> usize
     least
 }
 
-/// The least of the number before and of the rows that bytes elsewhere tell and that widen the answer. Copies have numbers,
-/// since the compiler makes one call of two that are alike.
+/// The least of the number before and of the rows that bytes elsewhere tell and that widen the answer.
 #[inline(always)]
 fn least_elsewhere<const COPY: usize>(index: &Parentless, buf: &[u8], before: usize) -> usize
     requires { IsTrue (are_spots index.now.spots) }
@@ -552,26 +603,10 @@ fn least_elsewhere<const COPY: usize>(index: &Parentless, buf: &[u8], before: us
     least_spotted(&index.spots, buf, ranged)
 }
 
-/// [`least_elsewhere`], by copies of its own for buffers that have nearly each place that is looked at, and for those that have
-/// most of the near ones: there the compiler knows so.
-#[inline(always)]
-fn least_placed(index: &Parentless, buf: &[u8], before: usize) -> usize
-    requires { IsTrue (are_spots index.now.spots) }
-    ensures { IsLeast (IsTried None buf.now (tried_elsewhere index.now buf.now)) before result }
-{
-    if buf.len() <= NEAR_PLACE {
-        return least_elsewhere::<0>(index, buf, before);
-    }
-    if buf.len() <= LAST_PLACE {
-        return least_elsewhere::<1>(index, buf, before);
-    }
-    least_elsewhere::<2>(index, buf, before)
-}
-
 /// The least of the rows that such an index tries and that widen the answer, or their count. What few rows share is asked
 /// first, so that no later row of the many with one first byte is tried.
 #[inline(always)]
-fn least_tried(index: &Parentless, buf: &[u8]) -> usize
+fn least_tried<const COPY: usize>(index: &Parentless, buf: &[u8]) -> usize
     requires spans { IsTrue (are_spans index.now.first) }
     requires spots { IsTrue (are_spots index.now.spots) }
     ensures { IsLeast (IsTried None buf.now
@@ -580,7 +615,7 @@ fn least_tried(index: &Parentless, buf: &[u8]) -> usize
     let thirded = least_thirded(&index.first, buf, FURTHER_COUNT);
     let seconded = least_seconded(index, buf, thirded);
     let begun = least_begun(index, buf, seconded);
-    least_placed(index, buf, begun)
+    least_elsewhere::<COPY>(index, buf, begun)
 }
 
 /// The row of the text that the buffer is, or the number before if that is less or it is none.
@@ -610,13 +645,15 @@ fn least_plain(texts: &Texts, buf: &[u8], before: usize) -> usize
     }
 }
 
-/// Whether the first byte is one with which markup or an object may begin.
+/// Whether the first byte has the mark of those with which markup or an object may begin: a no is certain.
+#[tactic(auto, using(crate::proofs::FoundLemmas::told_marked))]
 #[inline(always)]
-fn may_be_told(buf: &[u8]) -> bool
-    ensures { IsTrue result ↔ MayBeTold buf.now }
+fn may_be_told(index: &Parentless, buf: &[u8]) -> bool
+    requires { IsTrue (are_told index.now) }
+    ensures { MayBeTold buf.now → IsTrue result }
 {
     match buf.first() {
-        Some(byte) => matches!(*byte, b'\t' | b'\n' | b'\r' | b' ' | b'<' | b'{' | 0xEF),
+        Some(byte) => has_mark(index.spots.marks, index.told, usize::from(*byte)),
         None => false,
     }
 }
@@ -624,12 +661,13 @@ fn may_be_told(buf: &[u8]) -> bool
 /// The least of the number before and of the rows that are told by the root of markup, or by the first key of an object.
 #[inline(always)]
 fn least_told(index: &Parentless, buf: &[u8], before: usize) -> usize
+    requires begins { IsTrue (are_told index.now) }
     requires roots { IsTrue (all_ascend rooted_row index.now.roots.now) }
     requires keys { IsTrue (ascends keyed_row index.now.keys.now) }
     ensures { IsLeast (IsTold index.now buf.now) before result }
 {
     infer_formats::laws::leads();
-    if !may_be_told(buf) {
+    if !may_be_told(index, buf) {
         return before;
     }
     least_told_apart(index, buf, before)
@@ -643,6 +681,10 @@ fn least_told_apart(index: &Parentless, buf: &[u8], before: usize) -> usize
     ensures { IsLeast (IsTold index.now buf.now) before result }
 {
     infer_formats::laws::leads();
+    // Markup mostly begins so.
+    if has_byte(buf, 0, b'<') {
+        return least_begun_markup(index.roots, buf, before);
+    }
     match first_dark(buf) {
         Some(dark) => least_behind(dark, index, buf, before),
         None => before,
@@ -750,14 +792,41 @@ fn least_root_apart(roots: &'static [&'static [Rooted]], buf: &[u8], before: usi
     least_root(roots, buf, before)
 }
 
-/// The least row that widens an answer below which there is none, or their count. A function of its own, that names the
-/// index itself: so its guards are tested in straight code.
+/// The least row that widens an answer below which there is none, or their count. Buffers that have nearly each place that is
+/// looked at have code of their own, and so have those that have what stands before the second sector of a disk: there the
+/// compiler knows so.
 #[inline(never)]
 fn least_parentless(buf: &[u8]) -> usize
     ensures { IsLeast (WidensAt None buf.now) FURTHER_COUNT result }
 {
+    if buf.len() <= MIDDLE_PLACE {
+        return least_parentless_near(buf);
+    }
+    if buf.len() <= LAST_PLACE {
+        return least_parentless_copy::<2>(buf);
+    }
+    least_parentless_copy::<3>(buf)
+}
+
+/// [`least_parentless`] of a short buffer. Those that have most of the near places have code of their own.
+#[inline(never)]
+fn least_parentless_near(buf: &[u8]) -> usize
+    ensures { IsLeast (WidensAt None buf.now) FURTHER_COUNT result }
+{
+    if buf.len() <= NEAR_PLACE {
+        return least_parentless_copy::<0>(buf);
+    }
+    least_parentless_copy::<1>(buf)
+}
+
+/// [`least_parentless`] by code that names the index itself, so that its guards are tested in straight code. Copies have
+/// numbers, since the compiler makes one call of two that are alike.
+#[inline(always)]
+fn least_parentless_copy<const COPY: usize>(buf: &[u8]) -> usize
+    ensures { IsLeast (WidensAt None buf.now) FURTHER_COUNT result }
+{
     let index = without_parent();
-    let tried = least_tried(index, buf);
+    let tried = least_tried::<COPY>(index, buf);
     let told = least_told(index, buf, tried);
     let texts = &index.texts;
     if told <= usize::from(texts.lines) {
@@ -887,7 +956,7 @@ fn least_rooted(roots: &[Rooted], root: &Root<'_>, before: usize) -> usize
     before
 }
 
-/// The bucket of the name of a root, by the low three bits of its first byte.
+/// The bucket of the name of a root, by the low five bits of its first byte.
 #[inline(always)]
 fn roots_of(buckets: &'static [&'static [Rooted]], name: &[u8]) -> &'static [Rooted]
     ensures { result.now ≡ roots_of buckets.now name.now }

@@ -16,10 +16,13 @@ use crate::index::{
 /// How many further rows there are.
 pub const FURTHER_COUNT: usize = 930;
 
-/// The last place but one at which the guards, the gate, the ranges and the spots look.
-pub(super) const LAST_PLACE: usize = 32752;
+/// The last place at which the guards, the gate, the ranges and the spots look in what is mostly read of a file.
+pub(super) const LAST_PLACE: usize = 4120;
 
-/// The last of the places at which they look that are near the front.
+/// The last of these places before the second sector of a disk.
+pub(super) const MIDDLE_PLACE: usize = 261;
+
+/// The last of them near the front.
 pub(super) const NEAR_PLACE: usize = 29;
 
 static BELOW_67: Below = Packages(
@@ -49,7 +52,9 @@ fn below_93() -> &'static Below
     &BELOW_93
 }
 
-static BELOW_95: Below = Roots(roots![() () () (b"svg" () 54) () () () ()]);
+static BELOW_95: Below = Roots(
+    roots![() () () () () () () () () () () () () () () () () () () (b"svg" () 54) () () () () () () () () () () () ()],
+);
 
 /// How the rows below built-in row 95 are told.
 #[inline(always)]
@@ -60,7 +65,7 @@ fn below_95() -> &'static Below
 }
 
 static BELOW_96: Below = Roots(
-    roots![(b"html" (b"http://www.w3.org/1999/xhtml") 52, b"plist" () 53, b"X3D" () 678, b"xliff" () 685, b"package" (b"http://www.idpf.org/2007/opf") 688, b"Project" (b"http://schemas.microsoft.com/developer/msbuild/2003") 690, b"Project" (b"Sdk=") 690, b"project" (b"http://maven.apache.org/POM/4.0.0") 691, b"XMI" () 701, b"playlist" (b"http://xspf.org/ns/0/") 705, b"xbel" () 709, b"xmpmeta" () 719, b"project" (b"http://audacity.sourceforge.net/xml/") 723, b"pkgmetadata" () 726, b"xkbConfigRegistry" () 727) (b"interface" () 178, b"amf" () 679, b"article" (b"http://docbook.org/ns/docbook") 686, b"abiword" () 710, b"audacityproject" () 723) (b"rss" () 48, b"RDF" (b"http://purl.org/rss/1.0/") 48, b"jnlp" () 184, b"refentry" () 686, b"book" (b"http://docbook.org/ns/docbook") 686, b"busconfig" () 694, b"RDF" (b"http://www.w3.org/1999/02/22-rdf-syntax-ns#") 702) (b"svg" () 47, b"kml" () 50, b"sparql" (b"http://www.w3.org/2005/sparql-results#") 181, b"shape" (b"http://www.daa.com.au/~james/dia-shape-ns") 185, b"stylesheet" (b"http://www.w3.org/1999/XSL/Transform") 672, b"schema" (b"http://www.w3.org/2001/XMLSchema") 673, b"schema" (b"http://purl.oclc.org/dsdl/schematron") 675, b"COLLADA" () 677, b"score-partwise" () 681, b"score-timewise" () 681, b"chapter" (b"http://docbook.org/ns/docbook") 686, b"section" (b"http://docbook.org/ns/docbook") 686, b"set" (b"http://docbook.org/ns/docbook") 686, b"schemalist" () 697, b"component" (b"type=") 699, b"smil" () 706, b"SCRIBUSUTF8NEW" () 718, b"sitemapindex" () 720, b"sbml" () 721, b"cml" () 722, b"catmetadata" () 725, b"supplementalData" () 728) (b"TS" () 179, b"document" (b"application/vnd.oasis.opendocument.text") 186, b"ttFont" () 187, b"transform" (b"http://www.w3.org/1999/XSL/Transform") 672, b"definitions" (b"http://schemas.xmlsoap.org/wsdl/") 676, b"description" (b"http://www.w3.org/ns/wsdl") 676, b"tt" (b"http://www.w3.org/ns/ttml") 684, b"TEI" (b"http://www.tei-c.org/ns/1.0") 687, b"diagram" (b"http://www.lysator.liu.se/~alla/dia/") 711, b"document" (b"application/vnd.oasis.opendocument.spreadsheet") 714, b"document" (b"application/vnd.oasis.opendocument.presentation") 715, b"document" (b"application/vnd.oasis.opendocument.graphics") 716, b"document" (b"com.apple.InterfaceBuilder3") 724, b"ldml" () 728) (b"metalink" (b"urn:ietf:params:xml:ns:metalink") 182, b"model" (b"http://schemas.microsoft.com/3dmanufacturing") 680, b"museScore" () 682, b"math" () 683, b"ui" (b"version=") 693, b"UI" (b"version=") 693, b"mime-info" (b"http://www.freedesktop.org/standards/shared-mime-info") 700, b"MPD" () 707, b"metalink" () 708, b"urlset" () 720, b"molecule" (b"http://www.xml-cml.org/schema") 722) (b"feed" (b"http://www.w3.org/2005/Atom") 49, b"FictionBook" () 177, b"nzb" () 183, b"ncx" () 689, b"node" (b"name=") 695, b"fontconfig" () 696, b"FeatureCollection" (b"http://www.opengis.net/gml") 703) (b"gpx" () 51, b"opml" () 176, b"Ontology" (b"http://www.w3.org/2002/07/owl#") 180, b"grammar" (b"http://relaxng.org/ns/structure/1.0") 674, b"glade-interface" () 692, b"gresources" () 698, b"osm" () 704, b"Workbook" (b"http://www.gnumeric.org/v10.dtd") 712, b"wordDocument" (b"http://schemas.microsoft.com/office/word/2003/wordml") 713, b"gnc-v2" () 717)],
+    roots![() (b"amf" () 679, b"article" (b"http://docbook.org/ns/docbook") 686, b"abiword" () 710, b"audacityproject" () 723) (b"book" (b"http://docbook.org/ns/docbook") 686, b"busconfig" () 694) (b"COLLADA" () 677, b"chapter" (b"http://docbook.org/ns/docbook") 686, b"component" (b"type=") 699, b"cml" () 722, b"catmetadata" () 725) (b"document" (b"application/vnd.oasis.opendocument.text") 186, b"definitions" (b"http://schemas.xmlsoap.org/wsdl/") 676, b"description" (b"http://www.w3.org/ns/wsdl") 676, b"diagram" (b"http://www.lysator.liu.se/~alla/dia/") 711, b"document" (b"application/vnd.oasis.opendocument.spreadsheet") 714, b"document" (b"application/vnd.oasis.opendocument.presentation") 715, b"document" (b"application/vnd.oasis.opendocument.graphics") 716, b"document" (b"com.apple.InterfaceBuilder3") 724) () (b"feed" (b"http://www.w3.org/2005/Atom") 49, b"FictionBook" () 177, b"fontconfig" () 696, b"FeatureCollection" (b"http://www.opengis.net/gml") 703) (b"gpx" () 51, b"grammar" (b"http://relaxng.org/ns/structure/1.0") 674, b"glade-interface" () 692, b"gresources" () 698, b"gnc-v2" () 717) (b"html" (b"http://www.w3.org/1999/xhtml") 52) (b"interface" () 178) (b"jnlp" () 184) (b"kml" () 50) (b"ldml" () 728) (b"metalink" (b"urn:ietf:params:xml:ns:metalink") 182, b"model" (b"http://schemas.microsoft.com/3dmanufacturing") 680, b"museScore" () 682, b"math" () 683, b"mime-info" (b"http://www.freedesktop.org/standards/shared-mime-info") 700, b"MPD" () 707, b"metalink" () 708, b"molecule" (b"http://www.xml-cml.org/schema") 722) (b"nzb" () 183, b"ncx" () 689, b"node" (b"name=") 695) (b"opml" () 176, b"Ontology" (b"http://www.w3.org/2002/07/owl#") 180, b"osm" () 704) (b"plist" () 53, b"package" (b"http://www.idpf.org/2007/opf") 688, b"Project" (b"http://schemas.microsoft.com/developer/msbuild/2003") 690, b"Project" (b"Sdk=") 690, b"project" (b"http://maven.apache.org/POM/4.0.0") 691, b"playlist" (b"http://xspf.org/ns/0/") 705, b"project" (b"http://audacity.sourceforge.net/xml/") 723, b"pkgmetadata" () 726) () (b"rss" () 48, b"RDF" (b"http://purl.org/rss/1.0/") 48, b"refentry" () 686, b"RDF" (b"http://www.w3.org/1999/02/22-rdf-syntax-ns#") 702) (b"svg" () 47, b"sparql" (b"http://www.w3.org/2005/sparql-results#") 181, b"shape" (b"http://www.daa.com.au/~james/dia-shape-ns") 185, b"stylesheet" (b"http://www.w3.org/1999/XSL/Transform") 672, b"schema" (b"http://www.w3.org/2001/XMLSchema") 673, b"schema" (b"http://purl.oclc.org/dsdl/schematron") 675, b"score-partwise" () 681, b"score-timewise" () 681, b"section" (b"http://docbook.org/ns/docbook") 686, b"set" (b"http://docbook.org/ns/docbook") 686, b"schemalist" () 697, b"smil" () 706, b"SCRIBUSUTF8NEW" () 718, b"sitemapindex" () 720, b"sbml" () 721, b"supplementalData" () 728) (b"TS" () 179, b"ttFont" () 187, b"transform" (b"http://www.w3.org/1999/XSL/Transform") 672, b"tt" (b"http://www.w3.org/ns/ttml") 684, b"TEI" (b"http://www.tei-c.org/ns/1.0") 687) (b"ui" (b"version=") 693, b"UI" (b"version=") 693, b"urlset" () 720) () (b"Workbook" (b"http://www.gnumeric.org/v10.dtd") 712, b"wordDocument" (b"http://schemas.microsoft.com/office/word/2003/wordml") 713) (b"X3D" () 678, b"xliff" () 685, b"XMI" () 701, b"xbel" () 709, b"xmpmeta" () 719, b"xkbConfigRegistry" () 727) () () () () () () ()],
 );
 
 /// How the rows below built-in row 96 are told.
@@ -676,11 +681,11 @@ pub(super) static PARENTLESS: Parentless = Parentless {
             0x0,
             0x100000000,
             0x0,
-            0x1,
-            0x1,
+            0x8000000000000001,
+            0x8000000000000001,
             0x1,
             0x0,
-            0x0,
+            0x8000000000000000,
             0x0,
             0x0,
             0x200080,
@@ -699,7 +704,7 @@ pub(super) static PARENTLESS: Parentless = Parentless {
             0x0,
             0x0,
             0x0,
-            0x80000000,
+            0x8000000080000000,
             0x0,
             0x0,
             0x0,
@@ -727,7 +732,7 @@ pub(super) static PARENTLESS: Parentless = Parentless {
             0x0,
             0x0,
             0x0,
-            0x0,
+            0x8000000000000000,
             0x0,
             0x0,
             0x0,
@@ -790,7 +795,7 @@ pub(super) static PARENTLESS: Parentless = Parentless {
             0x0,
             0x0,
             0x0,
-            0x20000000,
+            0x8000000020000000,
             0x0,
             0x0,
             0x0,
@@ -906,7 +911,7 @@ pub(super) static PARENTLESS: Parentless = Parentless {
             0x0,
             0x10000,
             0x0,
-            0x0,
+            0x8000000000000000,
             0x0,
             0x0,
             0x0,
@@ -967,7 +972,8 @@ pub(super) static PARENTLESS: Parentless = Parentless {
             32769 0x10000000 (32771 0x30 870, 32772 0x30 871, 32771 0x31 872);
         ],
     },
-    roots: roots![(b"xmpmeta" () 188, b"Project" (b"http://schemas.microsoft.com/developer/msbuild/2003") 731, b"Project" (b"Sdk=") 731, b"project" (b"http://maven.apache.org/POM/4.0.0") 732) (b"asx" () 735, b"ASX" () 735, b"Asx" () 735) (b"RCC" () 734, b"busconfig" () 737) (b"svg" () 55, b"SAMI" () 190, b"sami" () 190, b"stylesheet" (b"http://www.w3.org/1999/XSL/Transform") 729, b"schema" (b"http://www.w3.org/2001/XMLSchema") 730, b"smil" () 738) (b"transform" (b"http://www.w3.org/1999/XSL/Transform") 729) (b"math" (b"http://www.w3.org/1998/Math/MathML") 189, b"map" (b"version=") 733) (b"node" (b"name=") 736) ()],
+    told: 0x8000000000000000,
+    roots: roots![() (b"asx" () 735, b"ASX" () 735, b"Asx" () 735) (b"busconfig" () 737) () () () () () () () () () () (b"math" (b"http://www.w3.org/1998/Math/MathML") 189, b"map" (b"version=") 733) (b"node" (b"name=") 736) () (b"Project" (b"http://schemas.microsoft.com/developer/msbuild/2003") 731, b"Project" (b"Sdk=") 731, b"project" (b"http://maven.apache.org/POM/4.0.0") 732) () (b"RCC" () 734) (b"svg" () 55, b"SAMI" () 190, b"sami" () 190, b"stylesheet" (b"http://www.w3.org/1999/XSL/Transform") 729, b"schema" (b"http://www.w3.org/2001/XMLSchema") 730, b"smil" () 738) (b"transform" (b"http://www.w3.org/1999/XSL/Transform") 729) () () () (b"xmpmeta" () 188) () () () () () () ()],
     keys: keyed![b"cells" () 854, b"type" (b"FeatureCollection") 855, b"type" (b"Feature") 855, b"type" (b"Point") 855, b"type" (b"Polygon") 855, b"type" (b"LineString") 855, b"type" (b"MultiPolygon") 855, b"type" (b"GeometryCollection") 855, b"bomFormat" () 856, b"asset" () 857],
     texts: Texts {
         lines: 927,

@@ -7,4 +7,4 @@ use Rattle.infer_more.proofs.index.asked.least_told.Goals as goal
 pub returns-then-not-may_be_told : goal.returns-then-not-may_be_told
 returns-then-not-may_be_told c =
     least_none (IsTold c.args.index.now c.args.buf.now) c.args.before
-    (none_told c.args.index.now c.args.buf.now c.leads.ensures (λ may. false≢true (c.if-not-may_be_told.ensures.1 may)))
+    (none_told c.args.index.now c.args.buf.now c.leads.ensures (λ may. false≢true (c.if-not-may_be_told.ensures may)))
