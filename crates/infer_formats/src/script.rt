@@ -182,6 +182,10 @@ fn read_word(buf: &[u8], from: usize, folder: usize) -> Option<Word>
         if byte > b'=' {
             continue;
         }
+        // And most of those of binary data by this one.
+        if byte < b'\t' {
+            continue;
+        }
         if byte == b'/' {
             name = to + 1;
         } else if byte == b'=' {
