@@ -1,5 +1,5 @@
 //! TIFF files, by the tags of their first directory: TIFF 6.0, sections 2 and 8.
-ghost use Rattle.std.specs.Prelude.{◌≡◌, ◌↔◌, ◌+◌, ◌-◌, ◌/◌, ◌≤◌, ℕ, IsTrue, MatchOption, length, min};
+ghost use Rattle.std.specs.Prelude.{◌≡◌, ◌↔◌, ◌⊎◌, ◌+◌, ◌-◌, ◌/◌, ◌≤◌, ℕ, IsTrue, MatchOption, length, min};
 ghost use Rattle.memchr.specs.Find.{OccursAt};
 ghost use Rattle.infer_formats.specs.Numbers.{number16, number32};
 ghost use Rattle.infer_formats.specs.Tiff.{HasTag, HasTagAndMake, IsEntry, IsMakeEntry, IsTagEntry, make_tag};
@@ -40,6 +40,17 @@ pub fn first_directory_has_tag(buf: &[u8], tag: u16) -> bool
     stands_at(buf, b"MM\x00\x2A", 0) && directory_has_tag(buf, tag, true)
 }
 
+/// It has one with either of two tags, which takes one look at each entry.
+#[inline(never)]
+pub fn first_directory_has_either(buf: &[u8], tag: u16, other: u16) -> bool
+    ensures { IsTrue result ↔ (HasTag tag buf.now ⊎ HasTag other buf.now) }
+{
+    if stands_at(buf, b"II\x2A\x00", 0) {
+        return directory_has_either(buf, tag, other, false);
+    }
+    stands_at(buf, b"MM\x00\x2A", 0) && directory_has_either(buf, tag, other, true)
+}
+
 /// And the make of the camera begins so.
 #[inline(never)]
 pub fn first_directory_has_tag_and_make(buf: &[u8], tag: u16, make: &[u8]) -> bool
@@ -61,6 +72,28 @@ fn directory_has_tag(buf: &[u8], tag: u16, big: bool) -> bool
     };
     for i in 0..directory.count {
         if number16(buf, directory.start + COUNT_SIZE + ENTRY_SIZE * i, big) == tag {
+            return true;
+        }
+    }
+    false
+}
+
+fn directory_has_either(buf: &[u8], tag: u16, other: u16, big: bool) -> bool
+    ensures { IsTrue result
+        ↔ (((i : ℕ) × IsTagEntry big tag buf.now (number32 big buf.now 4) i)
+        ⊎ ((i : ℕ) × IsTagEntry big other buf.now (number32 big buf.now 4) i)) }
+{
+    let Some(directory) = first_directory(buf, big) else {
+        return false;
+    };
+    // The bits that both tags have alike tell most entries by one test.
+    let alike = !(tag ^ other);
+    if tag & alike != other & alike {
+        return directory_has_tag(buf, tag, big) || directory_has_tag(buf, other, big);
+    }
+    for i in 0..directory.count {
+        let own = number16(buf, directory.start + COUNT_SIZE + ENTRY_SIZE * i, big);
+        if own & alike == tag & alike && (own == tag || own == other) {
             return true;
         }
     }

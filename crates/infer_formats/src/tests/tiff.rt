@@ -1,6 +1,6 @@
 use crate::tiff::{
-    first_directory_has_tag, first_directory_has_tag_and_make, first_directory_may_have_tag,
-    first_directory_may_have_tag_and_make,
+    first_directory_has_either, first_directory_has_tag, first_directory_has_tag_and_make,
+    first_directory_may_have_tag, first_directory_may_have_tag_and_make,
 };
 
 #[test]
@@ -49,6 +49,8 @@ fn negatives(rt: HostRuntime) {
     ];
     for (buf, expected) in cases {
         assert_eq!(rt; first_directory_has_tag(buf, 0xC612), expected);
+        assert_eq!(rt; first_directory_has_either(buf, 0xC612, 0x014A), expected);
+        assert_eq!(rt; first_directory_has_either(buf, 0x014A, 0xC612), expected);
     }
 }
 
