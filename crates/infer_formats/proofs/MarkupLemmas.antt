@@ -227,6 +227,10 @@ one_begin b p q (inl (mark, is)) (inr (none, same)) = absurd (none mark)
 one_begin b p q (inr (none, is)) (inl (mark, same)) = absurd (none mark)
 one_begin b p q (inr (none, is)) (inr (_, same)) = is ∙ sym same
 
+-- what begins with an element begins with no byte order mark
+pub begins_at_front : (b : List ℕ) → get_or b 0 0 ≡ 0x3C → BeginsAt b 0
+begins_at_front b e = inr (λ mark. absurd (let first : get_or b 0 0 ≡ 0xEF = mark.reads 0 (omega arith) in omega arith), refl)
+
 -- what stands in b stands in what begins as b does
 module _ (b c : List ℕ) (s : SharesFront (length b) b c) where
   space_lasts : (p q : ℕ) → IsSpaceRun b p q → IsSpaceRun c p q

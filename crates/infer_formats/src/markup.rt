@@ -12,7 +12,7 @@ use infer_deep::places::{has_at, may_stand_at};
 use memchr::memchr;
 use names::{begins_element, is_xml_space};
 pub use open::{may_have_root, may_have_root_with};
-use prolog::{prolog_end, prolog_start, tag_at};
+use prolog::{prolog_behind, tag_at};
 
 /// The root element of markup.
 #[derive(Clone, Copy, Debug)]
@@ -70,7 +70,7 @@ pub fn root_of(buf: &[u8]) -> Option<Root<'_>>
         (λ r. (name rest : List ℕ) → IsRootElement name rest buf.now → (name ≡ r.name.now)
         × (rest ≡ r.rest.now)) }
 {
-    let tag = tag_at(buf, prolog_end(buf, prolog_start(buf)))?;
+    let tag = tag_at(buf, prolog_behind(buf))?;
     Some(Root {
         name: &buf[tag.at..tag.to],
         rest: &buf[tag.to..],

@@ -51,6 +51,25 @@ pub(super) fn prolog_start(buf: &[u8]) -> usize
     }
 }
 
+/// Where the prolog ends, wherever it begins. A buffer that begins with an element has none.
+#[inline(always)]
+pub(super) fn prolog_behind(buf: &[u8]) -> Reached
+    ensures tag { (p : ℕ) × BeginsAt buf.now p
+        × ((at to : ℕ) → ReachesTag buf.now at to p None
+        ↔ StartsTag buf.now at to result.place result.doctype) }
+    ensures within { result.place ≤ length buf.now }
+    ensures starts { IsTrue result.starts ↔ StartsElement buf.now result.place }
+{
+    if starts_element(buf, 0) {
+        return Reached {
+            place: 0,
+            starts: true,
+            doctype: None,
+        };
+    }
+    prolog_end(buf, prolog_start(buf))
+}
+
 /// Where the prolog that begins at that place ends.
 #[inline(always)]
 pub(super) fn prolog_end(buf: &[u8], start: usize) -> Reached
