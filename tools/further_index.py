@@ -12,8 +12,8 @@ from typing import NamedTuple
 from terms import Unread, term_of
 from texts import kept, text_of
 
-# A set of more bytes is no entry, but is left to the signature.
-MOST_BYTES = 5
+# A set of more bytes is no entry, but is left to the signature; and one of more bytes than the other picks no span.
+MOST_BYTES, MOST_PICKED = 5, 10
 MOST_GUARDS = 11
 # Behind the gate, what a row costs that passes the guard of another.
 BEHIND = 12
@@ -25,7 +25,7 @@ ghost use Rattle.infer_more.specs.Index.{{AreWaysBelow, IsWayBelow}};
 ghost use Rattle.infer_more.specs.Parents.{{has_row_below}};
 ghost use Rattle.infer_more.specs.Wider.{{IsWidened}};
 
-use crate::index::Below::{{ClassIds, Entries, Nothing, Packages, Programs, Roots}};
+use crate::index::Below::{{ClassIds, Entries, Nothing, Packages, Programs, Roots, Tagged}};
 use crate::index::asked::{{below_at, found_row_apart, is_marked}};
 use crate::index::{{
     Begun, Below, Entry, Except, Gate, Guard, Keyed, Named, Parentless, Range, Rooted, Second,
@@ -215,6 +215,8 @@ LISTED = {"Nothing", "Entries"}
 TEXTS = {"JsonLines", "JsonText", "PlainText"}
 # With which bytes markup begins, or an object: these have the last mark.
 TOLD_BYTES, TOLD_MARK = b"\t\n\r <{\xEF", 1 << 63
+# What asks for a tag of the first directory.
+TAGGED = {"DirectoryTag", "DirectoryTagAndMake"}
 # What is told without a parent and not tried.
 TOLD = TEXTS | {"Root", "RootWith", "FirstKey", "FirstKeyWith"}
 COMMON = set(b" etaoinshrdlu\n\x00\x01\xFF")
@@ -323,7 +325,7 @@ def asked(pieces):
 @kept
 def outlines_of(name):
     """What the definitions say that every buffer has which fits the relation, by place, if they name no other definition."""
-    lines = re.findall(r"^lines \(?(\w+)[^=\n]*=((?: [^\n]*)(?:\n {4}[^\n]*)*)", text_of(RELATIONS), re.M)
+    lines = re.findall(r"^lines \(?(\w+)[^=\n]*=((?: [^\n]*)?(?:\n {4}[^\n]*)*)", text_of(RELATIONS), re.M)
     [said] = [text for it, text in lines if it.replace("_", "") == name.lower()] or [""]
     try:
         return [allowed(it) for it in term_of(said)]
@@ -381,9 +383,11 @@ def covers(pairs, alternative, known):
 
 def rank(pairs, chosen, left, later, known):
     """What it costs to list a row so, for each alternative that it lists: each entry, and each later row that is found
-    only after this one was tried. At one price what stands later tells more: the bytes of the parent come first."""
+    only after this one was tried. Zeros stand near the front of many buffers. At one price what stands later tells more: the
+    bytes of the parent come first."""
     new = pairs - chosen
     price = 8 * len(new) + sum(hits(it, *pair) for it in later for pair in new) + sum(4 for _, byte in new if byte in COMMON)
+    price += sum(max(0, FRONT - place) for place, byte in new if byte == 0x00)
     count = sum(covers(pairs, it, known) for it in left)
     return (price + 30 * (known in pairs)) / count, sorted((-place, byte) for place, byte in pairs)
 
@@ -696,7 +700,7 @@ def listed(some):
 
 def picking(place, alternatives):
     """Of these alternatives, each with its number, those that a byte at the place picks, by its low four bits, and the others."""
-    picked = [(number, it) for number, it in alternatives if len(it.get(place, ALL)) <= MOST_BYTES]
+    picked = [(number, it) for number, it in alternatives if len(it.get(place, ALL)) <= MOST_PICKED]
     by_bits = [[(number, it) for number, it in picked if any(byte % PICKS == bits for byte in it[place])] for bits in range(PICKS)]
     return by_bits, [it for it in alternatives if it not in picked]
 
@@ -710,7 +714,7 @@ def looks(place, alternatives):
     """What it costs in all, if each of the alternatives is asked for, where a byte at the place picks. Where it allows more
     bytes than pick, a buffer has mostly zeros; and of those that begin with a zero most have only zeros."""
     by_bits, rest = picking(place, alternatives)
-    picks = [{byte % PICKS for byte in it[place]} if len(it.get(place, ALL)) <= MOST_BYTES else {0} for _, it in alternatives]
+    picks = [{byte % PICKS for byte in it[place]} if len(it.get(place, ALL)) <= MOST_PICKED else {0} for _, it in alternatives]
     zeros = 99 * walk(len(by_bits[0])) if any(it[0] == {0} for _, it in alternatives) else 0
     return len(alternatives) * walk(len(rest)) + zeros + sum(sum(walk(len(by_bits[bits])) for bits in some) / len(some) for some in picks)
 
@@ -831,9 +835,9 @@ def rooted(rows):
     return f"roots![{in_buckets(told_by(rows, 'Root'), ROOT_BUCKETS)}]"
 
 
-def tried_beside(rows, kind):
-    """The entries of those of these rows that are told in another way."""
-    return f"entries!{in_list(entries([(k, row.outlines({kind})) for k, row in rows]))}"
+def tried_beside(rows, kinds):
+    """The entries of those of these rows that are told in another way than these."""
+    return f"entries!{in_list(entries([(k, row.outlines(kinds)) for k, row in rows]))}"
 
 
 def below(rows):
@@ -843,10 +847,17 @@ def below(rows):
         return "Nothing", []
     if "ClassId" in kinds:
         ids = bracketed(f"{it} {k}" for some, k in names(rows, "ClassId") for it in some)
-        return "ClassIds", [tried_beside(rows, "ClassId"), f"named!{ids}"]
+        return "ClassIds", [tried_beside(rows, {"ClassId"}), f"named!{ids}"]
     if "Program" in kinds:
         listed = [(it, f"{it} {k}") for some, k in names(rows, "Program") for it in some]
-        return "Programs", [tried_beside(rows, "Program"), f"buckets![{in_buckets(listed, BUCKETS)}]"]
+        return "Programs", [tried_beside(rows, {"Program"}), f"buckets![{in_buckets(listed, BUCKETS)}]"]
+    if kinds & TAGGED:
+        tags = sorted({int(it.takes.partition(",")[0], 0) for _, row in rows for it in row.signature if it.name in TAGGED})
+        if len(tags) > 2:
+            raise ValueError(f"the first directory of a TIFF file is read for two tags, and rows ask for {len(tags)}")
+        tagged = [(k, row) for k, row in rows if TAGGED & {it.name for it in row.signature}]
+        asked_for = [(k, [it for own in row.signature if own.name in TAGGED for it in own.outlines]) for k, row in tagged]
+        return "Tagged", [tried_beside(rows, TAGGED), f"0x{tags[0]:04X}", f"0x{tags[-1]:04X}", f"entries!{in_list(entries(asked_for))}"]
     if kinds <= {"Root", "RootWith"}:
         return "Roots", [rooted(rows)]
     told = {"PackageWith"} & kinds
@@ -1031,16 +1042,18 @@ def block(numbers):
 
 
 def by_block(ends, call):
-    """The last block first, whose rows have no first byte, so that their samples are the dearest."""
-    yield from (f"    if i >= {first} {{\n        return {call.format(end)};\n    }}" for first, end in reversed([*zip(ends, ends[1:])]))
-    yield f"    {call.format(ends[0])}"
+    """The block of row `i`: half of what is in question is left out by each test."""
+    if len(ends) == 1:
+        return f"{call.format(ends[0])}"
+    first, others = ends[: len(ends) // 2], ends[len(ends) // 2 :]
+    return f"if i < {first[-1]} {{\n{textwrap.indent(by_block(first, call), '    ')}\n}} else {{\n{textwrap.indent(by_block(others, call), '    ')}\n}}"
 
 
 def by_number(rows):
     """The file with each row by its number, and with code for each."""
     parts = blocks(len(rows))
     ends = [it.stop for it in parts]
-    return BY_NUMBER.format("\n".join(map(block, parts)), "\n".join(by_block(ends, "widens_before_{}(i, parent, buf)")))
+    return BY_NUMBER.format("\n".join(map(block, parts)), textwrap.indent(by_block(ends, "widens_before_{}(i, parent, buf)"), "    "))
 
 
 def text(rows, parents):

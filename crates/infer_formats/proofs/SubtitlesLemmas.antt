@@ -1,9 +1,10 @@
 -- Subtitles: what more bytes keep and may make, and the bytes that each file has.
-use Rattle.infer_formats.proofs.Common.{◌≡◌, ℕ, ◌+◌, ◌<◌, ◌≤◌, ◌⊎◌, OccursAt, List, get_or, arith, AreDigits, EndsLine, IsDigit, inl, inr, ◌++◌, length, subst, ◌∙◌, cases_lt, MayBecome, grown_agrees, IsCue, IsPairAt, IsSubRip, IsTime, ◌∷◌, slice_index, OccursAt-append, ◌↔◌, IsTrue, [], lines, subrip, MayBeSubRip, StandsByPlace, accepts, between, stands, at_least, add-zero, GoesOn, MayBeginCue, codes, refl}
+use Rattle.infer_formats.proofs.Common.{◌≡◌, ℕ, ◌+◌, ◌<◌, ◌≤◌, ◌⊎◌, OccursAt, List, get_or, arith, AreDigits, EndsLine, IsDigit, inl, inr, ◌++◌, length, subst, ◌∙◌, cases_lt, MayBecome, grown_agrees, IsCue, IsPairAt, IsSubRip, IsTime, ◌∷◌, slice_index, OccursAt-append, ◌↔◌, IsTrue, [], lines, subrip, MayBeSubRip, StandsByPlace, accepts, between, stands, at_least, add-zero, GoesOn, MayBeginCue, codes, refl, allows, and_from, any_of, has_part, lt-ltb, nat_lt, sym}
+use Rattle.infer_sig.specs.Signature as fixed
 use Rattle.infer_sig.specs.Signature.{byte}
 use Rattle.infer_formats.proofs.GrowthLemmas.{there, carried, kept}
 use Rattle.infer_formats.proofs.OpenLemmas.{known}
-use Rattle.infer_formats.proofs.OutlineLemmas.{in_range, one, marked, marked_line}
+use Rattle.infer_formats.proofs.OutlineLemmas.{in_range, marked, marked_line, other, two}
 use Rattle.infer_formats.proofs.TestLemmas.{only_first}
 use Rattle.infer_sig.proofs.KnownLemmas.{Known, at_most, both, either, needs, proved, same, takes, ◌>>=◌}
 use Rattle.infer_sig.proofs.OccurrenceLemmas.{ByPlace, occurs}
@@ -80,14 +81,36 @@ subrip_known b (more, bytes, inr (mark, cue)) = inr (grown_agrees b more _ 0 mar
 
 -- ---- the bytes that each has
 
+-- a digit and another, or the end of the line
+abbrev numbered_line : fixed.Alternative
+numbered_line = at_least 2 (byte 0 (between 0x30 0x39) ∷ byte 1 (between 0x30 0x39) ∷ [])
+
+abbrev ended_line : fixed.Alternative
+ended_line = at_least 2 (byte 0 (between 0x30 0x39) ∷ byte 1 (any_of (0x0A ∷ 0x0D ∷ [])) ∷ [])
+
 module _ (by_place : (place : ℕ) (t buf : List ℕ) → IsTrue (stands place t buf) ↔ StandsByPlace place t buf) (b : List ℕ) where
   pub subrip_lines : IsSubRip b → IsTrue (accepts (lines subrip) b)
-  subrip_lines (inl (n, t, many, digits, ends, span)) =
-      let digit : IsDigit (slice_index b 0) = digits 0 (let some = many.0 in omega arith) in
-      let low = digit.0 in
-      let lt : 0 < length b = there b 0 (omega arith) in
-      one by_place b 1 (byte 0 (between 0x30 0x39)) (marked_line ∷ []) (omega arith) (in_range by_place b 0 0x30 0x39 lt digit.0 digit.1)
-  subrip_lines (inr (o, cue)) = marked by_place b (at_least 1 (byte 0 (between 0x30 0x39) ∷ [])) o
+  subrip_lines (inl cue) =
+      let (first, next) = cue_begins b 0 cue in
+      let lt : 0 < length b = there b 0 (let low = first.0 in omega arith) in
+      let here = in_range by_place b 0 0x30 0x39 lt first.0 first.1 in
+      elim next [
+        | inl digit ↦
+            let within : 1 < length b = there b 1 (let low = digit.0 in omega arith) in
+            two by_place b 2 (byte 0 (between 0x30 0x39)) (byte 1 (between 0x30 0x39)) (ended_line ∷ marked_line ∷ []) (omega arith) here
+            (in_range by_place b 1 0x30 0x39 within digit.0 digit.1)
+        | inr (inl e) ↦ ends 0x0A here e (omega arith) refl
+        | inr (inr e) ↦ ends 0x0D here e (omega arith) refl
+      ]
+    where
+      ends : (x : ℕ) → IsTrue (has_part b (byte 0 (between 0x30 0x39))) → slice_index b 1 ≡ x → 1 ≤ x → IsTrue (allows (any_of (0x0A ∷ 0x0D ∷ [])) x)
+          → IsTrue (accepts (lines subrip) b)
+      ends x here e some is =
+          let within : 1 < length b = there b 1 (omega arith) in
+          other by_place b numbered_line (ended_line ∷ marked_line ∷ [])
+          (two by_place b 2 (byte 0 (between 0x30 0x39)) (byte 1 (any_of (0x0A ∷ 0x0D ∷ []))) (marked_line ∷ []) (omega arith) here
+          (and_from (nat_lt 1 (length b)) _ (lt-ltb 1 (length b) within) (subst (λ y. IsTrue (allows (any_of (0x0A ∷ 0x0D ∷ [])) y)) (sym e) is)))
+  subrip_lines (inr (o, cue)) = other by_place b numbered_line (ended_line ∷ marked_line ∷ []) (marked by_place b ended_line o)
 
 -- ---- what a computation says of subtitles
 

@@ -190,7 +190,10 @@ lines (header t far low high) = at_least 2 (text 0 (codes "MZ") ∷ []) ∷ []
 lines (first_key k) = object_outline
 lines (first_key_with k v) = object_outline
 lines animated = at_least 4 (text 0 png_header ∷ []) ∷ []
-lines subrip = at_least 1 (byte 0 (between 0x30 0x39) ∷ []) ∷ at_least 3 (text 0 (0xEF ∷ 0xBB ∷ 0xBF ∷ []) ∷ []) ∷ []
+lines subrip =
+    at_least 2 (byte 0 (between 0x30 0x39) ∷ byte 1 (between 0x30 0x39) ∷ [])
+    ∷ at_least 2 (byte 0 (between 0x30 0x39) ∷ byte 1 (any_of (0x0A ∷ 0x0D ∷ [])) ∷ [])
+    ∷ at_least 3 (text 0 (0xEF ∷ 0xBB ∷ 0xBF ∷ []) ∷ []) ∷ []
 lines dbase = at_least 14 (byte 0 (any_of versions) ∷ text 12 (0x00 ∷ 0x00 ∷ []) ∷ []) ∷ []
 lines tar_checksum = digits_behind 0 8
 lines (program name) = at_least 2 (text 0 (codes "#!") ∷ []) ∷ []

@@ -9,13 +9,14 @@ use Rattle.infer_formats.proofs.KeyLemmas.{first_same, key_first, markup_first}
 use Rattle.infer_formats.specs.FirstKey.{HasFirstKey, HasFirstKeyWith, HasValue, IsFirstKey, StandsFirst, has_no_quote}
 use Rattle.infer_formats.specs.Json.{IsBlank}
 use Rattle.infer_formats.specs.Laws.{Leads}
-use Rattle.infer_formats.specs.Relation.{first_key, first_key_with}
+use Rattle.infer_formats.specs.Relation.{directory_tag, directory_tag_and_make, first_key, first_key_with}
+use Rattle.infer_formats.specs.Tiff.{HasTag}
 use Rattle.infer_formats.specs.Markup.{HasInTag, MayBeRooted}
 use Rattle.infer_sig.specs.Signature as fixed
-use Rattle.infer_more.specs.Index.{AllApplications, AreClassIds, AreWaysBelow, EachParentlessIsFound, FindsBelow, FindsParentless, IsFoundParentless, IsKeyed, IsKeyedBy, IsTold, IsWayBelow, IsTextRow, HasKeyValue, MayBeTold, all_ascend, has_mark, are_keyed, are_rooted, are_roots_of, are_spans, are_spots, are_texts, are_told, are_true, asks_class_id, asks_folder, asks_key, asks_program, asks_root, below_at, bucket_by, has_byte, has_named, has_rooted, keyed_row, roots_of, is_application, is_child, is_found_below, is_found_parentless, is_in_class_ids, is_in_folders, is_in_keys, is_in_programs, is_in_roots, is_json, is_lines, is_row_below, is_row_parentless, is_row_with, is_text_row, is_tried_below, is_tried_in, bucket_at, same, same_text}
+use Rattle.infer_more.specs.Index.{AllApplications, AreClassIds, AreWaysBelow, EachParentlessIsFound, FindsBelow, FindsParentless, IsFoundParentless, IsKeyed, IsKeyedBy, IsTold, IsWayBelow, IsTextRow, HasKeyValue, MayBeTold, all_ascend, has_mark, are_keyed, are_rooted, are_roots_of, are_spans, are_spots, are_texts, are_told, are_true, asks_class_id, asks_folder, asks_key, asks_program, asks_root, below_at, bucket_by, has_byte, has_named, has_rooted, keyed_row, roots_of, is_application, is_child, is_found_below, is_found_parentless, is_in_class_ids, is_in_folders, is_in_keys, is_in_programs, is_in_roots, is_json, is_lines, is_of_tag, is_row_below, is_row_parentless, is_row_with, is_text_row, is_tried_below, is_tried_in, bucket_at, same, same_text}
 use Rattle.infer_notation.specs.Alternative.{Alternative}
 use Rattle.infer_more.specs.declared.index.Below as below
-use Rattle.infer_more.specs.declared.index.Below.TheVariants.{ClassIds, Entries, Packages, Programs, Roots}
+use Rattle.infer_more.specs.declared.index.Below.TheVariants.{ClassIds, Entries, Packages, Programs, Roots, Tagged}
 use Rattle.infer_more.specs.declared.index.Entry.{Entry}
 use Rattle.infer_more.specs.declared.index.Keyed.{Keyed}
 use Rattle.infer_more.specs.declared.index.Texts.{Texts}
@@ -167,6 +168,17 @@ module _ (by_place : (place : ℕ) (t buf : List ℕ) → IsTrue (stands place t
   in_folders folders (related (package_with folder)) h k = listed_name (λ f. IsPackageWith f b) i folders folder h k
   in_folders folders other h k = absurd (cc)
 
+  of_tag : (tag other : ℕ) (a : Alternative) → IsTrue (is_of_tag tag other a) → Fits a b → HasTag tag b ⊎ HasTag other b
+  of_tag tag other (related (directory_tag own)) h k = elim (or_cases (own == tag) _ h) [
+    | inl e ↦ inl (subst (λ t. HasTag t b) (eqb-true own tag e) k)
+    | inr e ↦ inr (subst (λ t. HasTag t b) (eqb-true own other e) k)
+  ]
+  of_tag tag other (related (directory_tag_and_make own make)) h (big, begins, tagged, made) = elim (or_cases (own == tag) _ h) [
+    | inl e ↦ inl (subst (λ t. HasTag t b) (eqb-true own tag e) (big, begins, tagged))
+    | inr e ↦ inr (subst (λ t. HasTag t b) (eqb-true own other e) (big, begins, tagged))
+  ]
+  of_tag tag other a h k = absurd (cc)
+
   in_texts : (t : Texts) (a : Alternative) → IsTrue (is_text_row t i a) → Fits a b → IsTextRow t b i
   in_texts t (related json_lines) h k = inl (eqb-true t.lines i h, k)
   in_texts t (related json_text) h k = inr (inl (eqb-true t.json i h, k))
@@ -189,6 +201,10 @@ module _ (by_place : (place : ℕ) (t buf : List ℕ) → IsTrue (stands place t
     found_by (Packages entries excepts folders) a h k = elim (or_cases (is_in_folders i folders.now a) _ h) [
       | inl e ↦ inr (in_folders folders.now a e k)
       | inr e ↦ inl (tried_in entries.now excepts.now a e k, w)
+    ]
+    found_by (Tagged entries tag other tagged) a h k = elim (or_cases (is_of_tag tag other a && is_tried_below i tagged.now a) _ h) [
+      | inl e ↦ inr (of_tag tag other a (both_left (is_of_tag tag other a) _ e) k, (tried tagged.now a (both_right (is_of_tag tag other a) _ e) k, w))
+      | inr e ↦ inl (tried entries.now a e k, w)
     ]
 
     found_below : (way : below.Below) (signature : List Alternative) → IsTrue (list_all (is_found_below way i) signature) → Accepted signature b
@@ -342,6 +358,8 @@ module _ (b : List ℕ) where
       rows_widen named_row (λ e. IsPackageWith e.name.now b) (λ e. asks_folder e.name.now) (Some parent) b (λ e p. fits_folder e.name.now p) folders.now i
       (second_of_each (λ e. is_application e.name.now) (λ e. is_row_with (Some parent) (asks_folder e.name.now) e.row) folders.now
       (both_left (list_all (λ e. is_application e.name.now && is_row_with (Some parent) (asks_folder e.name.now) e.row) folders.now) _ (both_right (ascends named_row folders.now) _ h))) is
+  widens_below parent (Tagged entries tag other tagged) i h (inl is) = is.1
+  widens_below parent (Tagged entries tag other tagged) i h (inr (has, is)) = is.1
 
   widens_text : (t : Texts) (i : ℕ) → IsTrue (are_texts t) → IsTextRow t b i → WidensAt None b i
   widens_text t i h is =

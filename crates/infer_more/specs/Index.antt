@@ -10,6 +10,7 @@ use Rattle.infer_formats.specs.Json.{IsJson, IsJsonLines}
 use Rattle.infer_formats.specs.Markup.{HasInTag, IsRootElement, IsXmlSpace}
 use Rattle.infer_formats.specs.Script.{IsProgram}
 use Rattle.infer_formats.specs.Text.{IsText}
+use Rattle.infer_formats.specs.Tiff.{HasTag}
 use Rattle.infer_formats.specs.Zip.{IsPackageWith, applications, IsOneOf}
 use Rattle.infer_sig.specs.Signature as fixed
 use Rattle.infer_sig.specs.Signature.{at_least, any_of, between, all_but, Part, text, any_text, byte, allows}
@@ -18,13 +19,13 @@ use Rattle.infer.specs.Walks.{is_listed}
 use Rattle.infer_more.specs.Outline.{lines}
 use Rattle.infer_more.specs.Row.{Further}
 use Rattle.infer_formats.specs.Relation as relation
-use Rattle.infer_formats.specs.Relation.{class_id, first_key, first_key_with, json_lines, json_text, package_with, plain_text, program, root, root_with}
+use Rattle.infer_formats.specs.Relation.{class_id, directory_tag, directory_tag_and_make, first_key, first_key_with, json_lines, json_text, package_with, plain_text, program, root, root_with}
 use Rattle.infer_notation.specs.Alternative.{Alternative, related}
 use Rattle.infer_more.specs.Table.{further}
 use Rattle.infer_more.specs.Wider.{WidensAt}
 use Rattle.infer_more.specs.declared.index.Below as below
 use Rattle.infer_more.specs.declared.index.Begun.{Begun}
-use Rattle.infer_more.specs.declared.index.Below.TheVariants.{ClassIds, Entries, Nothing, Packages, Programs, Roots}
+use Rattle.infer_more.specs.declared.index.Below.TheVariants.{ClassIds, Entries, Nothing, Packages, Programs, Roots, Tagged}
 use Rattle.infer_more.specs.declared.index.Entry.{Entry}
 use Rattle.infer_more.specs.declared.index.Except.{Except}
 use Rattle.infer_more.specs.declared.index.Gate.{Gate}
@@ -277,6 +278,8 @@ IsFoundBelow (Programs entries lists) parent b i = IsTried (Some parent) b (cand
 IsFoundBelow (Roots roots) parent b i = IsRooted b roots.now i
 IsFoundBelow (Packages entries excepts folders) parent b i =
     IsTried (Some parent) b (candidates b entries.now ++ excepted b excepts.now) i ⊎ IsNamed (λ folder. IsPackageWith folder b) folders.now i
+IsFoundBelow (Tagged entries tag other tagged) parent b i =
+    IsTried (Some parent) b (candidates b entries.now) i ⊎ ((HasTag tag b ⊎ HasTag other b) × IsTried (Some parent) b (candidates b tagged.now) i)
 
 -- row i is that of the text that the buffer is
 abbrev pub IsTextRow : Texts → List ℕ → ℕ → Type 0
@@ -438,6 +441,12 @@ abbrev pub is_in_folders : ℕ → List Named → Alternative → Bool
 is_in_folders i folders (related (package_with folder)) = has_named i folders folder
 is_in_folders i folders other = false
 
+-- it asks for one of two tags
+abbrev pub is_of_tag : ℕ → ℕ → Alternative → Bool
+is_of_tag tag other (related (directory_tag own)) = own == tag || own == other
+is_of_tag tag other (related (directory_tag_and_make own make)) = own == tag || own == other
+is_of_tag tag other a = false
+
 abbrev pub is_found_below : below.Below → ℕ → Alternative → Bool
 is_found_below Nothing i a = false
 is_found_below (Entries entries) i a = is_tried_below i entries.now a
@@ -445,6 +454,7 @@ is_found_below (ClassIds entries ids) i a = is_in_class_ids i ids.now a || is_tr
 is_found_below (Programs entries lists) i a = is_in_programs i lists.now a || is_tried_below i entries.now a
 is_found_below (Roots roots) i a = is_in_roots i roots.now a
 is_found_below (Packages entries excepts folders) i a = is_in_folders i folders.now a || is_tried_in i entries.now excepts.now a
+is_found_below (Tagged entries tag other tagged) i a = (is_of_tag tag other a && is_tried_below i tagged.now a) || is_tried_below i entries.now a
 
 -- row i is that of the text
 abbrev pub is_text_row : Texts → ℕ → Alternative → Bool
@@ -554,6 +564,7 @@ is_true_below parent (Packages entries excepts folders) =
     ascends named_row folders.now
     && (list_all (λ e. is_application e.name.now && is_row_with (Some parent) (asks_folder e.name.now) e.row) folders.now
     && ascends entry_row entries.now)
+is_true_below parent (Tagged entries tag other tagged) = ascends entry_row tagged.now && ascends entry_row entries.now
 is_true_below parent other = true
 
 -- and so below each row from that one on

@@ -94,6 +94,8 @@ pub(crate) enum Below {
     Roots(&'static [&'static [Rooted]]),
     /// By trying some, and by the folder of an application in a package.
     Packages(&'static [Entry], &'static [Except], &'static [Named]),
+    /// By trying some, and others only if the first directory of a TIFF file has one of two tags, for which it is read once.
+    Tagged(&'static [Entry], u16, u16, &'static [Entry]),
 }
 
 /// The rows of JSON lines, of JSON and of plain text, the last. A buffer is read once for the first two.

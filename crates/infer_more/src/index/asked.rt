@@ -1,10 +1,11 @@
 //! What the index asks of a buffer: the least row that widens its answer.
-ghost use Rattle.std.specs.Prelude.{◌≡◌, ◌≢◌, ◌↔◌, [], ◌∷◌, IsTrue, MatchOption, None, Some, length, nat_le};
+ghost use Rattle.std.specs.Prelude.{◌≡◌, ◌≢◌, ◌↔◌, ◌⊎◌, [], ◌∷◌, IsTrue, MatchOption, None, Some, length, nat_le};
 ghost use Rattle.std.specs.List.{list_all};
 ghost use Rattle.infer_deep.specs.ClassId.{HasClassId};
 ghost use Rattle.infer_deep.specs.Find.{OccursAt};
 ghost use Rattle.infer_formats.specs.FirstKey.{StandsFirst};
 ghost use Rattle.infer_formats.specs.Json.{IsBlank, IsJson, IsJsonLines};
+ghost use Rattle.infer_formats.specs.Tiff.{HasTag};
 ghost use Rattle.infer_formats.specs.Zip.{IsPackageWith};
 ghost use Rattle.infer_more.specs.Index.{AllApplications, AreClassIds, HasKeyValue, HasTagText, IsFoundBelow, IsKeyed, IsKeyedBy, IsLeast, IsNamed, IsOfProgram, IsRooted, IsRootedBy, IsTextRow, IsTold, IsTried, MayBeTold, all_ascend, are_spans, are_spots, are_texts, all_seen, are_told, ascends, begun, behind, below_at, bucket_at, bucket_of, candidate, candidates, entries_at, entry_row, excepted, gated, guarded, has_between, has_byte, has_mark, has_marked, has_other, is_far, is_true_below, keyed_row, mark_at, named_row, picked, ranged, rooted_row, roots_of, seconded, seen, spotted, third, thirded, tried_elsewhere, tried_parentless, unless, within, zeroed};
 ghost use Rattle.infer_more.specs.Parents.{is_marked};
@@ -24,6 +25,7 @@ use infer_formats::json::{Key, Kind, first_dark, first_key, kind_of};
 use infer_formats::markup::{Root, may_be_rooted, root_of};
 use infer_formats::script::program;
 use infer_formats::text::is_text;
+use infer_formats::tiff::first_directory_has_either;
 use infer_formats::zip::package_folder;
 
 /// How many buckets of names there are.
@@ -174,19 +176,30 @@ fn least_few_apart(entries: &[Entry], buf: &[u8], before: usize) -> usize
     least_few(entries, buf, before)
 }
 
-/// Whether this is one entry, whose row is not before that number: told without a loop, as most guards have one entry.
+/// Whether these are few entries, no row of which is before that number: told without a loop, as guards have few entries.
 #[inline(always)]
 fn is_late(entries: &[Entry], before: usize) -> bool
-    ensures { IsTrue result ↔ (length entries.now ≡ 1)
-        × IsTrue (list_all (λ e. nat_le before e.row) entries.now) }
+    ensures { IsTrue result → IsTrue (list_all (λ e. nat_le before e.row) entries.now) }
 {
     match entries {
-        [only] => before <= usize::from(only.row),
+        [only] => is_behind(only, before),
+        [one, other] => is_behind(one, before) && is_behind(other, before),
+        [one, other, last] => {
+            is_behind(one, before) && is_behind(other, before) && is_behind(last, before)
+        }
         _ => false,
     }
 }
 
-/// [`least_few`], and the number before at once if there is one entry, of no earlier row. A function of its own, so that this
+/// Whether the entry's row is not before that number.
+#[inline(always)]
+fn is_behind(entry: &Entry, before: usize) -> bool
+    ensures { result ≡ nat_le before entry.now.row }
+{
+    before <= usize::from(entry.row)
+}
+
+/// [`least_few`], and the number before at once if there are few entries, of no earlier row. A function of its own, so that this
 /// takes nothing of what [`least_few`] needs.
 #[inline(never)]
 fn least_after(entries: &[Entry], buf: &[u8], before: usize) -> usize
@@ -475,6 +488,40 @@ fn only(entries: &[Entry]) -> Option<&Entry>
     }
 }
 
+/// The entries of a list that has three.
+#[inline(always)]
+fn three(entries: &[Entry]) -> Option<(&Entry, &Entry, &Entry)>
+    ensures { MatchOption result (length entries.now ≢ 3)
+        (λ e. entries.now ≡ e.0.now ∷ e.1.now ∷ e.2.now ∷ []) }
+{
+    match entries {
+        [one, other, last] => Some((one, other, last)),
+        _ => None,
+    }
+}
+
+/// [`least_of`], without a loop if there are three entries.
+#[inline(always)]
+fn least_of_many(entries: &[Entry], buf: &[u8], before: usize) -> usize
+    requires { IsTrue (ascends entry_row entries.now) }
+    ensures { IsLeast (IsTried None buf.now (candidates buf.now entries.now)) before result }
+{
+    match three(entries) {
+        Some((one, other, last)) => least_of_three(one, other, last, buf, before),
+        None => least_of(entries, buf, before),
+    }
+}
+
+/// The least of the number before and of the rows of these three entries that widen the answer.
+#[inline(always)]
+fn least_of_three(one: &Entry, other: &Entry, last: &Entry, buf: &[u8], before: usize) -> usize
+    ensures { IsLeast (IsTried None buf.now
+        (candidates buf.now (one.now ∷ other.now ∷ last.now ∷ []))) before result }
+{
+    let least = least_at(one, None, buf, before);
+    least_of_both(other, last, buf, least)
+}
+
 /// Both entries of a list that has two.
 #[inline(always)]
 fn both(entries: &[Entry]) -> Option<(&Entry, &Entry)>
@@ -497,7 +544,7 @@ fn least_of_both(one: &Entry, other: &Entry, buf: &[u8], before: usize) -> usize
     least_at(other, None, buf, least)
 }
 
-/// [`least_of`], without a loop if there are two entries, as often.
+/// [`least_of_many`], without a loop if there are two entries, as often.
 #[inline(always)]
 fn least_of_more(entries: &[Entry], buf: &[u8], before: usize) -> usize
     requires { IsTrue (ascends entry_row entries.now) }
@@ -505,7 +552,7 @@ fn least_of_more(entries: &[Entry], buf: &[u8], before: usize) -> usize
 {
     match both(entries) {
         Some((one, other)) => least_of_both(one, other, buf, before),
-        None => least_of(entries, buf, before),
+        None => least_of_many(entries, buf, before),
     }
 }
 
@@ -792,20 +839,30 @@ fn least_root_apart(roots: &'static [&'static [Rooted]], buf: &[u8], before: usi
     least_root(roots, buf, before)
 }
 
-/// The least row that widens an answer below which there is none, or their count. Buffers that have nearly each place that is
-/// looked at have code of their own, and so have those that have what stands before the second sector of a disk: there the
-/// compiler knows so.
-#[inline(never)]
+/// The least row that widens an answer below which there is none, or their count.
+#[inline(always)]
 fn least_parentless(buf: &[u8]) -> usize
     ensures { IsLeast (WidensAt None buf.now) FURTHER_COUNT result }
 {
     if buf.len() <= MIDDLE_PLACE {
         return least_parentless_near(buf);
     }
-    if buf.len() <= LAST_PLACE {
+    least_parentless_far(buf)
+}
+
+/// [`least_parentless`] of a long buffer. Those that have nearly each place that is looked at have code of their own, and so
+/// have those that have what stands before the second sector of a disk: there the compiler knows so.
+#[inline(never)]
+fn least_parentless_far(buf: &[u8]) -> usize
+    ensures { IsLeast (WidensAt None buf.now) FURTHER_COUNT result }
+{
+    if buf.len() > LAST_PLACE {
+        return least_parentless_copy::<3>(buf);
+    }
+    if buf.len() > MIDDLE_PLACE {
         return least_parentless_copy::<2>(buf);
     }
-    least_parentless_copy::<3>(buf)
+    least_parentless_near(buf)
 }
 
 /// [`least_parentless`] of a short buffer. Those that have most of the near places have code of their own.
@@ -990,6 +1047,26 @@ fn least_root(roots: &'static [&'static [Rooted]], buf: &[u8], before: usize) ->
     }
 }
 
+/// [`least_among`] entries that are tried only if the first directory of a TIFF file has one of the tags.
+#[inline(always)]
+fn least_tagged(
+    tag: u16,
+    other: u16,
+    entries: &[Entry],
+    parent: Option<usize>,
+    buf: &[u8],
+    before: usize,
+) -> usize
+    requires { IsTrue (ascends entry_row entries.now) }
+    ensures { IsLeast (λ i. (HasTag tag buf.now ⊎ HasTag other buf.now)
+        × IsTried parent buf.now (candidates buf.now entries.now) i) before result }
+{
+    if !first_directory_has_either(buf, tag, other) {
+        return before;
+    }
+    least_among(entries, parent, buf, before)
+}
+
 /// The least row that is found below a built-in row in this way, or their count.
 #[inline(always)]
 fn least_found(below: &Below, row: usize, buf: &[u8]) -> usize
@@ -1012,6 +1089,10 @@ fn least_found(below: &Below, row: usize, buf: &[u8]) -> usize
             let tried = least_in_halves(entries, Some(row), buf, FURTHER_COUNT);
             let least = least_excepted(excepts, Some(row), buf, tried);
             least_folder(folders, buf, least)
+        }
+        Below::Tagged(entries, tag, other, tagged) => {
+            let tried = least_in_halves(entries, Some(row), buf, FURTHER_COUNT);
+            least_tagged(*tag, *other, tagged, Some(row), buf, tried)
         }
     }
 }

@@ -979,14 +979,17 @@ fn widens_before_930(i: usize, parent: Option<usize>, buf: &[u8]) -> bool
 pub(crate) fn widens(i: usize, parent: Option<usize>, buf: &[u8]) -> bool
     ensures { IsTrue result ↔ WidensAt parent buf.now i }
 {
-    if i >= 768 {
-        return widens_before_930(i, parent, buf);
+    if i < 512 {
+        if i < 256 {
+            widens_before_256(i, parent, buf)
+        } else {
+            widens_before_512(i, parent, buf)
+        }
+    } else {
+        if i < 768 {
+            widens_before_768(i, parent, buf)
+        } else {
+            widens_before_930(i, parent, buf)
+        }
     }
-    if i >= 512 {
-        return widens_before_768(i, parent, buf);
-    }
-    if i >= 256 {
-        return widens_before_512(i, parent, buf);
-    }
-    widens_before_256(i, parent, buf)
 }

@@ -22,6 +22,12 @@ least_in_halves-tried-requires-in-Programs c = both_right _ _ (both_right _ _ (s
 pub least_in_halves-tried-requires-in-Packages : goal.least_in_halves-tried-requires-in-Packages
 least_in_halves-tried-requires-in-Packages c = both_right _ _ (both_right _ _ (subst (λ (way : Below). is_true_below c.args.row way ≡ true) c.in-Packages.is c.requires))
 
+pub least_in_halves-tried-requires-in-Tagged : goal.least_in_halves-tried-requires-in-Tagged
+least_in_halves-tried-requires-in-Tagged c = both_right _ _ (subst (λ (way : Below). is_true_below c.args.row way ≡ true) c.in-Tagged.is c.requires)
+
+pub least_tagged-requires : goal.least_tagged-requires
+least_tagged-requires c = both_left _ _ (subst (λ (way : Below). is_true_below c.args.row way ≡ true) c.in-Tagged.is c.requires)
+
 pub least_program-requires : goal.least_program-requires
 least_program-requires c = both_left _ _ (subst (λ (way : Below). is_true_below c.args.row way ≡ true) c.in-Programs.is c.requires)
 
@@ -51,3 +57,8 @@ pub returns-in-Packages : goal.returns-in-Packages
 returns-in-Packages c =
     subst (λ (way : Below). IsLeast (IsFoundBelow way c.args.row c.args.buf.now) FURTHER_COUNT c.least_folder.result) (sym c.in-Packages.is)
     (least_both _ _ FURTHER_COUNT _ _ (tried_more (Some c.args.row) c.args.buf.now _ _ _ _ _ c.least_in_halves-tried-in-Packages.ensures c.least_excepted-least.ensures) c.least_folder.ensures)
+
+pub returns-in-Tagged : goal.returns-in-Tagged
+returns-in-Tagged c =
+    subst (λ (way : Below). IsLeast (IsFoundBelow way c.args.row c.args.buf.now) FURTHER_COUNT c.least_tagged.result) (sym c.in-Tagged.is)
+    (least_both _ _ FURTHER_COUNT _ _ c.least_in_halves-tried-in-Tagged.ensures c.least_tagged.ensures)

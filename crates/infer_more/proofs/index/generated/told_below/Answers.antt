@@ -8,4 +8,4 @@ use Rattle.infer_more.proofs.index.generated.told_below.Goals as goal
 pub returns-in_default : goal.returns-in_default
 returns-in_default c =
     subst (IsWayBelow c.args.parent) (sym c.below_at.ensures)
-    (way_of_list (67 ∷ 93 ∷ 95 ∷ 96 ∷ 97 ∷ []) _ c.below_others.ensures c.args.parent (not_among (67 ∷ 93 ∷ 95 ∷ 96 ∷ 97 ∷ []) c.args.parent (λ e. omega arith, (λ e. omega arith, (λ e. omega arith, (λ e. omega arith, (λ e. omega arith, tt)))))))
+    (way_of_list (21 ∷ 67 ∷ 93 ∷ 95 ∷ 96 ∷ 97 ∷ []) _ c.below_others.ensures c.args.parent (not_among (21 ∷ 67 ∷ 93 ∷ 95 ∷ 96 ∷ 97 ∷ []) c.args.parent (λ e. omega arith, (λ e. omega arith, (λ e. omega arith, (λ e. omega arith, (λ e. omega arith, (λ e. omega arith, tt))))))))
