@@ -824,15 +824,15 @@ def told_by(rows, name):
     return [(some[0], f"{some[0]} ({' '.join(some[1:])}) {k}") for some, k in both]
 
 
-def in_buckets(listed, many):
-    """Texts in so many buckets by their first byte, each with what code has of it."""
-    buckets = [[said for text, said in listed if ast.literal_eval(text)[0] % many == n] for n in range(many)]
+def in_buckets(listed, many, part=1):
+    """Texts in so many buckets by that part of their first byte, each with what code has of it."""
+    buckets = [[said for text, said in listed if ast.literal_eval(text)[0] // part % many == n] for n in range(many)]
     return " ".join(f"({', '.join(some)})" for some in buckets)
 
 
 def rooted(rows):
     """The rows, each with its number, that ask for a root."""
-    return f"roots![{in_buckets(told_by(rows, 'Root'), ROOT_BUCKETS)}]"
+    return f"roots![{in_buckets(told_by(rows, 'Root'), ROOT_BUCKETS, 2)}]"
 
 
 def tried_beside(rows, kinds):

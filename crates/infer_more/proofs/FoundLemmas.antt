@@ -1,7 +1,7 @@
 -- By the index just those rows are found that widen an answer.
 use Rattle.std.proofs.lemmas.Bool.{ltb-true, or_cases}
 use Rattle.infer_more.proofs.Common.{◌≡◌, ◌↔◌, ℕ, zero, suc, ◌+◌, ◌<◌, ◌≤◌, ◌==◌, inl, inr, ◌⊎◌, Bool, true, false, IsTrue, List, [], ◌∷◌, Option, None, Some, length, get_or, ap, sym, ◌∙◌, subst, arith, refl, ◌%◌, ◌&&◌, ◌||◌, ◌++◌, slice_index, nat_le, nat_lt, list_all, list_any, option_map_or, cases_lt, eqb-true, leb-true, get_or_default, slice_get_cases, Bor, IsJson, IsJsonLines, BeginsElement, IsRootElement, IsXmlSpace, there, IsProgram, IsOneOf, IsPackageWith, applications, accepts, fits, stands, StandsByPlace, IsBuffer, is_listed, HasTagText, IsFoundBelow, IsLeast, IsNamed, IsOfProgram, IsRootedBy, IsRooted, IsRowOf, IsTried, ascends, candidates, excepted, is_covered, is_excepted, is_plain, is_tried_parentless, is_true_below, named_row, rooted_row, tried_parentless, lines, Further, Accepted, Fits, related, json_lines, json_text, package_with, plain_text, program, root, root_with, further, Widens, WidensAt, Nothing, Except, Named, Parentless, Rooted, FURTHER_COUNT, and_from, bucket_of, class_id, if◌then◌else◌, not, eq-eqb}
-use Rattle.std.specs.Prelude.{slice_get}
+use Rattle.std.specs.Prelude.{◌/◌, slice_get}
 use Rattle.std.proofs.lemmas.List.Sums.{AllPass-from_list_all}
 use Rattle.infer_deep.specs.ClassId.{HasClassId}
 use Rattle.infer_formats.proofs.MarkupLemmas.{not_space}
@@ -53,6 +53,11 @@ pub listed_in_bucket : {A : Type 0} (Q : List A → Bool) → IsTrue (Q []) → 
     → IsTrue (Q (bucket_by many lists name))
 listed_in_bucket Q none many lists [] h = none
 listed_in_bucket Q none many lists (x ∷ xs) h = listed_at Q none lists (x % many) h
+
+pub listed_in_roots : (Q : List Rooted → Bool) → IsTrue (Q []) → (lists : List (Bor (List Rooted))) (name : List ℕ) → IsTrue (list_all (λ roots. Q roots.now) lists)
+    → IsTrue (Q (roots_of lists name))
+listed_in_roots Q none lists [] h = none
+listed_in_roots Q none lists (x ∷ xs) h = listed_at Q none lists ((x / 2) % 32) h
 
 -- the text, if there is one, stands in a tag of which this is the rest
 abbrev OwnText : List ℕ → Option (List ℕ) → Type 0
@@ -331,7 +336,7 @@ module _ (b : List ℕ) where
   widens_root parent roots i h (name, rest, element, is) =
       rows_widen rooted_row (λ e. (e.name.now ≡ name) × HasTagText rest e.text) (λ e. asks_root e.name.now e.text) parent b
       (λ e p. fits_root name rest element e.name.now e.text p) (roots_of roots name) i
-      (listed_in_bucket (list_all (λ e. is_row_with parent (asks_root e.name.now e.text) e.row)) refl 32 roots name h) is
+      (listed_in_roots (list_all (λ e. is_row_with parent (asks_root e.name.now e.text) e.row)) refl roots name h) is
 
   widens_key : (keys : List Keyed) (i : ℕ) → IsTrue (are_keyed keys) → IsKeyed b keys i → WidensAt None b i
   widens_key keys i h (key, rest, first, is) =

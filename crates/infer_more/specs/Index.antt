@@ -1,5 +1,5 @@
 -- Which further rows are tried or told, and that these are all that can widen an answer.
-use Rattle.std.specs.Prelude.{◌≡◌, ◌⊎◌, ◌↔◌, ◌+◌, ◌-◌, ◌%◌, ◌<◌, ◌≤◌, ◌==◌, ◌&&◌, ◌||◌, ℕ, suc, Bool, not, true, false, All, IsTrue, List, [], ◌∷◌, ◌++◌, Option, None, Some, if◌then◌else◌, length, nat_le, nat_lt, slice_get, slice_index}
+use Rattle.std.specs.Prelude.{◌≡◌, ◌⊎◌, ◌↔◌, ◌+◌, ◌-◌, ◌/◌, ◌%◌, ◌<◌, ◌≤◌, ◌==◌, ◌&&◌, ◌||◌, ℕ, suc, Bool, not, true, false, All, IsTrue, List, [], ◌∷◌, ◌++◌, Option, None, Some, if◌then◌else◌, length, nat_le, nat_lt, slice_get, slice_index}
 use Rattle.std.specs.List.{list_all, list_any, range_with_len, slice_range}
 use Rattle.std.specs.Option.{option_map_or}
 use Rattle.std.specs.Int.Bits.{bit_and}
@@ -224,12 +224,13 @@ abbrev pub bucket_by : {A : Type 0} → ℕ → List (Bor (List A)) → List ℕ
 bucket_by many buckets [] = []
 bucket_by many buckets (x ∷ xs) = bucket_at buckets (x % many)
 
--- five bits tell it
+-- of names the low five bits tell it, and of roots the five bits above the lowest
 abbrev pub bucket_of : List (Bor (List Named)) → List ℕ → List Named
 bucket_of buckets name = bucket_by 32 buckets name
 
 abbrev pub roots_of : List (Bor (List Rooted)) → List ℕ → List Rooted
-roots_of buckets name = bucket_by 32 buckets name
+roots_of buckets [] = []
+roots_of buckets (x ∷ xs) = bucket_at buckets ((x / 2) % 32)
 
 -- the rows of each bucket ascend
 abbrev pub all_ascend : {A : Type 0} → (A → ℕ) → List (Bor (List A)) → Bool

@@ -717,6 +717,10 @@ fn least_told(index: &Parentless, buf: &[u8], before: usize) -> usize
     if !may_be_told(index, buf) {
         return before;
     }
+    // Markup mostly begins so.
+    if has_byte(buf, 0, b'<') {
+        return least_begun_markup(index.roots, buf, before);
+    }
     least_told_apart(index, buf, before)
 }
 
@@ -728,10 +732,6 @@ fn least_told_apart(index: &Parentless, buf: &[u8], before: usize) -> usize
     ensures { IsLeast (IsTold index.now buf.now) before result }
 {
     infer_formats::laws::leads();
-    // Markup mostly begins so.
-    if has_byte(buf, 0, b'<') {
-        return least_begun_markup(index.roots, buf, before);
-    }
     match first_dark(buf) {
         Some(dark) => least_behind(dark, index, buf, before),
         None => before,
@@ -1013,13 +1013,13 @@ fn least_rooted(roots: &[Rooted], root: &Root<'_>, before: usize) -> usize
     before
 }
 
-/// The bucket of the name of a root, by the low five bits of its first byte.
+/// The bucket of the name of a root, by five bits of its first byte, of which one tells small letters from others.
 #[inline(always)]
 fn roots_of(buckets: &'static [&'static [Rooted]], name: &[u8]) -> &'static [Rooted]
     ensures { result.now ≡ roots_of buckets.now name.now }
 {
     match name.first() {
-        Some(first) => roots_at(buckets, usize::from(*first) % ROOT_BUCKETS),
+        Some(first) => roots_at(buckets, usize::from(*first) / 2 % ROOT_BUCKETS),
         None => &[],
     }
 }

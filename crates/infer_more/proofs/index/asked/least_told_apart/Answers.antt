@@ -1,10 +1,7 @@
 use Rattle.infer_more.specs.Index.{IsTold}
-use Rattle.infer_more.proofs.FoundLemmas.{none_dark, told_rooted}
+use Rattle.infer_more.proofs.FoundLemmas.{none_dark}
 use Rattle.infer_more.proofs.LeastLemmas.{least_none}
 use Rattle.infer_more.proofs.index.asked.least_told_apart.Goals as goal
-
-pub returns-then-has_byte : goal.returns-then-has_byte
-returns-then-has_byte c = told_rooted c.args.index.now c.args.buf.now _ c.args.before _ c.has_byte.ensures c.if-has_byte.true c.least_begun_markup.ensures
 
 pub returns-in-None : goal.returns-in-None
 returns-in-None c = least_none (IsTold c.args.index.now c.args.buf.now) c.args.before (none_dark c.args.buf.now c.leads.ensures c.args.index.now c.in-None.ensures)
