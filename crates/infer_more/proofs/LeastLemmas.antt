@@ -1,6 +1,7 @@
 -- The least of the rows that are found.
-use Rattle.std.proofs.lemmas.Bool.{ltb-true, or_cases, or_left, or_right}
+use Rattle.std.proofs.lemmas.Bool.{le-leb, ltb-true, or_cases, or_left, or_right}
 use Rattle.infer_more.proofs.Common.{◌≡◌, ℕ, zero, suc, ◌+◌, ◌<◌, ◌≤◌, Bool, true, false, IsTrue, List, [], ◌∷◌, ◌++◌, Option, None, Some, length, take, drop, get_or, and_from, eq-eqb, ◌⊎◌, inl, inr, ap, sym, ◌∙◌, subst, arith, refl, append_assoc, ◌==◌, if◌then◌else◌, min, cases_lt, eqb-true, leb-true, get_or_default, list_all, nat_le, nat_lt, ◌&&◌, IsFirstOf, is_listed, IsLeast, IsRowOf, IsTried, ascends, candidate, candidates, has_byte, Further, further, Widens, WidensAt, FURTHER_COUNT}
+use Rattle.std.specs.Prelude.{slice_get}
 use Rattle.std.proofs.Math.Nat.{min-le_left, min-le_right}
 use Rattle.std.proofs.lemmas.List.{append-nil, take_all}
 use Rattle.infer_more.specs.Index.{all_of, all_seen, are_spots, entry_row, has_marked, is_far, is_late, seen, spotted}
@@ -86,6 +87,25 @@ module _ (parent : Option ℕ) (b : List ℕ) where
 
   pub tried_late : (entries : List Entry) (before : ℕ) → IsTrue (list_all (λ e. nat_le before e.row) entries) → IsLeast (IsTried parent b (candidates b entries)) before before
   tried_late entries before all = least_late _ before (late_entries before entries all)
+
+  -- of entries whose rows ascend, by the first
+  later_all : (before row : ℕ) (xs : List Entry) → before ≤ row → IsTrue (list_all (λ f. nat_le row (entry_row f)) xs) → IsTrue (list_all (λ e. nat_le before e.row) xs)
+  later_all before row [] le h = refl
+  later_all before row (x ∷ xs) le h =
+      let after : row ≤ x.row = leb-true row x.row (both_left (nat_le row x.row) _ h) in
+      and_from (nat_le before x.row) _ (le-leb before x.row (omega arith)) (later_all before row xs le (both_right (nat_le row x.row) _ h))
+
+  all_late : (before : ℕ) (x : Entry) (xs : List Entry) → IsTrue (nat_le before x.row) → IsTrue (ascends entry_row (x ∷ xs))
+      → IsTrue (list_all (λ e. nat_le before e.row) (x ∷ xs))
+  all_late before x xs first h =
+      and_from (nat_le before x.row) _ first
+      (later_all before x.row xs (leb-true before x.row first) (both_left (list_all (λ f. nat_le (entry_row x) (entry_row f)) xs) _ h))
+
+  pub first_late : (before : ℕ) (entries : List Entry) (first : Entry) → Some first ≡ slice_get entries 0 → IsTrue (nat_le before first.row)
+      → IsTrue (ascends entry_row entries) → IsTrue (list_all (λ e. nat_le before e.row) entries)
+  first_late before [] first e late h = refl
+  first_late before (x ∷ xs) first e late h =
+      let same : first ≡ x = cc in all_late before x xs (subst (λ (y : Entry). IsTrue (nat_le before y.row)) same late) h
 
   -- of spots with such entries
   pub late_spots : (marks : List ℕ) (from : ℕ) (spots : List Spot) → IsTrue (list_all (is_late from) spots) → (i : ℕ) → IsTried parent b (all_seen marks b spots) i → from ≤ i

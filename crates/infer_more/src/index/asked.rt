@@ -133,7 +133,22 @@ fn least_of(entries: &[Entry], buf: &[u8], before: usize) -> usize
     requires { IsTrue (ascends entry_row entries.now) }
     ensures { IsLeast (IsTried None buf.now (candidates buf.now entries.now)) before result }
 {
+    if are_late(entries, before) {
+        return before;
+    }
     least_among(entries, None, buf, before)
+}
+
+/// Whether no row of these entries is before that number: the first tells it, as they ascend.
+#[inline(always)]
+fn are_late(entries: &[Entry], before: usize) -> bool
+    requires { IsTrue (ascends entry_row entries.now) }
+    ensures { IsTrue result → IsTrue (list_all (λ e. nat_le before e.row) entries.now) }
+{
+    match entries.first() {
+        Some(first) => is_behind(first, before),
+        None => true,
+    }
 }
 
 /// [`least_of`] entries in any order. Of those that it knows the compiler writes out the walk, so that a row that is found
