@@ -40,8 +40,8 @@ pub fn first_directory_has_tag(buf: &[u8], tag: u16) -> bool
     stands_at(buf, b"MM\x00\x2A", 0) && directory_has_tag(buf, tag, true)
 }
 
-/// It has one with either of two tags, which takes one look at each entry.
-#[inline(never)]
+/// It has one with either of two tags, which takes one look at each entry. The compiler knows the tags where it is called.
+#[inline(always)]
 pub fn first_directory_has_either(buf: &[u8], tag: u16, other: u16) -> bool
     ensures { IsTrue result ↔ (HasTag tag buf.now ⊎ HasTag other buf.now) }
 {
@@ -78,6 +78,7 @@ fn directory_has_tag(buf: &[u8], tag: u16, big: bool) -> bool
     false
 }
 
+#[inline(always)]
 fn directory_has_either(buf: &[u8], tag: u16, other: u16, big: bool) -> bool
     ensures { IsTrue result
         ↔ (((i : ℕ) × IsTagEntry big tag buf.now (number32 big buf.now 4) i)
