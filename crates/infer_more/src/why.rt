@@ -148,6 +148,7 @@ fn refuse_all(signature: &[Alternative], i: usize, buf: &[u8], evidence: &mut Ev
 }
 
 /// Whether the row, which has this number among the further ones, accepts the buffer, and asks for what tells it.
+#[inline(never)]
 fn weigh_row(row: &FurtherRow, i: usize, buf: &[u8], evidence: &mut Evidence) -> bool
     requires closed { IsTrue (is_row_closed (row_listed row.now)) }
     requires listed { slice_get further i ≡ Some (row_listed row.now) }
@@ -170,13 +171,15 @@ fn weigh_row(row: &FurtherRow, i: usize, buf: &[u8], evidence: &mut Evidence) ->
 }
 
 /// Whether the row has this parent.
+#[inline(always)]
 fn has_parent(row: &FurtherRow, parent: Option<usize>) -> bool
     ensures { IsTrue result ↔ ((row_listed row.now).parent ≡ parent) }
 {
     row.parent == parent
 }
 
-/// Whether further row `i` widens this answer, and asks for what tells it.
+/// Whether further row `i` widens this answer, and asks for what tells it. A row of another parent costs no call.
+#[inline(always)]
 fn weigh_at(i: usize, parent: Option<usize>, buf: &[u8], evidence: &mut Evidence) -> bool
     ensures answer { IsTrue result ↔ WidensAt parent buf.now i }
     ensures tells { Tells evidence.old evidence.new buf.now
