@@ -10,7 +10,7 @@ ghost use Rattle.infer.specs.Table.{signature_of, table};
 ghost use Rattle.infer.specs.declared.why.TheConstants.{MOST_OF_CANDIDATES};
 ghost use Rattle.infer_evidence.specs.declared.search.TheConstants.{MOST_OF_A_SEARCH};
 ghost use Rattle.infer.specs.Walks.{IsFirstAmong, RowHas};
-ghost use Rattle.infer_evidence.specs.Evidence.{AgreesOn, HasSame, IsOf};
+ghost use Rattle.infer_evidence.specs.Evidence.{AgreesOn, IsOf, IsReady};
 ghost use Rattle.infer_evidence.specs.Listed.{signature_listed};
 ghost use Rattle.infer_evidence.specs.Weighed.{HasAlternative, HasSignature};
 
@@ -20,7 +20,7 @@ use crate::candidates::dispatch::{arm_of, blank, candidates_at, leads};
 use crate::decided::may_become;
 use crate::table::rows::ROW_COUNT;
 use infer_evidence::{
-    Alternative, Evidence, MOST_OF_A_SEARCH, Range, Search, Told, accept_search, fits,
+    Alternative, Evidence, MOST_OF_A_SEARCH, Range, Ready, Search, Told, accept_search, fits,
     refuse_search, shortest_front, weigh,
 };
 
@@ -238,32 +238,38 @@ fn fitting_way(row: usize, buf: &[u8]) -> Option<Way>
     way_at(row, own, k, buf)
 }
 
-/// Whether the buffer lacks what the probes look for. If it does, just the ranges that lie ready for this are asked for: one that
-/// ends before a probe's place has no byte at any later one.
+/// What lies ready for the way, if the buffer lacks what the probes look for. One that ends before a probe's place has no byte
+/// at any later one.
 #[inline(always)]
-fn ask_ready(way: &Way, buf: &[u8], evidence: &mut Evidence) -> bool
+fn ready_of(way: &Way, buf: &[u8]) -> Option<Ready>
     requires has { HasAlternative buf.now way.now.alternative.now }
     requires ascending { IsAscending way.now.guard.now.probes.now }
     requires ready { IsTrue (is_ready way.now.alternative.now way.now.guard.now) }
-    ensures tells { IsTrue result → (b : List ℕ) → AgreesOn evidence.new buf.now b
-        → HasAlternative b way.now.alternative.now × All (Lacks b) way.now.guard.now.probes.now }
-    ensures inside { IsTrue result → IsOf evidence.new buf.now }
-    ensures few { IsTrue result → evidence.new.count
-        ≤ length way.now.alternative.now.parts.now + length way.now.guard.now.probes.now }
+    ensures tells { IfSome result (λ r. (e : Evidence) → IsReady e r → (b : List ℕ) → AgreesOn e buf.now b
+        → HasAlternative b way.now.alternative.now × All (Lacks b) way.now.guard.now.probes.now) }
+    ensures inside { IfSome result (λ r. (e : Evidence) → IsReady e r → IsOf e buf.now) }
+    ensures few { IfSome result (λ r. length r.ranges.now
+        ≤ length way.now.alternative.now.parts.now + length way.now.guard.now.probes.now) }
 {
     let guard = way.guard;
     for probe in guard.probes {
         if probe.place >= buf.len() {
-            evidence.take_ready(guard.ranges, probe.before, guard.least, true);
-            return true;
+            return Some(Ready {
+                ranges: &guard.ranges[..probe.before],
+                least: guard.least,
+                exact: true,
+            });
         }
         let byte = buf[probe.place];
         if byte == probe.one || byte == probe.other {
-            return false;
+            return None;
         }
     }
-    evidence.take_ready(guard.ranges, guard.ranges.len(), guard.least, false);
-    true
+    Some(Ready {
+        ranges: guard.ranges,
+        least: guard.least,
+        exact: false,
+    })
 }
 
 /// The first of the candidates that accepts the buffer, and asks for what tells that it is.
@@ -333,9 +339,10 @@ fn tell(row: usize, way: &Way, buf: &[u8], evidence: &mut Evidence) -> Option<us
     ensures few { evidence.new.count ≤ 1 + MOST_OF_CANDIDATES }
 {
     infer_sig::laws::by_place();
-    if !ask_ready(way, buf, evidence) {
+    let Some(ready) = ready_of(way, buf) else {
         return weigh_anew(buf, evidence);
-    }
+    };
+    evidence.take_ready(ready);
     if way.guard.left.is_empty() {
         return Some(row);
     }
@@ -357,6 +364,25 @@ fn tell_by_fitting(row: usize, buf: &[u8], evidence: &mut Evidence) -> Option<us
         Some(way) => tell(row, &way, buf, evidence),
         None => weigh_anew(buf, evidence),
     }
+}
+
+/// The number of the first built-in row that accepts `buf`, and what decides it, if this lies ready, as it does for most: then
+/// [`evidence`] asks for just this.
+pub fn ready(buf: &[u8]) -> Option<(usize, Ready)>
+    ensures first { IfSome result (λ r. IsFirstOf (Accepts buf.now) table (Some r.0)) }
+    ensures bound { IfSome result (λ r. r.0 < ROW_COUNT) }
+    ensures decides { IfSome result (λ r. (e : Evidence) → IsReady e r.1 → Decides e buf.now (Some r.0)) }
+    ensures inside { IfSome result (λ r. (e : Evidence) → IsReady e r.1 → IsOf e buf.now) }
+    ensures few { IfSome result (λ r. length r.1.ranges.now ≤ 1 + MOST_OF_CANDIDATES) }
+{
+    infer_sig::laws::by_place();
+    let row = position(buf)?;
+    let way = led_way(row, buf)?;
+    if !way.guard.left.is_empty() {
+        return None;
+    }
+    let ready = ready_of(&way, buf)?;
+    Some((row, ready))
 }
 
 /// The number of the first built-in row that accepts `buf`, as [`position`](crate::position) answers, and what decides it: the

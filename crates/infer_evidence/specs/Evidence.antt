@@ -3,6 +3,7 @@ use Rattle.std.specs.Prelude.{◌≡◌, ◌+◌, ◌*◌, ◌<◌, ◌≤◌, �
 use Rattle.std.specs.Option.{option_map_or}
 use Rattle.infer_evidence.specs.declared.ranges.Evidence.{Evidence}
 use Rattle.infer_evidence.specs.declared.ranges.Range.{Range}
+use Rattle.infer_evidence.specs.declared.ranges.Ready.{Ready}
 use Rattle.infer_evidence.specs.declared.ranges.TheConstants.{MOST_RANGES}
 
 -- the ranges that the evidence keeps: those that lie ready, if it has such, and else its own
@@ -12,6 +13,13 @@ ranges_kept e = option_map_or (λ ready. ready.now) e.ready e.ranges
 -- the ranges that the evidence names
 abbrev pub ranges_of : Evidence → List Range
 ranges_of e = take e.count (ranges_kept e)
+
+-- the evidence names what lies ready, and asks for nothing else
+pub record IsReady (e : Evidence) (r : Ready) : Type 0 where
+  pub ranges : ranges_of e ≡ r.ranges.now
+  pub count : e.count ≡ length r.ranges.now
+  pub least : e.least ≡ r.least
+  pub exact : e.exact ≡ r.exact
 
 -- the first n of these ranges are those that lie ready, and behind the last of those have no byte
 abbrev pub AreCopied : (ready ranges : List Range) → ℕ → Type 0

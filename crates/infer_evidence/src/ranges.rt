@@ -1,6 +1,6 @@
 //! Ranges of a buffer, and what is needed of its length.
-ghost use Rattle.std.specs.Prelude.{◌≡◌, ◌↔◌, ◌+◌, ◌<◌, ◌≤◌, ℕ, List, [], Any, IfSome, IsTrue, MatchOption, None, Some, false, get_or, length, min, take};
-ghost use Rattle.infer_evidence.specs.Evidence.{AgreesOn, AreCopied, Grows, HasSame, IsAround, IsInside, IsOf, IsSame, place_in, ranges_of, row_of};
+ghost use Rattle.std.specs.Prelude.{◌≡◌, ◌↔◌, ◌+◌, ◌<◌, ◌≤◌, ℕ, List, [], Any, IfSome, IsTrue, MatchOption, None, Some, false, get_or, length, min};
+ghost use Rattle.infer_evidence.specs.Evidence.{AgreesOn, AreCopied, Grows, HasSame, IsAround, IsInside, IsOf, IsReady, IsSame, place_in, ranges_of, row_of};
 
 /// For how many ranges an [`Evidence`] has room.
 pub const MOST_RANGES: usize = 80;
@@ -114,6 +114,15 @@ fn number(row: Option<usize>) -> u32
     }
 }
 
+/// What decides, where it lies ready: all ranges of a list, the least length that is needed, and whether another length is not
+/// enough.
+#[derive(Clone, Copy)]
+pub struct Ready {
+    pub ranges: &'static [Range],
+    pub least: usize,
+    pub exact: bool,
+}
+
 /// What decides: ranges of a buffer, the least length that is needed, and whether another length is not enough. The ranges
 /// of most answers lie ready in a list, and nothing of it is copied until more is asked for.
 #[derive(Drop)]
@@ -185,18 +194,15 @@ impl Evidence {
         self.exact = false;
     }
 
-    /// Asks for the first `count` of the ranges that lie ready, for a length, and for nothing else.
+    /// Asks for what lies ready, and for nothing else.
     #[inline(always)]
-    pub fn take_ready(&mut self, ready: &'static [Range], count: usize, least: usize, exact: bool)
-        ensures ranges { ranges_of self.new ≡ take count ready.now }
-        ensures count { self.new.count ≡ count }
-        ensures least { self.new.least ≡ least }
-        ensures exact { self.new.exact ≡ exact }
+    pub fn take_ready(&mut self, ready: Ready)
+        ensures { IsReady self.new ready }
     {
-        self.ready = Some(ready);
-        self.count = count;
-        self.least = least;
-        self.exact = exact;
+        self.ready = Some(ready.ranges);
+        self.count = ready.ranges.len();
+        self.least = ready.least;
+        self.exact = ready.exact;
     }
 
     /// Copies the ranges that lie ready, so that others can be put behind them. Where fewer lie there than are asked for, the

@@ -1,11 +1,10 @@
-use Rattle.infer.proofs.Common.{◌<◌, ◌∙◌, AllWithin-more, arith, false≢true, get_or_default, length, nat_tests, refl, subst, sym, true}
+use Rattle.infer.proofs.Common.{◌<◌, ◌∙◌, AllWithin-more, arith, false≢true, get_or_default, length, length-take-le, nat_tests, refl, subst, sym, true}
 use Rattle.std.proofs.Common.{get_or}
-use Rattle.std.proofs.Math.Seq.{take-length}
 use Rattle.std.specs.Prelude.{nat_lt}
 use Rattle.infer.proofs.GuardLemmas.{lacks_behind, lacks_more}
 use Rattle.infer.proofs.ReadyLemmas.{close_before, ready_before, ready_inside, ready_least, ready_tells, ready_whole}
 use Rattle.infer.specs.declared.why.known.Probe.{Probe}
-use Rattle.infer.proofs.why.ask_ready.Goals as goal
+use Rattle.infer.proofs.why.ready_of.Goals as goal
 
 -- what is read where there is no probe
 nothing : Probe
@@ -13,28 +12,28 @@ nothing = record { place = 0; one = 0; other = 0; before = 0 }
 
 pub returns-then-probe-buf-clause-tells : goal.returns-then-probe-buf-clause-tells
 unfolding nothing
-returns-then-probe-buf-clause-tells c = λ holds b agrees.
+returns-then-probe-buf-clause-tells c = λ e is b agrees.
     let a = c.args.way.now.alternative.now in
     let g = c.args.way.now.guard.now in
     let i = c.loop-probe.probe-index in
     let ready = c.requires.ready in
     let end = c.if-probe-buf.true in
-    let exact = agrees.exact c.take_ready.ensures.exact in
-    ready_tells c.take_ready.new.self c.args.buf.now (λ k. nat_lt k (get_or g.probes.now i nothing).place) a g.probes.now _ c.take_ready.ensures.ranges
-    (c.take_ready.ensures.least ∙ ready_least a g ready) (ready_before a g ready i nothing c.loop-probe-test.true).1 c.requires.has
+    let exact = agrees.exact is.exact in
+    ready_tells e c.args.buf.now (λ k. nat_lt k (get_or g.probes.now i nothing).place) a g.probes.now _ is.ranges
+    (is.least ∙ ready_least a g ready) (ready_before a g ready i nothing c.loop-probe-test.true).1 c.requires.has
     (close_before c.args.buf.now g.probes.now i nothing c.requires.ascending c.loop-probe-test.true c.loop-probe.invariant.within)
     (lacks_behind g.probes.now i nothing c.args.buf.now c.requires.ascending c.loop-probe-test.true end c.loop-probe.invariant.lacks) b agrees
     (λ k no. grind (arith, nat_tests, no, exact, end))
 
 pub returns-then-probe-buf-clause-inside : goal.returns-then-probe-buf-clause-inside
 unfolding nothing
-returns-then-probe-buf-clause-inside c = λ holds.
+returns-then-probe-buf-clause-inside c = λ e is.
     let a = c.args.way.now.alternative.now in
     let g = c.args.way.now.guard.now in
     let i = c.loop-probe.probe-index in
     let ready = c.requires.ready in
-    ready_inside c.take_ready.new.self c.args.buf.now (λ k. nat_lt k (get_or g.probes.now i nothing).place) a g.probes.now _ c.take_ready.ensures.ranges
-    (c.take_ready.ensures.least ∙ ready_least a g ready) (ready_before a g ready i nothing c.loop-probe-test.true).1 c.requires.has
+    ready_inside e c.args.buf.now (λ k. nat_lt k (get_or g.probes.now i nothing).place) a g.probes.now _ is.ranges
+    (is.least ∙ ready_least a g ready) (ready_before a g ready i nothing c.loop-probe-test.true).1 c.requires.has
     (close_before c.args.buf.now g.probes.now i nothing c.requires.ascending c.loop-probe-test.true c.loop-probe.invariant.within)
 
 pub loop-probe-preserved : goal.loop-probe-preserved
@@ -51,22 +50,30 @@ loop-probe-preserved c =
     }
 
 pub returns-clause-tells : goal.returns-clause-tells
-returns-clause-tells c = λ holds b agrees.
+returns-clause-tells c = λ e is b agrees.
     let a = c.args.way.now.alternative.now in
     let g = c.args.way.now.guard.now in
     let ready = c.requires.ready in
     let end = c.loop-probe-test.false in
-    ready_tells c.take_ready-2.new.self c.args.buf.now (λ k. true) a g.probes.now g.ranges.now (c.take_ready-2.ensures.ranges ∙ take-length g.ranges.now)
-    (c.take_ready-2.ensures.least ∙ ready_least a g ready) (ready_whole a g ready) c.requires.has
+    ready_tells e c.args.buf.now (λ k. true) a g.probes.now g.ranges.now is.ranges
+    (is.least ∙ ready_least a g ready) (ready_whole a g ready) c.requires.has
     (λ k d lt near. c.loop-probe.invariant.within k d (omega arith) (omega (arith, lt, end))) (λ k d lt. c.loop-probe.invariant.lacks k d (omega arith) (omega (arith, lt, end))) b
     agrees (λ k no. absurd (false≢true (sym no)))
 
 pub returns-clause-inside : goal.returns-clause-inside
-returns-clause-inside c = λ holds.
+returns-clause-inside c = λ e is.
     let a = c.args.way.now.alternative.now in
     let g = c.args.way.now.guard.now in
     let ready = c.requires.ready in
     let end = c.loop-probe-test.false in
-    ready_inside c.take_ready-2.new.self c.args.buf.now (λ k. true) a g.probes.now g.ranges.now (c.take_ready-2.ensures.ranges ∙ take-length g.ranges.now)
-    (c.take_ready-2.ensures.least ∙ ready_least a g ready) (ready_whole a g ready) c.requires.has
+    ready_inside e c.args.buf.now (λ k. true) a g.probes.now g.ranges.now is.ranges
+    (is.least ∙ ready_least a g ready) (ready_whole a g ready) c.requires.has
     (λ k d lt near. c.loop-probe.invariant.within k d (omega arith) (omega (arith, lt, end)))
+
+pub slice_bounds-result-end : goal.slice_bounds-result-end
+unfolding nothing
+slice_bounds-result-end c =
+    let a = c.args.way.now.alternative.now in
+    let g = c.args.way.now.guard.now in
+    let within = (ready_before a g c.requires.ready c.loop-probe.probe-index nothing c.loop-probe-test.true).0 in
+    sym (length-take-le (get_or g.probes.now c.loop-probe.probe-index nothing).before g.ranges.now within)

@@ -1,6 +1,6 @@
 -- the buffer has the places of the probes so far, and lacks what they look for
 use Rattle.infer.proofs.Common.{◌<◌, AllWithin, Lacks, length}
-use Rattle.infer.proofs.why.ask_ready.Given as goal
+use Rattle.infer.proofs.why.ready_of.Given as goal
 
 abbrev pub invariant-loop-probe : goal.invariant-loop-probe
 invariant-loop-probe l = record {
