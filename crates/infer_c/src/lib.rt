@@ -177,6 +177,23 @@ pub extern "C" fn infer_evidence(buf: &[u8], ranges: &mut [WrittenRange], needs:
         × TellsWhy (λ e. Decides e buf.now first) buf.now ranges.old ranges.new needs.new }
     ensures few { needs.new.wanted ≤ 68 }
 {
+    match infer::ready(buf) {
+        Some((row, ready)) => {
+            why::store_ready(&ready, ranges, needs);
+            row as i32
+        }
+        None => evidence_in_full(buf, ranges, needs),
+    }
+}
+
+/// The same, whether it lies ready or not. It is a function of its own, since it makes room for ranges before it asks.
+#[inline(never)]
+fn evidence_in_full(buf: &[u8], ranges: &mut [WrittenRange], needs: &mut Needs) -> i32
+    ensures first { (first : Option ℕ) × IsFirstOf (Accepts buf.now) table first
+        × (result ≡ row_code first)
+        × TellsWhy (λ e. Decides e buf.now first) buf.now ranges.old ranges.new needs.new }
+    ensures few { needs.new.wanted ≤ 68 }
+{
     let mut evidence = Evidence::new();
     let found = infer::evidence(buf, &mut evidence);
     why::store(&evidence, ranges, needs);

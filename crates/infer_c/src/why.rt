@@ -2,10 +2,10 @@
 ghost use Rattle.std.specs.Prelude.{◌≡◌};
 ghost use Rattle.infer_evidence.specs.Evidence.{ranges_of};
 ghost use Rattle.infer_c.specs.Codes.{row_code};
-ghost use Rattle.infer_c.specs.Why.{WritesRanges, among_rows, needs_of, range_written};
+ghost use Rattle.infer_c.specs.Why.{WritesRanges, among_rows, evidence_of, needs_of, range_written};
 
 use infer::rows::ROW_COUNT;
-use infer_evidence::{Evidence, Range};
+use infer_evidence::{Evidence, Range, Ready};
 use infer_more::{FURTHER_COUNT, laws};
 
 /// Bytes of a buffer: `len` of them, the first at `place` and each other `step` behind the one before, and the number of the
@@ -38,6 +38,19 @@ pub fn store(evidence: &Evidence, room: &mut [WrittenRange], needs: &mut Needs)
         wanted: evidence.wanted(),
         least: evidence.least(),
         is_exact: evidence.is_exact(),
+    };
+}
+
+/// The same of what lies ready.
+pub fn store_ready(ready: &Ready, room: &mut [WrittenRange], needs: &mut Needs)
+    ensures ranges { WritesRanges ready.now.ranges.now room.old room.new }
+    ensures needs { needs.new ≡ needs_of (evidence_of ready.now) }
+{
+    write_ranges(ready.ranges, room);
+    *needs = Needs {
+        wanted: ready.ranges.len(),
+        least: ready.least,
+        is_exact: ready.exact,
     };
 }
 
