@@ -360,14 +360,26 @@ def alternative(code):
 
 
 def is_wide(alternative):
-    """Whether it allows many bytes wherever it asks: one range is told whole then."""
-    return not is_led(alternative) and all(len(allowed) > MOST_BYTES for allowed in alternative.values())
+    """Whether a range tells it whole: it allows many bytes wherever it asks, or does so behind what is mostly read, where to
+    look costs other buffers nothing."""
+    wide_places = ranges_of(alternative)
+    return not is_led(alternative) and (len(wide_places) == len(alternative) or max(wide_places, default=0) >= READ)
+
+
+def ranges_of(alternative):
+    """The places at which it allows many bytes."""
+    return [place for place, allowed in alternative.items() if len(allowed) > MOST_BYTES]
+
+
+def range_place(alternative):
+    """The place of the range by which it is told."""
+    return min((place for place in ranges_of(alternative) if place >= READ), default=min(ranges_of(alternative)))
 
 
 def wide(number, alternative):
     """The range by which an alternative is told that allows many bytes."""
-    place, allowed = min(alternative.items())
-    return f"        {place} 0x{min(allowed):02X} 0x{max(allowed):02X} {number};"
+    allowed = alternative[range_place(alternative)]
+    return f"        {range_place(alternative)} 0x{min(allowed):02X} 0x{max(allowed):02X} {number};"
 
 
 def hits(alternative, place, byte):
@@ -671,7 +683,7 @@ def looked_at(rows):
     """The places at which a buffer without an answer is looked at for all of these."""
     zeros, ((place, byte), outside, inside) = with_zeros(rows)
     spots = itertools.chain(*all_spots(rows, zeros, (place, byte)))
-    wides = [min(it) for row in rows if not row.parent for it in row.outlines(TOLD) if is_wide(it)]
+    wides = [range_place(it) for row in rows if not row.parent for it in row.outlines(TOLD) if is_wide(it)]
     return {place, *(at for (at, _), _ in [*outside, *inside]), *(at for at, _ in spots), *wides}
 
 
