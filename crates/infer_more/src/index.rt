@@ -90,7 +90,7 @@ pub(crate) enum Below {
     ClassIds(&'static [Entry], &'static [Named]),
     /// By trying some, and by the program of a script. The names stand in buckets, by the low five bits of their first byte.
     Programs(&'static [Entry], &'static [&'static [Named]]),
-    /// By the root element. The names stand in buckets, by the low three bits of their first byte.
+    /// By the root element. The names stand in buckets, by five bits of their first byte.
     Roots(&'static [&'static [Rooted]]),
     /// By trying some, and by the folder of an application in a package.
     Packages(&'static [Entry], &'static [Except], &'static [Named]),
