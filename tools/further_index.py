@@ -29,7 +29,7 @@ use crate::index::Below::{{ClassIds, Entries, Nothing, Packages, Programs, Roots
 use crate::index::asked::{{below_at, found_row_apart, is_marked}};
 use crate::index::{{
     Begun, Below, Entry, Except, Gate, Guard, Keyed, Named, Parentless, Range, Rooted, Second,
-    Span, Spot, Spots, Texts, Third,
+    Span, Spot, Spots, Texts, Third, Told,
 }};
 
 /// How many further rows there are.
@@ -977,11 +977,13 @@ def lists(rows, parents):
     yield "    },"
     own = [(k, row) for k, row in numbered if not row.parent]
     yield f"    told: 0x{TOLD_MARK:X},"
-    yield f"    roots: {rooted(own)},"
-    yield f"    keys: keyed!{bracketed(said for _, said in told_by(own, 'FirstKey'))},"
     yield "    texts: Texts {"
     yield from last(rows)
     yield "    },"
+    yield "};"
+    yield "\npub(super) static TOLD: Told = Told {"
+    yield f"    roots: {rooted(own)},"
+    yield f"    keys: keyed!{bracketed(said for _, said in told_by(own, 'FirstKey'))},"
     yield "};"
 
 

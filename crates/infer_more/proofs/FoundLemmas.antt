@@ -13,13 +13,15 @@ use Rattle.infer_formats.specs.Relation.{directory_tag, directory_tag_and_make, 
 use Rattle.infer_formats.specs.Tiff.{HasTag}
 use Rattle.infer_formats.specs.Markup.{HasInTag, MayBeRooted}
 use Rattle.infer_sig.specs.Signature as fixed
-use Rattle.infer_more.specs.Index.{AllApplications, AreClassIds, AreWaysBelow, EachParentlessIsFound, FindsBelow, FindsParentless, IsFoundParentless, IsKeyed, IsKeyedBy, IsTold, IsWayBelow, IsTextRow, HasKeyValue, MayBeTold, all_ascend, has_mark, are_keyed, are_rooted, are_roots_of, are_spans, are_spots, are_texts, are_told, are_true, asks_class_id, asks_folder, asks_key, asks_program, asks_root, below_at, bucket_by, has_byte, has_named, has_rooted, keyed_row, roots_of, is_application, is_child, is_found_below, is_found_parentless, is_in_class_ids, is_in_folders, is_in_keys, is_in_programs, is_in_roots, is_json, is_lines, is_of_tag, is_row_below, is_row_parentless, is_row_with, is_text_row, is_tried_below, is_tried_in, bucket_at, same, same_text}
+use Rattle.infer_sig.proofs.OccurrenceLemmas.{not_both}
+use Rattle.infer_more.specs.Index.{AllApplications, AreClassIds, AreWaysBelow, EachIsTold, EachParentlessIsFound, FindsBelow, FindsParentless, IsFoundParentless, IsKeyed, IsKeyedBy, IsTold, IsWayBelow, IsTextRow, HasKeyValue, MayBeTold, all_ascend, has_mark, are_keyed, are_rooted, are_roots_of, are_spans, are_spots, are_texts, are_told, are_true, asks_class_id, asks_folder, asks_key, asks_program, asks_root, below_at, bucket_by, has_byte, has_named, has_rooted, keyed_row, roots_of, is_application, is_child, is_found_below, is_found_parentless, is_in_class_ids, is_in_folders, is_in_keys, is_in_programs, is_in_roots, is_json, is_lines, is_of_name, is_of_tag, is_row_below, is_row_parentless, is_row_parentless_found, is_row_with, is_text_row, is_told, is_tried_below, is_tried_in, bucket_at, same, same_text}
 use Rattle.infer_notation.specs.Alternative.{Alternative}
 use Rattle.infer_more.specs.declared.index.Below as below
 use Rattle.infer_more.specs.declared.index.Below.TheVariants.{ClassIds, Entries, Packages, Programs, Roots, Tagged}
 use Rattle.infer_more.specs.declared.index.Entry.{Entry}
 use Rattle.infer_more.specs.declared.index.Keyed.{Keyed}
 use Rattle.infer_more.specs.declared.index.Texts.{Texts}
+use Rattle.infer_more.specs.declared.index.Told.{Told}
 use Rattle.infer_more.proofs.IndexLemmas.{all_of_listed, both_left, both_right, covered_here, excepted_here, listed_left, listed_right, parentless_here}
 use Rattle.infer_more.proofs.LeastLemmas.{least_both, least_late, least_same}
 use Rattle.infer_more.proofs.OutlineLemmas.{has_lines, small_bytes}
@@ -49,15 +51,10 @@ listed_at Q none [] i h = none
 listed_at Q none (names ∷ lists) zero h = both_left (Q names.now) _ h
 listed_at Q none (names ∷ lists) (suc i) h = listed_at Q none lists i (both_right (Q names.now) _ h)
 
-pub listed_in_bucket : {A : Type 0} (Q : List A → Bool) → IsTrue (Q []) → (many : ℕ) (lists : List (Bor (List A))) (name : List ℕ) → IsTrue (list_all (λ names. Q names.now) lists)
-    → IsTrue (Q (bucket_by many lists name))
-listed_in_bucket Q none many lists [] h = none
-listed_in_bucket Q none many lists (x ∷ xs) h = listed_at Q none lists (x % many) h
-
-pub listed_in_roots : (Q : List Rooted → Bool) → IsTrue (Q []) → (lists : List (Bor (List Rooted))) (name : List ℕ) → IsTrue (list_all (λ roots. Q roots.now) lists)
-    → IsTrue (Q (roots_of lists name))
-listed_in_roots Q none lists [] h = none
-listed_in_roots Q none lists (x ∷ xs) h = listed_at Q none lists ((x / 2) % 32) h
+pub listed_in_bucket : {A : Type 0} (Q : List A → Bool) → IsTrue (Q []) → (bits : ℕ → ℕ) (lists : List (Bor (List A))) (name : List ℕ) → IsTrue (list_all (λ names. Q names.now) lists)
+    → IsTrue (Q (bucket_by bits lists name))
+listed_in_bucket Q none bits lists [] h = none
+listed_in_bucket Q none bits lists (x ∷ xs) h = listed_at Q none lists (bits x) h
 
 -- the text, if there is one, stands in a tag of which this is the rest
 abbrev OwnText : List ℕ → Option (List ℕ) → Type 0
@@ -218,20 +215,32 @@ module _ (by_place : (place : ℕ) (t buf : List ℕ) → IsTrue (stands place t
     found_below way (a ∷ signature) h (inl k) = found_by way a (both_left (is_found_below way i a) _ h) k
     found_below way (a ∷ signature) h (inr k) = found_below way signature (both_right (is_found_below way i a) _ h) k
 
-  found_parentless : (index : Parentless) → WidensAt None b i → (signature : List Alternative) → IsTrue (list_all (is_found_parentless index i) signature)
-      → Accepted signature b → IsFoundParentless index b i
-  found_parentless index w [] h k = absurd (k)
-  found_parentless index w (a ∷ signature) h (inl k) = elim (or_cases (is_text_row index.texts i a) _ (both_left (is_found_parentless index i a) _ h)) [
-    | inl e ↦ inr (inr (in_texts index.texts a e k))
-    | inr e ↦ elim (or_cases (is_in_roots i index.roots.now a) _ e) [
-      | inl r ↦ inr (inl (inl (in_roots index.roots.now a r k)))
-      | inr later ↦ elim (or_cases (is_in_keys i index.keys.now a) _ later) [
-        | inl r ↦ inr (inl (inr (in_keys index.keys.now a r k)))
-        | inr t ↦ inl (line_tried_parentless index (lines a) t (has_lines leads b a (λ plain. small) k), w)
+  module _ (index : Parentless) (told : Told) where
+    found_by_name : (a : Alternative) → IsTrue (is_of_name a) → IsTrue (is_told told i a) → Fits a b → IsTold told b i
+    found_by_name a is h k = elim (or_cases (not (is_of_name a)) _ h) [
+      | inl is_none ↦ absurd (not_both (is_of_name a) is is_none)
+      | inr listed ↦ elim (or_cases (is_in_roots i told.roots.now a) _ listed) [
+        | inl r ↦ inl (in_roots told.roots.now a r k)
+        | inr r ↦ inr (in_keys told.keys.now a r k)
       ]
     ]
-  ]
-  found_parentless index w (a ∷ signature) h (inr k) = found_parentless index w signature (both_right (is_found_parentless index i a) _ h) k
+
+    found_otherwise : WidensAt None b i → (a : Alternative) → IsTrue (is_text_row index.texts i a || list_all (is_tried_parentless index i) (lines a)) → Fits a b
+        → IsFoundParentless index told b i
+    found_otherwise w a h k = elim (or_cases (is_text_row index.texts i a) _ h) [
+      | inl text ↦ inr (inr (in_texts index.texts a text k))
+      | inr rows ↦ inl (line_tried_parentless index (lines a) rows (has_lines leads b a (λ plain. small) k), w)
+    ]
+
+    found_parentless : WidensAt None b i → (signature : List Alternative) → IsTrue (list_all (is_found_parentless index i) signature)
+        → IsTrue (list_all (is_told told i) signature) → Accepted signature b → IsFoundParentless index told b i
+    found_parentless w [] h t k = absurd (k)
+    found_parentless w (a ∷ signature) h t (inl k) = elim (or_cases (is_of_name a) _ (both_left (is_found_parentless index i a) _ h)) [
+      | inl named ↦ inr (inl (found_by_name a named (both_left (is_told told i a) _ t) k))
+      | inr other ↦ found_otherwise w a other k
+    ]
+    found_parentless w (a ∷ signature) h t (inr k) =
+        found_parentless w signature (both_right (is_found_parentless index i a) _ h) (both_right (is_told told i a) _ t) k
 
 -- a row that is told by a name widens the answer
 any_of : (test : Alternative → Bool) (b : List ℕ) → ((a : Alternative) → IsTrue (test a) → Fits a b) → (signature : List Alternative) → IsTrue (list_any test signature)
@@ -336,7 +345,7 @@ module _ (b : List ℕ) where
   widens_root parent roots i h (name, rest, element, is) =
       rows_widen rooted_row (λ e. (e.name.now ≡ name) × HasTagText rest e.text) (λ e. asks_root e.name.now e.text) parent b
       (λ e p. fits_root name rest element e.name.now e.text p) (roots_of roots name) i
-      (listed_in_roots (list_all (λ e. is_row_with parent (asks_root e.name.now e.text) e.row)) refl roots name h) is
+      (listed_in_bucket (list_all (λ e. is_row_with parent (asks_root e.name.now e.text) e.row)) refl _ roots name h) is
 
   widens_key : (keys : List Keyed) (i : ℕ) → IsTrue (are_keyed keys) → IsKeyed b keys i → WidensAt None b i
   widens_key keys i h (key, rest, first, is) =
@@ -355,7 +364,7 @@ module _ (b : List ℕ) where
   widens_below parent (Programs entries lists) i h (inr (name, p, is)) =
       rows_widen named_row (λ e. e.name.now ≡ name) (λ e. asks_program e.name.now) (Some parent) b
       (λ e same. fits_program e.name.now (subst (λ n. IsProgram n b) (sym same) p)) (bucket_of lists.now name) i
-      (listed_in_bucket (list_all (λ e. is_row_with (Some parent) (asks_program e.name.now) e.row)) refl 32 lists.now name
+      (listed_in_bucket (list_all (λ e. is_row_with (Some parent) (asks_program e.name.now) e.row)) refl _ lists.now name
       (both_left (list_all (λ names. list_all (λ e. is_row_with (Some parent) (asks_program e.name.now) e.row) names.now) lists.now) _ (both_right (all_ascend named_row lists.now) _ h))) is
   widens_below parent (Roots roots) i h is = widens_root (Some parent) roots.now i (both_right (all_ascend rooted_row roots.now) _ h) is
   widens_below parent (Packages entries excepts folders) i h (inl is) = is.1
@@ -424,13 +433,13 @@ one_of t (other ∷ others) h = elim (or_cases (same t other) _ h) [
 ]
 
 module _ (parent : ℕ) where
-  abbrev is_told : Named → Bool
-  is_told e = is_application e.name.now && is_row_with (Some parent) (asks_folder e.name.now) e.row
+  abbrev is_folder : Named → Bool
+  is_folder e = is_application e.name.now && is_row_with (Some parent) (asks_folder e.name.now) e.row
 
   pub all_applications : (entries : Bor (List Entry)) (excepts : Bor (List Except)) (folders : Bor (List Named)) → IsTrue (is_true_below parent (Packages entries excepts folders)) → AllApplications folders.now
   all_applications entries excepts folders h = λ k d lt.
       let name = (get_or folders.now k d).name.now in
-      one_of name applications (both_left (is_application name) _ (AllPass-from_list_all is_told folders.now (both_left (list_all is_told folders.now) _ (both_right (ascends named_row folders.now) _ h)) k d lt))
+      one_of name applications (both_left (is_application name) _ (AllPass-from_list_all is_folder folders.now (both_left (list_all is_folder folders.now) _ (both_right (ascends named_row folders.now) _ h)) k d lt))
 
 -- each class id has its bytes
 module _ (parent : ℕ) where
@@ -453,12 +462,12 @@ module _ (i : ℕ) (r : Further) (found : slice_get further i ≡ Some r) (lt : 
       subst (λ t. IsTrue (if t then list_all (is_found_below way i) r.signature else true)) (eq-eqb parent parent refl)
       (subst (λ p. IsTrue (is_row_below (λ q. q == parent) (λ q. way) i p r)) e (asks_below parent way each))
 
-  module _ (index : Parentless) (each : EachParentlessIsFound index) where
-    asks_parentless : IsTrue (is_row_parentless index i r.parent r)
-    asks_parentless = subst (λ o. IsTrue (option_map_or (λ (x : Further). is_row_parentless index i x.parent x) o true)) found (each.found i lt)
+  asks_parentless : (passes : ℕ → Alternative → Bool) → ((j : ℕ) → j < length further → IsTrue (is_row_parentless_found passes j)) → IsTrue (is_row_parentless (passes i) r.parent r)
+  asks_parentless passes each = subst (λ o. IsTrue (option_map_or (λ (x : Further). is_row_parentless (passes i) x.parent x) o true)) found (each i lt)
 
-    parentless_by : r.parent ≡ None → IsTrue (list_all (is_found_parentless index i) r.signature)
-    parentless_by e = subst (λ p. IsTrue (is_row_parentless index i p r)) e asks_parentless
+  parentless_by : (passes : ℕ → Alternative → Bool) → ((j : ℕ) → j < length further → IsTrue (is_row_parentless_found passes j)) → r.parent ≡ None
+      → IsTrue (list_all (passes i) r.signature)
+  parentless_by passes each e = subst (λ p. IsTrue (is_row_parentless (passes i) p r)) e (asks_parentless passes each)
 
 module _ (by_place : (place : ℕ) (t buf : List ℕ) → IsTrue (stands place t buf) ↔ StandsByPlace place t buf) (leads : Leads) where
   finds_below : (parent : ℕ) (way : below.Below) → IsWayBelow parent way → (b : List ℕ) → IsBuffer b → (i : ℕ) → WidensAt (Some parent) b i → IsFoundBelow way parent b i
@@ -469,26 +478,28 @@ module _ (by_place : (place : ℕ) (t buf : List ℕ) → IsTrue (stands place t
     | inr (past, none) ↦ absurd (let lt = w.0 in omega arith)
   ]
 
-  finds_parentless : (index : Parentless) → EachParentlessIsFound index → (b : List ℕ) → IsBuffer b → (i : ℕ) → WidensAt None b i → IsFoundParentless index b i
-  finds_parentless index each b all i w = elim (slice_get_cases further i).1 [
+  finds_parentless : (index : Parentless) (told : Told) → EachParentlessIsFound index → EachIsTold told → (b : List ℕ) → IsBuffer b → (i : ℕ) → WidensAt None b i
+      → IsFoundParentless index told b i
+  finds_parentless index told each named b all i w = elim (slice_get_cases further i).1 [
     | inl (r, within, found, same_row) ↦
         let holds : Widens None b r = subst (Widens None b) same_row (w.1 r) in
-        found_parentless by_place leads b (small_bytes b all) i index w r.signature (parentless_by i r found within index each holds.0) holds.1
+        let own = parentless_by i r found within (is_found_parentless index) each.found holds.0 in
+        found_parentless by_place leads b (small_bytes b all) i index told w r.signature own (parentless_by i r found within (is_told told) named.found holds.0) holds.1
     | inr (past, none) ↦ absurd (let lt = w.0 in omega arith)
   ]
 
   pub all_below : (parent : ℕ) (way : below.Below) → IsWayBelow parent way → FindsBelow parent way
   all_below parent way each b all i = (widens_below b parent way i each.told, finds_below parent way each b all i)
 
-  pub all_parentless : (index : Parentless) → EachParentlessIsFound index → FindsParentless index
-  all_parentless index each b all i = (
+  pub all_parentless : (index : Parentless) (told : Told) → EachParentlessIsFound index → EachIsTold told → FindsParentless index told
+  all_parentless index told each named b all i = (
     λ is. elim is [
       | inl tried_row ↦ tried_row.1
-      | inr (inl (inl r)) ↦ widens_root b None index.roots.now i (both_right (all_ascend rooted_row index.roots.now) _ each.roots) r
-      | inr (inl (inr r)) ↦ widens_key b index.keys.now i each.keys r
+      | inr (inl (inl r)) ↦ widens_root b None told.roots.now i (both_right (all_ascend rooted_row told.roots.now) _ named.roots) r
+      | inr (inl (inr r)) ↦ widens_key b told.keys.now i named.keys r
       | inr (inr t) ↦ widens_text b index.texts i each.texts t
     ],
-    finds_parentless index each b all i,
+    finds_parentless index told each named b all i,
   )
 
 pub texts_ascend : (t : Texts) → IsTrue (are_texts t) → (t.lines ≤ t.json) × (t.json ≤ t.plain)
@@ -501,9 +512,9 @@ pub least_below : (parent : ℕ) (way : below.Below) → FindsBelow parent way �
     → IsLeast (IsFoundBelow way parent b) FURTHER_COUNT least → IsLeast (WidensAt (Some parent) b) FURTHER_COUNT least
 least_below parent way all b bytes least h = least_same _ _ FURTHER_COUNT least (λ i. (all b bytes i).0) (λ i. (all b bytes i).1) h
 
-module _ (index : Parentless) (all : FindsParentless index) (b : List ℕ) (bytes : IsBuffer b) where
+module _ (index : Parentless) (told : Told) (all : FindsParentless index told) (b : List ℕ) (bytes : IsBuffer b) where
   pub least_with_texts : (tried_least rooted least : ℕ) → IsLeast (IsTried None b (tried_parentless index b)) FURTHER_COUNT tried_least
-      → IsLeast (IsTold index b) tried_least rooted → IsLeast (IsTextRow index.texts b) rooted least
+      → IsLeast (IsTold told b) tried_least rooted → IsLeast (IsTextRow index.texts b) rooted least
       → IsLeast (WidensAt None b) FURTHER_COUNT least
   least_with_texts tried_least rooted least h r k =
       least_same _ _ FURTHER_COUNT least (λ i. (all b bytes i).0) (λ i. (all b bytes i).1)
@@ -511,7 +522,7 @@ module _ (index : Parentless) (all : FindsParentless index) (b : List ℕ) (byte
 
   pub least_before_texts : (tried_least least : ℕ) → IsTrue (are_texts index.texts) → least ≤ index.texts.lines
       → IsLeast (IsTried None b (tried_parentless index b)) FURTHER_COUNT tried_least
-      → IsLeast (IsTold index b) tried_least least → IsLeast (WidensAt None b) FURTHER_COUNT least
+      → IsLeast (IsTold told b) tried_least least → IsLeast (WidensAt None b) FURTHER_COUNT least
   least_before_texts tried_least least texts later h r =
       let (json_later, plain_later) = texts_ascend index.texts texts in
       least_with_texts tried_least least least h r (least_late _ least (λ i is. elim is [
@@ -533,11 +544,13 @@ pub ways_below : (apart : List ℕ) (ways : List below.Below)
     → NoRowFails (at_row (λ i r. is_row_below (λ p. not (is_listed apart p)) (below_at ways) i r.parent r)) → IsTrue (are_true 0 ways) → AreWaysBelow apart ways
 ways_below apart ways none told = record { found = each_row _ none; told = told }
 
-pub each_parentless : (index : Parentless) → NoRowFails (at_row (λ i r. is_row_parentless index i r.parent r)) → IsTrue (are_texts index.texts)
-    → IsTrue (are_rooted index.roots.now) → IsTrue (are_keyed index.keys.now) → IsTrue (are_spans index.first) → IsTrue (are_spots index.spots) → IsTrue (are_told index)
-    → EachParentlessIsFound index
-each_parentless index none texts roots keys spans spots begins =
-    record { found = each_row _ none; texts = texts; roots = roots; keys = keys; spans = spans; spots = spots; begins = begins }
+pub each_parentless : (index : Parentless) → NoRowFails (at_row (λ i r. is_row_parentless (is_found_parentless index i) r.parent r)) → IsTrue (are_texts index.texts)
+    → IsTrue (are_spans index.first) → IsTrue (are_spots index.spots) → IsTrue (are_told index) → EachParentlessIsFound index
+each_parentless index none texts spans spots begins = record { found = each_row _ none; texts = texts; spans = spans; spots = spots; begins = begins }
+
+pub each_told : (told : Told) → NoRowFails (at_row (λ i r. is_row_parentless (is_told told i) r.parent r)) → IsTrue (are_rooted told.roots.now)
+    → IsTrue (are_keyed told.keys.now) → EachIsTold told
+each_told told none roots keys = record { found = each_row _ none; roots = roots; keys = keys }
 
 blank_space : (x : ℕ) → IsBlank x → IsXmlSpace x
 blank_space x (inl e) = inr (inr (inr e))
@@ -585,21 +598,21 @@ told_marked index b h (some, starts) = elim starts [
         (all_of_listed (has_mark index.spots.marks.now index.told) x (0x09 ∷ 0x0A ∷ 0x0D ∷ 0x20 ∷ 0x3C ∷ 0x7B ∷ 0xEF ∷ []) h listed)
 
 -- what none begins has none
-pub none_told : (index : Parentless) (b : List ℕ) → Leads → (¬ MayBeTold b) → (i : ℕ) → ¬ IsTold index b i
-none_told index b leads none i (inl (name, rest, element, is)) = none (root_starts b leads name rest element)
-none_told index b leads none i (inr (key, rest, first, is)) = none (key_starts b key rest first)
+pub none_told : (told : Told) (b : List ℕ) → Leads → (¬ MayBeTold b) → (i : ℕ) → ¬ IsTold told b i
+none_told told b leads none i (inl (name, rest, element, is)) = none (root_starts b leads name rest element)
+none_told told b leads none i (inr (key, rest, first, is)) = none (key_starts b key rest first)
 
 -- the first byte behind white space tells which of them there may be
 module _ (b : List ℕ) (leads : Leads) where
   root_dark : (name rest : List ℕ) → IsRootElement name rest b → StandsFirst 0x3C b ⊎ StandsFirst 0xEF b
   root_dark name rest element = markup_first b (leads.root name b (rest, element))
 
-  pub none_dark : (index : Parentless) → ((x : ℕ) → (¬ IsBlank x) → ¬ StandsFirst x b) → (i : ℕ) → ¬ IsTold index b i
-  none_dark index none i (inl (name, rest, element, is)) = elim (root_dark name rest element) [
+  pub none_dark : (told : Told) → ((x : ℕ) → (¬ IsBlank x) → ¬ StandsFirst x b) → (i : ℕ) → ¬ IsTold told b i
+  none_dark told none i (inl (name, rest, element, is)) = elim (root_dark name rest element) [
     | inl first ↦ none 0x3C (λ h. grind arith) first
     | inr first ↦ none 0xEF (λ h. grind arith) first
   ]
-  none_dark index none i (inr (key, rest, is, others)) = elim (key_first key rest b is) [
+  none_dark told none i (inr (key, rest, is, others)) = elim (key_first key rest b is) [
     | inl first ↦ none 0x7B (λ h. grind arith) first
     | inr first ↦ none 0xEF (λ h. grind arith) first
   ]
@@ -623,16 +636,16 @@ front_stands : (x : ℕ) (b : List ℕ) → 0 < length b → slice_index b 0 ≡
 front_stands x [] lt e = absurd (omega arith)
 front_stands x (y ∷ b) lt e = let first : y ≡ x = e in subst (λ z. StandsFirst z (y ∷ b)) first (b, inl refl)
 
-pub told_rooted : (index : Parentless) (b : List ℕ) (on : Bool) (before after : ℕ) → on ≡ has_byte b 0 0x3C → on ≡ true
-    → IsLeast (IsRooted b index.roots.now) before after → IsLeast (IsTold index b) before after
-told_rooted index b on before after same holds h =
+pub told_rooted : (told : Told) (b : List ℕ) (on : Bool) (before after : ℕ) → on ≡ has_byte b 0 0x3C → on ≡ true
+    → IsLeast (IsRooted b told.roots.now) before after → IsLeast (IsTold told b) before after
+told_rooted told b on before after same holds h =
     let is : IsTrue (has_byte b 0 0x3C) = sym same ∙ holds in
     let lt : 0 < length b = ltb-true 0 (length b) (both_left (nat_lt 0 (length b)) _ is) in
     let first : slice_index b 0 ≡ 0x3C = eqb-true (slice_index b 0) 0x3C (both_right (nat_lt 0 (length b)) _ is) in
     least_same _ _ before after (λ i r. inl r)
-    (λ i told. elim told [
+    (λ i is. elim is [
       | inl r ↦ r
-      | inr k ↦ absurd (no_key b 0x3C (λ blank. grind arith) (front_stands 0x3C b lt first) index.keys.now (λ s. omega arith) (λ s. omega arith) i k)
+      | inr k ↦ absurd (no_key b 0x3C (λ blank. grind arith) (front_stands 0x3C b lt first) told.keys.now (λ s. omega arith) (λ s. omega arith) i k)
     ]) h
 
 -- and behind its first "<" stands an element or another "<"

@@ -41,6 +41,7 @@ use Rattle.infer_more.specs.declared.index.Spot.{Spot}
 use Rattle.infer_more.specs.declared.index.Spots.{Spots}
 use Rattle.infer_more.specs.declared.index.Texts.{Texts}
 use Rattle.infer_more.specs.declared.index.Third.{Third}
+use Rattle.infer_more.specs.declared.index.Told.{Told}
 
 -- the buffer has the byte at the place
 abbrev pub has_byte : List ℕ → ℕ → ℕ → Bool
@@ -219,18 +220,17 @@ IsNamed P names i = IsRowOf named_row (λ e. P e.name.now) names i
 abbrev pub bucket_at : {A : Type 0} → List (Bor (List A)) → ℕ → List A
 bucket_at buckets i = option_map_or (λ names. names.now) (slice_get buckets i) []
 
--- the bucket of a name: by the low bits of its first byte, of so many buckets
-abbrev pub bucket_by : {A : Type 0} → ℕ → List (Bor (List A)) → List ℕ → List A
-bucket_by many buckets [] = []
-bucket_by many buckets (x ∷ xs) = bucket_at buckets (x % many)
+-- the bucket of a name: by some bits of its first byte
+abbrev pub bucket_by : {A : Type 0} → (ℕ → ℕ) → List (Bor (List A)) → List ℕ → List A
+bucket_by bits buckets [] = []
+bucket_by bits buckets (x ∷ xs) = bucket_at buckets (bits x)
 
 -- of names the low five bits tell it, and of roots the five bits above the lowest
 abbrev pub bucket_of : List (Bor (List Named)) → List ℕ → List Named
-bucket_of buckets name = bucket_by 32 buckets name
+bucket_of buckets name = bucket_by (λ x. x % 32) buckets name
 
 abbrev pub roots_of : List (Bor (List Rooted)) → List ℕ → List Rooted
-roots_of buckets [] = []
-roots_of buckets (x ∷ xs) = bucket_at buckets ((x / 2) % 32)
+roots_of buckets name = bucket_by (λ x. (x / 2) % 32) buckets name
 
 -- the rows of each bucket ascend
 abbrev pub all_ascend : {A : Type 0} → (A → ℕ) → List (Bor (List A)) → Bool
@@ -267,8 +267,8 @@ abbrev pub IsKeyed : List ℕ → List Keyed → ℕ → Type 0
 IsKeyed b keys i = (key rest : List ℕ) × IsFirstKey key rest b × IsKeyedBy key rest keys i
 
 -- row i is told by the root element of the buffer, or by its first key
-abbrev pub IsTold : Parentless → List ℕ → ℕ → Type 0
-IsTold index b i = IsRooted b index.roots.now i ⊎ IsKeyed b index.keys.now i
+abbrev pub IsTold : Told → List ℕ → ℕ → Type 0
+IsTold told b i = IsRooted b told.roots.now i ⊎ IsKeyed b told.keys.now i
 
 -- row i is found below the built-in row: it is tried and widens the answer, or told by a name
 abbrev pub IsFoundBelow : below.Below → ℕ → List ℕ → ℕ → Type 0
@@ -295,8 +295,8 @@ abbrev pub are_told : Parentless → Bool
 are_told index = list_all (has_mark index.spots.marks.now index.told) (0x09 ∷ 0x0A ∷ 0x0D ∷ 0x20 ∷ 0x3C ∷ 0x7B ∷ 0xEF ∷ [])
 
 -- row i is found without a built-in answer
-abbrev pub IsFoundParentless : Parentless → List ℕ → ℕ → Type 0
-IsFoundParentless index b i = IsTried None b (tried_parentless index b) i ⊎ IsTold index b i ⊎ IsTextRow index.texts b i
+abbrev pub IsFoundParentless : Parentless → Told → List ℕ → ℕ → Type 0
+IsFoundParentless index told b i = IsTried None b (tried_parentless index b) i ⊎ IsTold told b i ⊎ IsTextRow index.texts b i
 
 -- the part settles the place, and allows there only bytes that pass the test
 abbrev pub is_settled : (ℕ → Bool) → ℕ → Part → Bool
@@ -464,11 +464,21 @@ is_text_row t i (related json_text) = t.json == i
 is_text_row t i (related plain_text) = t.plain == i
 is_text_row t i other = false
 
--- or of the root, or of the first key, or it is tried
+-- it asks for a root or for a first key
+abbrev pub is_of_name : Alternative → Bool
+is_of_name (related (root name)) = true
+is_of_name (related (root_with name t)) = true
+is_of_name (related (first_key key)) = true
+is_of_name (related (first_key_with key v)) = true
+is_of_name other = false
+
+-- it does so, or its row is that of the text, or is tried
 abbrev pub is_found_parentless : Parentless → ℕ → Alternative → Bool
-is_found_parentless index i a =
-    is_text_row index.texts i a
-    || (is_in_roots i index.roots.now a || (is_in_keys i index.keys.now a || list_all (is_tried_parentless index i) (lines a)))
+is_found_parentless index i a = is_of_name a || (is_text_row index.texts i a || list_all (is_tried_parentless index i) (lines a))
+
+-- it does not, or its row is that of the root, or of the first key
+abbrev pub is_told : Told → ℕ → Alternative → Bool
+is_told told i a = not (is_of_name a) || (is_in_roots i told.roots.now a || is_in_keys i told.keys.now a)
 
 -- a row whose parent is one that is asked is found, in the way below that, of each buffer that its signature accepts
 abbrev pub is_row_below : (ℕ → Bool) → (ℕ → below.Below) → ℕ → Option ℕ → Further → Bool
@@ -476,16 +486,16 @@ is_row_below asked way i None r = true
 is_row_below asked way i (Some parent) r = if asked parent then list_all (is_found_below (way parent) i) r.signature else true
 
 -- and so is one without a parent
-abbrev pub is_row_parentless : Parentless → ℕ → Option ℕ → Further → Bool
-is_row_parentless index i None r = list_all (is_found_parentless index i) r.signature
-is_row_parentless index i (Some parent) r = true
+abbrev pub is_row_parentless : (Alternative → Bool) → Option ℕ → Further → Bool
+is_row_parentless passes None r = list_all passes r.signature
+is_row_parentless passes (Some parent) r = true
 
 -- row i is so, if there is such a row
 abbrev pub is_row_below_found : (ℕ → Bool) → (ℕ → below.Below) → ℕ → Bool
 is_row_below_found asked way i = option_map_or (λ r. is_row_below asked way i r.parent r) (slice_get further i) true
 
-abbrev pub is_row_parentless_found : Parentless → ℕ → Bool
-is_row_parentless_found index i = option_map_or (λ r. is_row_parentless index i r.parent r) (slice_get further i) true
+abbrev pub is_row_parentless_found : (ℕ → Alternative → Bool) → ℕ → Bool
+is_row_parentless_found passes i = option_map_or (λ r. is_row_parentless (passes i) r.parent r) (slice_get further i) true
 
 -- row i has that parent, and an alternative that passes the test
 abbrev pub is_child : Option ℕ → Option ℕ → Bool
@@ -596,19 +606,24 @@ pub record AreWaysBelow (apart : List ℕ) (ways : List below.Below) : Type 0 wh
   pub found : (i : ℕ) → i < length further → IsTrue (is_row_below_found (λ p. not (is_listed apart p)) (below_at ways) i)
   pub told : IsTrue (are_true 0 ways)
 
+-- each row without a parent is told by a name or found otherwise
 pub record EachParentlessIsFound (index : Parentless) : Type 0 where
-  pub found : (i : ℕ) → i < length further → IsTrue (is_row_parentless_found index i)
+  pub found : (i : ℕ) → i < length further → IsTrue (is_row_parentless_found (is_found_parentless index) i)
   pub texts : IsTrue (are_texts index.texts)
-  pub roots : IsTrue (are_rooted index.roots.now)
-  pub keys : IsTrue (are_keyed index.keys.now)
   pub spans : IsTrue (are_spans index.first)
   pub spots : IsTrue (are_spots index.spots)
   pub begins : IsTrue (are_told index)
+
+-- and here just those by a name
+pub record EachIsTold (told : Told) : Type 0 where
+  pub found : (i : ℕ) → i < length further → IsTrue (is_row_parentless_found (is_told told) i)
+  pub roots : IsTrue (are_rooted told.roots.now)
+  pub keys : IsTrue (are_keyed told.keys.now)
 
 -- just the rows that widen that answer are found
 abbrev pub FindsBelow : ℕ → below.Below → Type 0
 FindsBelow parent way = (b : List ℕ) → IsBuffer b → (i : ℕ) → IsFoundBelow way parent b i ↔ WidensAt (Some parent) b i
 
 -- and those that widen none
-abbrev pub FindsParentless : Parentless → Type 0
-FindsParentless index = (b : List ℕ) → IsBuffer b → (i : ℕ) → IsFoundParentless index b i ↔ WidensAt None b i
+abbrev pub FindsParentless : Parentless → Told → Type 0
+FindsParentless index told = (b : List ℕ) → IsBuffer b → (i : ℕ) → IsFoundParentless index told b i ↔ WidensAt None b i

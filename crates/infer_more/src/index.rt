@@ -1,7 +1,7 @@
 //! Which further rows are tried of a buffer, so that few are. An entry names a row and a byte that it asks, so that a row
 //! is tried whole only where the buffer has that byte too. Rows that ask for a name, or for the first key of an object, are
 //! told by it, which is read once for all of them.
-ghost use Rattle.infer_more.specs.Index.{EachParentlessIsFound, FindsBelow, FindsParentless, IsWayBelow};
+ghost use Rattle.infer_more.specs.Index.{EachIsTold, EachParentlessIsFound, FindsBelow, FindsParentless, IsWayBelow};
 
 /// A row, by its number among the further rows, that is tried only if a buffer has the byte at the place.
 pub(crate) struct Entry {
@@ -137,9 +137,8 @@ pub(crate) struct Begun {
 
 /// The rows without a parent that are tried: by their first byte and a second or third one, and behind guards those that
 /// allow any first byte. Of these the rows that share another byte stand behind the gate, so that a buffer without it is told
-/// by one look. Ranges have the rows that allow many bytes, and spots the last rows, told by a byte elsewhere. The root of
-/// markup and the first key of an object are looked for once for all rows that ask for one, if the first byte has a mark
-/// among those of the spots. The texts come last.
+/// by one look. Ranges have the rows that allow many bytes, and spots the last rows, told by a byte elsewhere. A buffer may
+/// have a root or a first key if its first byte has a mark for that among those of the spots. The texts come last.
 pub(crate) struct Parentless {
     pub first: Begun,
     pub guards: &'static [Guard],
@@ -147,9 +146,14 @@ pub(crate) struct Parentless {
     pub ranges: &'static [Range],
     pub spots: Spots,
     pub told: u64,
+    pub texts: Texts,
+}
+
+/// The rows without a parent that are told by the root of markup or by the first key of an object, which is looked for once
+/// for all of them. A static of its own, as the check of one takes time quadratic in the lists inside it.
+pub(crate) struct Told {
     pub roots: &'static [&'static [Rooted]],
     pub keys: &'static [Keyed],
-    pub texts: Texts,
 }
 
 macro_rules! entries {
@@ -312,7 +316,7 @@ mod generated;
 
 pub use generated::FURTHER_COUNT;
 pub(crate) use generated::{found_below, is_parent};
-use generated::{LAST_PLACE, MIDDLE_PLACE, NEAR_PLACE, PARENTLESS, told_below};
+use generated::{LAST_PLACE, MIDDLE_PLACE, NEAR_PLACE, PARENTLESS, TOLD, told_below};
 
 /// How the rows below this built-in row are told: in a way by which just those are found that widen its answer.
 #[inline(always)]
@@ -337,32 +341,31 @@ fn law_finds_below(parent: usize, way: &Below)
     infer_sig::laws::by_place();
 }
 
-/// The rows without a parent.
+/// The rows without a parent, but for those that are told by a name.
 #[inline(always)]
-fn listed_without_parent() -> &'static Parentless
+pub(crate) fn without_parent() -> &'static Parentless
     ensures { EachParentlessIsFound result.now }
 {
     &PARENTLESS
 }
 
-/// The rows without a parent, by which just those are found that widen an answer below which there is none.
+/// The rows without a parent that are told by a name.
 #[inline(always)]
-pub(crate) fn without_parent() -> &'static Parentless
-    ensures each { EachParentlessIsFound result.now }
-    ensures finds { FindsParentless result.now }
+pub(crate) fn told_without_parent() -> &'static Told
+    ensures { EachIsTold result.now }
 {
-    let index = listed_without_parent();
-    law_finds_parentless(index);
-    index
+    &TOLD
 }
 
-/// A law: by an index that has each row without a parent, just those are found that widen an answer below which there is
-/// none.
-fn law_finds_parentless(index: &Parentless)
-    requires { EachParentlessIsFound index.now }
-    ensures { FindsParentless index.now }
+/// A law: by an index that has each row without a parent, and by the names of those that are told by one, just those are found
+/// that widen an answer below which there is none.
+pub(crate) fn law_finds_parentless(index: &Parentless, told: &Told)
+    requires each { EachParentlessIsFound index.now }
+    requires named { EachIsTold told.now }
+    ensures { FindsParentless index.now told.now }
 {
     let _ = index;
+    let _ = told;
     infer_formats::laws::leads();
     infer_sig::laws::by_place();
 }

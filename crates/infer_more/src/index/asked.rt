@@ -14,8 +14,8 @@ ghost use Rattle.infer_more.specs.declared.index.generated.TheConstants.{FURTHER
 
 use crate::index::{
     Begun, Below, Entry, Except, FURTHER_COUNT, Gate, Guard, Keyed, LAST_PLACE, MIDDLE_PLACE,
-    NEAR_PLACE, Named, Parentless, Range, Rooted, Second, Spot, Spots, Texts, Third, way_below,
-    without_parent,
+    NEAR_PLACE, Named, Parentless, Range, Rooted, Second, Spot, Spots, Texts, Third, Told,
+    law_finds_parentless, told_without_parent, way_below, without_parent,
 };
 use crate::table::widens;
 use infer::rows::ROW_COUNT;
@@ -722,11 +722,11 @@ fn may_be_told(index: &Parentless, buf: &[u8]) -> bool
 
 /// The least of the number before and of the rows that are told by the root of markup, or by the first key of an object.
 #[inline(always)]
-fn least_told(index: &Parentless, buf: &[u8], before: usize) -> usize
+fn least_told(index: &Parentless, told: &Told, buf: &[u8], before: usize) -> usize
     requires begins { IsTrue (are_told index.now) }
-    requires roots { IsTrue (all_ascend rooted_row index.now.roots.now) }
-    requires keys { IsTrue (ascends keyed_row index.now.keys.now) }
-    ensures { IsLeast (IsTold index.now buf.now) before result }
+    requires roots { IsTrue (all_ascend rooted_row told.now.roots.now) }
+    requires keys { IsTrue (ascends keyed_row told.now.keys.now) }
+    ensures { IsLeast (IsTold told.now buf.now) before result }
 {
     infer_formats::laws::leads();
     if !may_be_told(index, buf) {
@@ -734,35 +734,35 @@ fn least_told(index: &Parentless, buf: &[u8], before: usize) -> usize
     }
     // Markup mostly begins so.
     if has_byte(buf, 0, b'<') {
-        return least_begun_markup(index.roots, buf, before);
+        return least_begun_markup(told.roots, buf, before);
     }
-    least_told_apart(index, buf, before)
+    least_told_apart(told, buf, before)
 }
 
 /// [`least_told`] by the first byte behind white space. A function of its own, so that few buffers take what it needs.
 #[inline(never)]
-fn least_told_apart(index: &Parentless, buf: &[u8], before: usize) -> usize
-    requires roots { IsTrue (all_ascend rooted_row index.now.roots.now) }
-    requires keys { IsTrue (ascends keyed_row index.now.keys.now) }
-    ensures { IsLeast (IsTold index.now buf.now) before result }
+fn least_told_apart(told: &Told, buf: &[u8], before: usize) -> usize
+    requires roots { IsTrue (all_ascend rooted_row told.now.roots.now) }
+    requires keys { IsTrue (ascends keyed_row told.now.keys.now) }
+    ensures { IsLeast (IsTold told.now buf.now) before result }
 {
     infer_formats::laws::leads();
     match first_dark(buf) {
-        Some(dark) => least_behind(dark, index, buf, before),
+        Some(dark) => least_behind(dark, told, buf, before),
         None => before,
     }
 }
 
 /// [`least_told`] of a buffer with this byte behind white space.
 #[inline(always)]
-fn least_behind(dark: u8, index: &Parentless, buf: &[u8], before: usize) -> usize
-    requires roots { IsTrue (all_ascend rooted_row index.now.roots.now) }
-    requires keys { IsTrue (ascends keyed_row index.now.keys.now) }
+fn least_behind(dark: u8, told: &Told, buf: &[u8], before: usize) -> usize
+    requires roots { IsTrue (all_ascend rooted_row told.now.roots.now) }
+    requires keys { IsTrue (ascends keyed_row told.now.keys.now) }
     requires first { (¬ IsBlank dark) × StandsFirst dark buf.now }
-    ensures { IsLeast (IsTold index.now buf.now) before result }
+    ensures { IsLeast (IsTold told.now buf.now) before result }
 {
-    let rooted = least_markup(dark, index.roots, buf, before);
-    least_object(dark, index.keys, buf, rooted)
+    let rooted = least_markup(dark, told.roots, buf, before);
+    least_object(dark, told.keys, buf, rooted)
 }
 
 /// [`least_root`] of a buffer with this byte behind white space, which need not be markup.
@@ -897,14 +897,14 @@ fn least_parentless_near(buf: &[u8]) -> usize
 fn least_parentless_copy<const COPY: usize>(buf: &[u8]) -> usize
     ensures { IsLeast (WidensAt None buf.now) FURTHER_COUNT result }
 {
-    let index = without_parent();
+    let (index, told) = (without_parent(), told_without_parent());
+    law_finds_parentless(index, told);
     let tried = least_tried::<COPY>(index, buf);
-    let told = least_told(index, buf, tried);
-    let texts = &index.texts;
-    if told <= usize::from(texts.lines) {
-        return told;
+    let least = least_told(index, told, buf, tried);
+    if least <= usize::from(index.texts.lines) {
+        return least;
     }
-    least_text(texts, buf, told)
+    least_text(&index.texts, buf, least)
 }
 
 fn is_named(named: &Named, name: &[u8]) -> bool

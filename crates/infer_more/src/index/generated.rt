@@ -10,7 +10,7 @@ use crate::index::Below::{ClassIds, Entries, Nothing, Packages, Programs, Roots,
 use crate::index::asked::{below_at, found_row_apart, is_marked};
 use crate::index::{
     Begun, Below, Entry, Except, Gate, Guard, Keyed, Named, Parentless, Range, Rooted, Second,
-    Span, Spot, Spots, Texts, Third,
+    Span, Spot, Spots, Texts, Third, Told,
 };
 
 /// How many further rows there are.
@@ -1007,13 +1007,16 @@ pub(super) static PARENTLESS: Parentless = Parentless {
         ],
     },
     told: 0x8000000000000000,
-    roots: roots![(b"ASX" () 735, b"Asx" () 735) () () () () () () () (b"Project" (b"http://schemas.microsoft.com/developer/msbuild/2003") 731, b"Project" (b"Sdk=") 731) (b"SAMI" () 190, b"RCC" () 734) () () () () () () (b"asx" () 735) (b"busconfig" () 737) () () () () (b"math" (b"http://www.w3.org/1998/Math/MathML") 189, b"map" (b"version=") 733) (b"node" (b"name=") 736) (b"project" (b"http://maven.apache.org/POM/4.0.0") 732) (b"svg" () 55, b"sami" () 190, b"stylesheet" (b"http://www.w3.org/1999/XSL/Transform") 729, b"schema" (b"http://www.w3.org/2001/XMLSchema") 730, b"smil" () 738) (b"transform" (b"http://www.w3.org/1999/XSL/Transform") 729) () (b"xmpmeta" () 188) () () ()],
-    keys: keyed![b"cells" () 854, b"type" (b"FeatureCollection") 855, b"type" (b"Feature") 855, b"type" (b"Point") 855, b"type" (b"Polygon") 855, b"type" (b"LineString") 855, b"type" (b"MultiPolygon") 855, b"type" (b"GeometryCollection") 855, b"bomFormat" () 856, b"asset" () 857],
     texts: Texts {
         lines: 927,
         json: 928,
         plain: 929,
     },
+};
+
+pub(super) static TOLD: Told = Told {
+    roots: roots![(b"ASX" () 735, b"Asx" () 735) () () () () () () () (b"Project" (b"http://schemas.microsoft.com/developer/msbuild/2003") 731, b"Project" (b"Sdk=") 731) (b"SAMI" () 190, b"RCC" () 734) () () () () () () (b"asx" () 735) (b"busconfig" () 737) () () () () (b"math" (b"http://www.w3.org/1998/Math/MathML") 189, b"map" (b"version=") 733) (b"node" (b"name=") 736) (b"project" (b"http://maven.apache.org/POM/4.0.0") 732) (b"svg" () 55, b"sami" () 190, b"stylesheet" (b"http://www.w3.org/1999/XSL/Transform") 729, b"schema" (b"http://www.w3.org/2001/XMLSchema") 730, b"smil" () 738) (b"transform" (b"http://www.w3.org/1999/XSL/Transform") 729) () (b"xmpmeta" () 188) () () ()],
+    keys: keyed![b"cells" () 854, b"type" (b"FeatureCollection") 855, b"type" (b"Feature") 855, b"type" (b"Point") 855, b"type" (b"Polygon") 855, b"type" (b"LineString") 855, b"type" (b"MultiPolygon") 855, b"type" (b"GeometryCollection") 855, b"bomFormat" () 856, b"asset" () 857],
 };
 
 /// For each built-in row, whether further rows stand below it.

@@ -4,7 +4,7 @@ use Rattle.infer_more.proofs.LeastLemmas.{least_none, least_same}
 use Rattle.infer_more.proofs.index.asked.least_program.Goals as goal
 
 pub least_named-requires : goal.least_named-requires
-least_named-requires c = subst (λ n. ascends named_row n ≡ true) (sym c.bucket_of.ensures) (listed_in_bucket (ascends named_row) refl 32 c.args.buckets.now c.in-Some.name.now c.requires)
+least_named-requires c = subst (λ n. ascends named_row n ≡ true) (sym c.bucket_of.ensures) (listed_in_bucket (ascends named_row) refl _ c.args.buckets.now c.in-Some.name.now c.requires)
 
 pub returns-in-Some : goal.returns-in-Some
 returns-in-Some c =

@@ -1,11 +1,11 @@
 use Rattle.infer_more.proofs.Common.{◌≡◌, refl, subst, sym, true, IsRooted, IsRootedBy, ascends, rooted_row}
 use Rattle.infer_more.specs.Index.{roots_of}
-use Rattle.infer_more.proofs.FoundLemmas.{listed_in_roots}
+use Rattle.infer_more.proofs.FoundLemmas.{listed_in_bucket}
 use Rattle.infer_more.proofs.LeastLemmas.{least_none, least_same}
 use Rattle.infer_more.proofs.index.asked.least_root.Goals as goal
 
 pub least_rooted-requires : goal.least_rooted-requires
-least_rooted-requires c = subst (λ n. ascends rooted_row n ≡ true) (sym c.roots_of.ensures) (listed_in_roots (ascends rooted_row) refl c.args.roots.now c.in-Some.root.name.now c.requires)
+least_rooted-requires c = subst (λ n. ascends rooted_row n ≡ true) (sym c.roots_of.ensures) (listed_in_bucket (ascends rooted_row) refl _ c.args.roots.now c.in-Some.root.name.now c.requires)
 
 pub returns-in-Some : goal.returns-in-Some
 returns-in-Some c =
