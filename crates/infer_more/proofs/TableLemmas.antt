@@ -54,6 +54,18 @@ none_joined test s (suc j) k here behind =
     let many : suc (j + k) ≡ suc j + k = omega arith in
     subst (NoneFails test s) many (here.0, none_joined test (s + 1) j k here.1 (subst (λ t. NoneFails test t k) same behind))
 
+-- none of 64 rows, sixteen a line
+abbrev pub NoneOf64 : (ℕ → Bool) → ℕ → Type 0
+NoneOf64 test s = NoneFails test s 16 × NoneFails test (s + 16) 16 × NoneFails test (s + 32) 16 × NoneFails test (s + 48) 16
+
+pub none_of_64 : (test : ℕ → Bool) (s : ℕ) → NoneOf64 test s → NoneFails test s 64
+none_of_64 test s (first, second, third, last) =
+    let third_from : s + 32 ≡ (s + 16) + 16 = omega arith in
+    let last_from : s + 48 ≡ ((s + 16) + 16) + 16 = omega arith in
+    none_joined test s 16 48 first
+    (none_joined test (s + 16) 16 32 second
+    (none_joined test ((s + 16) + 16) 16 16 (subst (λ k. NoneFails test k 16) third_from third) (subst (λ k. NoneFails test k 16) last_from last)))
+
 not_refused : (r : Bool) (i : ℕ) → (if r then [] else i ∷ []) ≡ [] → IsTrue r
 not_refused true i e = refl
 not_refused false i e = absurd (cc)
