@@ -172,23 +172,50 @@ fn least_each_apart(entries: &[Entry], buf: &[u8], before: usize) -> usize
     least_each(entries, buf, before)
 }
 
-/// [`least_each`], without a loop if there is one entry, as mostly.
+/// [`least_some`], with one test if there is one entry, as mostly. Each of what it calls is a function of its own, so that it
+/// takes nothing of what they need.
 #[inline(always)]
 fn least_few(entries: &[Entry], buf: &[u8], before: usize) -> usize
     ensures { IsLeast (IsTried None buf.now (candidates buf.now entries.now)) before result }
 {
     match only(entries) {
-        Some(entry) => least_at(entry, None, buf, before),
+        Some(entry) => least_at_apart(entry, buf, before),
+        None => least_some(entries, buf, before),
+    }
+}
+
+/// [`least_at`] without a parent, as a function of its own.
+#[inline(never)]
+fn least_at_apart(entry: &Entry, buf: &[u8], before: usize) -> usize
+    ensures { IsLeast (IsTried None buf.now (candidate buf.now entry.now)) before result }
+{
+    least_at(entry, None, buf, before)
+}
+
+/// [`least_each`], without a loop if there are three entries.
+#[inline(always)]
+fn least_some(entries: &[Entry], buf: &[u8], before: usize) -> usize
+    ensures { IsLeast (IsTried None buf.now (candidates buf.now entries.now)) before result }
+{
+    match three(entries) {
+        Some((one, other, last)) => least_of_three_apart(one, other, last, buf, before),
         None => least_each_apart(entries, buf, before),
     }
 }
 
-/// [`least_few`] as a function of its own.
+/// [`least_of_three`] as a function of its own.
 #[inline(never)]
-fn least_few_apart(entries: &[Entry], buf: &[u8], before: usize) -> usize
-    ensures { IsLeast (IsTried None buf.now (candidates buf.now entries.now)) before result }
+fn least_of_three_apart(
+    one: &Entry,
+    other: &Entry,
+    last: &Entry,
+    buf: &[u8],
+    before: usize,
+) -> usize
+    ensures { IsLeast (IsTried None buf.now
+        (candidates buf.now (one.now ∷ other.now ∷ last.now ∷ []))) before result }
 {
-    least_few(entries, buf, before)
+    least_of_three(one, other, last, buf, before)
 }
 
 /// Whether these are few entries, no row of which is before that number: told without a loop, as guards have few entries.
@@ -214,8 +241,7 @@ fn is_behind(entry: &Entry, before: usize) -> bool
     before <= usize::from(entry.row)
 }
 
-/// [`least_few`], and the number before at once if there are few entries, of no earlier row. A function of its own, so that this
-/// takes nothing of what [`least_few`] needs.
+/// [`least_few`], and the number before at once if there are few entries, of no earlier row.
 #[inline(never)]
 fn least_after(entries: &[Entry], buf: &[u8], before: usize) -> usize
     ensures { IsLeast (IsTried None buf.now (candidates buf.now entries.now)) before result }
@@ -223,7 +249,7 @@ fn least_after(entries: &[Entry], buf: &[u8], before: usize) -> usize
     if is_late(entries, before) {
         return before;
     }
-    least_few_apart(entries, buf, before)
+    least_few(entries, buf, before)
 }
 
 /// [`least_after`] that number, of the entries behind a guard: the number before if the buffer lacks the guard's byte.
