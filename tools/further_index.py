@@ -661,6 +661,14 @@ def all_spots(rows, zeros, gate):
     return spots, own
 
 
+def opening(rows, gate, inside):
+    """How many rows that do not stand behind the gate have its byte, so that their buffers are asked for what does."""
+    place, byte = gate
+    behind = {number for number, _ in inside}
+    others = (row for number, row in enumerate(rows) if not row.parent and number not in behind)
+    return sum(any(it.get(place) == {byte} for it in row.outlines(TOLD)) for row in others)
+
+
 def is_behind(gate, alternative):
     """Whether every buffer of the alternative has the gate's byte, and another one that tells it."""
     place, byte = gate
@@ -702,6 +710,7 @@ def gated(rows, zeros):
         outer, inner = choose(outside, [gate]), choose(inside, (), gate, BEHIND)
         # A byte that is common in texts opens the gate to more of them.
         cost = weigh(passing(outside), outer, [gate]) + weigh(passing(inside), inner, (), BEHIND) / (4 if gate[1] in COMMON else 16)
+        cost += opening(rows, gate, inside)
         ways.append((cost, gate, list(guards(outside, outer)), list(guards(inside, inner))))
     return min(ways)[1:]
 

@@ -955,6 +955,7 @@
     {"application/geo+json", "geojson", "application/geo+json", OF_DATA},
     {"application/vnd.cyclonedx+json", "cdx", "application/vnd.cyclonedx+json", OF_DATA},
     {"model/gltf+json", "gltf", "model/gltf+json", OF_DATA},
+    {"application/schema+json", "schema", "application/schema+json", OF_DATA},
     {"application/x-gnupg-private-key", "gpgsec", "application/x-gnupg-private-key", OF_DATA},
     {"application/x-age-key", "agekey", "application/x-age-key", OF_DATA},
     {"model/obj", "obj", "model/obj", OF_DATA},

@@ -26,22 +26,22 @@ keys_listed =
     listed_append key_listed KEYS 0 300 k0.listed
     (listed_append key_listed KEYS 300 310 k1.listed
     (listed_append key_listed KEYS 610 268 k2.listed
-    (listed_append key_listed KEYS 878 309 k3.listed
-    (listed_append key_listed KEYS 1187 293 k4.listed
-    (listed_append key_listed KEYS 1480 281 k5.listed
-    (listed_append key_listed KEYS 1761 286 k6.listed
-    (listed_last key_listed KEYS 2047 273 refl k7.listed)))))))
+    (listed_append key_listed KEYS 878 310 k3.listed
+    (listed_append key_listed KEYS 1188 293 k4.listed
+    (listed_append key_listed KEYS 1481 281 k5.listed
+    (listed_append key_listed KEYS 1762 286 k6.listed
+    (listed_last key_listed KEYS 2048 273 refl k7.listed)))))))
 
-pub right : wrong_from starts 2320 0 keys ≡ []
+pub right : wrong_from starts 2321 0 keys ≡ []
 unfolding keys
 right =
-    right_append starts 2320 0 300 _ _ refl k0.many k0.right
-    (right_append starts 2320 300 310 _ _ refl k1.many k1.right
-    (right_append starts 2320 610 268 _ _ refl k2.many k2.right
-    (right_append starts 2320 878 309 _ _ refl k3.many k3.right
-    (right_append starts 2320 1187 293 _ _ refl k4.many k4.right
-    (right_append starts 2320 1480 281 _ _ refl k5.many k5.right
-    (right_append starts 2320 1761 286 _ _ refl k6.many k6.right
+    right_append starts 2321 0 300 _ _ refl k0.many k0.right
+    (right_append starts 2321 300 310 _ _ refl k1.many k1.right
+    (right_append starts 2321 610 268 _ _ refl k2.many k2.right
+    (right_append starts 2321 878 310 _ _ refl k3.many k3.right
+    (right_append starts 2321 1188 293 _ _ refl k4.many k4.right
+    (right_append starts 2321 1481 281 _ _ refl k5.many k5.right
+    (right_append starts 2321 1762 286 _ _ refl k6.many k6.right
     (k7.right)))))))
 
 pub marked : AreMarked keys
@@ -118,7 +118,7 @@ sets_6-listed : map set_listed (take 128 (drop 768 SETS)) ≡ sets_6
 unfolding sets_6 ranges row_spans row_texts
 sets_6-listed = refl
 
-sets_7-listed : map set_listed (take 87 (drop 896 SETS)) ≡ sets_7
+sets_7-listed : map set_listed (take 88 (drop 896 SETS)) ≡ sets_7
 unfolding sets_7 ranges row_spans row_texts
 sets_7-listed = refl
 
@@ -132,4 +132,4 @@ sets_listed =
     (listed_append set_listed SETS 512 128 sets_4-listed
     (listed_append set_listed SETS 640 128 sets_5-listed
     (listed_append set_listed SETS 768 128 sets_6-listed
-    (listed_last set_listed SETS 896 87 refl sets_7-listed)))))))
+    (listed_last set_listed SETS 896 88 refl sets_7-listed)))))))

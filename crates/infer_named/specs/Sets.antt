@@ -2345,650 +2345,653 @@ rows-scf = 766
 abbrev pub rows-sch : ℕ
 rows-sch = 767
 
+abbrev pub rows-schema : ℕ
+rows-schema = 768
+
 abbrev pub rows-scm : ℕ
-rows-scm = 768
+rows-scm = 769
 
 abbrev pub rows-scsyn : ℕ
-rows-scsyn = 769
+rows-scsyn = 770
 
 abbrev pub rows-sdb : ℕ
-rows-sdb = 770
+rows-sdb = 771
 
 abbrev pub rows-sdi : ℕ
-rows-sdi = 771
+rows-sdi = 772
 
 abbrev pub rows-sdp : ℕ
-rows-sdp = 772
+rows-sdp = 773
 
 abbrev pub rows-sds : ℕ
-rows-sds = 773
+rows-sds = 774
 
 abbrev pub rows-sdw : ℕ
-rows-sdw = 774
+rows-sdw = 775
 
 abbrev pub rows-sed : ℕ
-rows-sed = 775
+rows-sed = 776
 
 abbrev pub rows-sereal : ℕ
-rows-sereal = 776
+rows-sereal = 777
 
 abbrev pub rows-sf2 : ℕ
-rows-sf2 = 777
+rows-sf2 = 778
 
 abbrev pub rows-sfd : ℕ
-rows-sfd = 778
+rows-sfd = 779
 
 abbrev pub rows-sgf : ℕ
-rows-sgf = 779
+rows-sgf = 780
 
 abbrev pub rows-sgi : ℕ
-rows-sgi = 780
+rows-sgi = 781
 
 abbrev pub rows-sh : ℕ
-rows-sh = 781
+rows-sh = 782
 
 abbrev pub rows-sh-txt : ℕ
-rows-sh-txt = 782
+rows-sh-txt = 783
 
 abbrev pub rows-shar : ℕ
-rows-shar = 783
+rows-shar = 784
 
 abbrev pub rows-shn : ℕ
-rows-shn = 784
+rows-shn = 785
 
 abbrev pub rows-shp : ℕ
-rows-shp = 785
+rows-shp = 786
 
 abbrev pub rows-shw : ℕ
-rows-shw = 786
+rows-shw = 787
 
 abbrev pub rows-shx : ℕ
-rows-shx = 787
+rows-shx = 788
 
 abbrev pub rows-sid : ℕ
-rows-sid = 788
+rows-sid = 789
 
 abbrev pub rows-sig : ℕ
-rows-sig = 789
+rows-sig = 790
 
 abbrev pub rows-simg : ℕ
-rows-simg = 790
+rows-simg = 791
 
 abbrev pub rows-sis : ℕ
-rows-sis = 791
+rows-sis = 792
 
 abbrev pub rows-sisx : ℕ
-rows-sisx = 792
+rows-sisx = 793
 
 abbrev pub rows-sit : ℕ
-rows-sit = 793
+rows-sit = 794
 
 abbrev pub rows-sk : ℕ
-rows-sk = 794
+rows-sk = 795
 
 abbrev pub rows-sla : ℕ
-rows-sla = 795
+rows-sla = 796
 
 abbrev pub rows-slk : ℕ
-rows-slk = 796
+rows-slk = 797
 
 abbrev pub rows-smil : ℕ
-rows-smil = 797
+rows-smil = 798
 
 abbrev pub rows-smk : ℕ
-rows-smk = 798
+rows-smk = 799
 
 abbrev pub rows-smp : ℕ
-rows-smp = 799
+rows-smp = 800
 
 abbrev pub rows-sms : ℕ
-rows-sms = 800
+rows-sms = 801
 
 abbrev pub rows-snoop : ℕ
-rows-snoop = 801
+rows-snoop = 802
 
 abbrev pub rows-so : ℕ
-rows-so = 802
+rows-so = 803
 
 abbrev pub rows-spc : ℕ
-rows-spc = 803
+rows-spc = 804
 
 abbrev pub rows-spd : ℕ
-rows-spd = 804
+rows-spd = 805
 
 abbrev pub rows-spec : ℕ
-rows-spec = 805
+rows-spec = 806
 
 abbrev pub rows-sph : ℕ
-rows-sph = 806
+rows-sph = 807
 
 abbrev pub rows-spv : ℕ
-rows-spv = 807
+rows-spv = 808
 
 abbrev pub rows-spx : ℕ
-rows-spx = 808
+rows-spx = 809
 
 abbrev pub rows-sqlite : ℕ
-rows-sqlite = 809
+rows-sqlite = 810
 
 abbrev pub rows-sqlite2 : ℕ
-rows-sqlite2 = 810
+rows-sqlite2 = 811
 
 abbrev pub rows-squashfs : ℕ
-rows-squashfs = 811
+rows-squashfs = 812
 
 abbrev pub rows-srpm : ℕ
-rows-srpm = 812
+rows-srpm = 813
 
 abbrev pub rows-srt : ℕ
-rows-srt = 813
+rows-srt = 814
 
 abbrev pub rows-srx : ℕ
-rows-srx = 814
+rows-srx = 815
 
 abbrev pub rows-ssa : ℕ
-rows-ssa = 815
+rows-ssa = 816
 
 abbrev pub rows-ssh1 : ℕ
-rows-ssh1 = 816
+rows-ssh1 = 817
 
 abbrev pub rows-ssh2pub-sshpub : ℕ
-rows-ssh2pub-sshpub = 817
+rows-ssh2pub-sshpub = 818
 
 abbrev pub rows-stex : ℕ
-rows-stex = 818
+rows-stex = 819
 
 abbrev pub rows-stl : ℕ
-rows-stl = 819
+rows-stl = 820
 
 abbrev pub rows-stm : ℕ
-rows-stm = 820
+rows-stm = 821
 
 abbrev pub rows-subviewer : ℕ
-rows-subviewer = 821
+rows-subviewer = 822
 
 abbrev pub rows-svg : ℕ
-rows-svg = 822
+rows-svg = 823
 
 abbrev pub rows-svm : ℕ
-rows-svm = 823
+rows-svm = 824
 
 abbrev pub rows-svndump : ℕ
-rows-svndump = 824
+rows-svndump = 825
 
 abbrev pub rows-swap : ℕ
-rows-swap = 825
+rows-swap = 826
 
 abbrev pub rows-swf : ℕ
-rows-swf = 826
+rows-swf = 827
 
 abbrev pub rows-swf-swfz : ℕ
-rows-swf-swfz = 827
+rows-swf-swfz = 828
 
 abbrev pub rows-sxc : ℕ
-rows-sxc = 828
+rows-sxc = 829
 
 abbrev pub rows-sxd : ℕ
-rows-sxd = 829
+rows-sxd = 830
 
 abbrev pub rows-sxi : ℕ
-rows-sxi = 830
+rows-sxi = 831
 
 abbrev pub rows-sxm : ℕ
-rows-sxm = 831
+rows-sxm = 832
 
 abbrev pub rows-sxw : ℕ
-rows-sxw = 832
+rows-sxw = 833
 
 abbrev pub rows-syzygy : ℕ
-rows-syzygy = 833
+rows-syzygy = 834
 
 abbrev pub rows-sz : ℕ
-rows-sz = 834
+rows-sz = 835
 
 abbrev pub rows-szdd : ℕ
-rows-szdd = 835
+rows-szdd = 836
 
 abbrev pub rows-szx : ℕ
-rows-szx = 836
+rows-szx = 837
 
 abbrev pub rows-t2t : ℕ
-rows-t2t = 837
+rows-t2t = 838
 
 abbrev pub rows-t602 : ℕ
-rows-t602 = 838
+rows-t602 = 839
 
 abbrev pub rows-tar : ℕ
-rows-tar = 839
+rows-tar = 840
 
 abbrev pub rows-tbi : ℕ
-rows-tbi = 840
+rows-tbi = 841
 
 abbrev pub rows-tcb : ℕ
-rows-tcb = 841
+rows-tcb = 842
 
 abbrev pub rows-tcf : ℕ
-rows-tcf = 842
+rows-tcf = 843
 
 abbrev pub rows-tch : ℕ
-rows-tch = 843
+rows-tch = 844
 
 abbrev pub rows-tcl : ℕ
-rows-tcl = 844
+rows-tcl = 845
 
 abbrev pub rows-tct : ℕ
-rows-tct = 845
+rows-tct = 846
 
 abbrev pub rows-tdb : ℕ
-rows-tdb = 846
+rows-tdb = 847
 
 abbrev pub rows-tei : ℕ
-rows-tei = 847
+rows-tei = 848
 
 abbrev pub rows-terminfo : ℕ
-rows-terminfo = 848
+rows-terminfo = 849
 
 abbrev pub rows-tex : ℕ
-rows-tex = 849
+rows-tex = 850
 
 abbrev pub rows-texi : ℕ
-rows-texi = 850
+rows-texi = 851
 
 abbrev pub rows-texlua : ℕ
-rows-texlua = 851
+rows-texlua = 852
 
 abbrev pub rows-tga : ℕ
-rows-tga = 852
+rows-tga = 853
 
 abbrev pub rows-tgif : ℕ
-rows-tgif = 853
+rows-tgif = 854
 
 abbrev pub rows-thomsap : ℕ
-rows-thomsap = 854
+rows-thomsap = 855
 
 abbrev pub rows-tib : ℕ
-rows-tib = 855
+rows-tib = 856
 
 abbrev pub rows-tif : ℕ
-rows-tif = 856
+rows-tif = 857
 
 abbrev pub rows-tnef : ℕ
-rows-tnef = 857
+rows-tnef = 858
 
 abbrev pub rows-toc : ℕ
-rows-toc = 858
+rows-toc = 859
 
 abbrev pub rows-torrent : ℕ
-rows-torrent = 859
+rows-torrent = 860
 
 abbrev pub rows-trd : ℕ
-rows-trd = 860
+rows-trd = 861
 
 abbrev pub rows-tres : ℕ
-rows-tres = 861
+rows-tres = 862
 
 abbrev pub rows-trustdb : ℕ
-rows-trustdb = 862
+rows-trustdb = 863
 
 abbrev pub rows-ts : ℕ
-rows-ts = 863
+rows-ts = 864
 
 abbrev pub rows-tscn : ℕ
-rows-tscn = 864
+rows-tscn = 865
 
 abbrev pub rows-tta : ℕ
-rows-tta = 865
+rows-tta = 866
 
 abbrev pub rows-ttc : ℕ
-rows-ttc = 866
+rows-ttc = 867
 
 abbrev pub rows-ttf : ℕ
-rows-ttf = 867
+rows-ttf = 868
 
 abbrev pub rows-ttl : ℕ
-rows-ttl = 868
+rows-ttl = 869
 
 abbrev pub rows-ttml : ℕ
-rows-ttml = 869
+rows-ttml = 870
 
 abbrev pub rows-ttx : ℕ
-rows-ttx = 870
+rows-ttx = 871
 
 abbrev pub rows-txt : ℕ
-rows-txt = 871
+rows-txt = 872
 
 abbrev pub rows-txt-xml : ℕ
-rows-txt-xml = 872
+rows-txt-xml = 873
 
 abbrev pub rows-txt-yaml : ℕ
-rows-txt-yaml = 873
+rows-txt-yaml = 874
 
 abbrev pub rows-txw : ℕ
-rows-txw = 874
+rows-txw = 875
 
 abbrev pub rows-typelib : ℕ
-rows-typelib = 875
+rows-typelib = 876
 
 abbrev pub rows-tzif : ℕ
-rows-tzif = 876
+rows-tzif = 877
 
 abbrev pub rows-tzx : ℕ
-rows-tzx = 877
+rows-tzx = 878
 
 abbrev pub rows-ubi : ℕ
-rows-ubi = 878
+rows-ubi = 879
 
 abbrev pub rows-ubifs : ℕ
-rows-ubifs = 879
+rows-ubifs = 880
 
 abbrev pub rows-udf : ℕ
-rows-udf = 880
+rows-udf = 881
 
 abbrev pub rows-uf2 : ℕ
-rows-uf2 = 881
+rows-uf2 = 882
 
 abbrev pub rows-ui : ℕ
-rows-ui = 882
+rows-ui = 883
 
 abbrev pub rows-uimage : ℕ
-rows-uimage = 883
+rows-uimage = 884
 
 abbrev pub rows-ult : ℕ
-rows-ult = 884
+rows-ult = 885
 
 abbrev pub rows-ulx : ℕ
-rows-ulx = 885
+rows-ulx = 886
 
 abbrev pub rows-umx : ℕ
-rows-umx = 886
+rows-umx = 887
 
 abbrev pub rows-unit : ℕ
-rows-unit = 887
+rows-unit = 888
 
 abbrev pub rows-ups : ℕ
-rows-ups = 888
+rows-ups = 889
 
 abbrev pub rows-url : ℕ
-rows-url = 889
+rows-url = 890
 
 abbrev pub rows-usda : ℕ
-rows-usda = 890
+rows-usda = 891
 
 abbrev pub rows-usdc : ℕ
-rows-usdc = 891
+rows-usdc = 892
 
 abbrev pub rows-uu : ℕ
-rows-uu = 892
+rows-uu = 893
 
 abbrev pub rows-vcdiff : ℕ
-rows-vcdiff = 893
+rows-vcdiff = 894
 
 abbrev pub rows-vcf : ℕ
-rows-vcf = 894
+rows-vcf = 895
 
 abbrev pub rows-vcfg : ℕ
-rows-vcfg = 895
+rows-vcfg = 896
 
 abbrev pub rows-vdex : ℕ
-rows-vdex = 896
+rows-vdex = 897
 
 abbrev pub rows-vdi : ℕ
-rows-vdi = 897
+rows-vdi = 898
 
 abbrev pub rows-vdr : ℕ
-rows-vdr = 898
+rows-vdr = 899
 
 abbrev pub rows-vgm : ℕ
-rows-vgm = 899
+rows-vgm = 900
 
 abbrev pub rows-vhd : ℕ
-rows-vhd = 900
+rows-vhd = 901
 
 abbrev pub rows-vhdx : ℕ
-rows-vhdx = 901
+rows-vhdx = 902
 
 abbrev pub rows-vips : ℕ
-rows-vips = 902
+rows-vips = 903
 
 abbrev pub rows-vmdk-vmdkcow : ℕ
-rows-vmdk-vmdkcow = 903
+rows-vmdk-vmdkcow = 904
 
 abbrev pub rows-vnt : ℕ
-rows-vnt = 904
+rows-vnt = 905
 
 abbrev pub rows-voc : ℕ
-rows-voc = 905
+rows-voc = 906
 
 abbrev pub rows-vpk : ℕ
-rows-vpk = 906
+rows-vpk = 907
 
 abbrev pub rows-vpnpcf : ℕ
-rows-vpnpcf = 907
+rows-vpnpcf = 908
 
 abbrev pub rows-vsd : ℕ
-rows-vsd = 908
+rows-vsd = 909
 
 abbrev pub rows-vsdx : ℕ
-rows-vsdx = 909
+rows-vsdx = 910
 
 abbrev pub rows-vsdx-zip : ℕ
-rows-vsdx-zip = 910
+rows-vsdx-zip = 911
 
 abbrev pub rows-vtf : ℕ
-rows-vtf = 911
+rows-vtf = 912
 
 abbrev pub rows-vtt : ℕ
-rows-vtt = 912
+rows-vtt = 913
 
 abbrev pub rows-w64 : ℕ
-rows-w64 = 913
+rows-w64 = 914
 
 abbrev pub rows-wad : ℕ
-rows-wad = 914
+rows-wad = 915
 
 abbrev pub rows-warc : ℕ
-rows-warc = 915
+rows-warc = 916
 
 abbrev pub rows-wasm-wasmc : ℕ
-rows-wasm-wasmc = 916
+rows-wasm-wasmc = 917
 
 abbrev pub rows-wav : ℕ
-rows-wav = 917
+rows-wav = 918
 
 abbrev pub rows-wbfs : ℕ
-rows-wbfs = 918
+rows-wbfs = 919
 
 abbrev pub rows-webm : ℕ
-rows-webm = 919
+rows-webm = 920
 
 abbrev pub rows-webp : ℕ
-rows-webp = 920
+rows-webp = 921
 
 abbrev pub rows-wiiwad : ℕ
-rows-wiiwad = 921
+rows-wiiwad = 922
 
 abbrev pub rows-wim : ℕ
-rows-wim = 922
+rows-wim = 923
 
 abbrev pub rows-wk1 : ℕ
-rows-wk1 = 923
+rows-wk1 = 924
 
 abbrev pub rows-wmf : ℕ
-rows-wmf = 924
+rows-wmf = 925
 
 abbrev pub rows-wmv : ℕ
-rows-wmv = 925
+rows-wmv = 926
 
 abbrev pub rows-woff : ℕ
-rows-woff = 926
+rows-woff = 927
 
 abbrev pub rows-woff2 : ℕ
-rows-woff2 = 927
+rows-woff2 = 928
 
 abbrev pub rows-wpd : ℕ
-rows-wpd = 928
+rows-wpd = 929
 
 abbrev pub rows-wpg : ℕ
-rows-wpg = 929
+rows-wpg = 930
 
 abbrev pub rows-wpl : ℕ
-rows-wpl = 930
+rows-wpl = 931
 
 abbrev pub rows-wpm : ℕ
-rows-wpm = 931
+rows-wpm = 932
 
 abbrev pub rows-wps : ℕ
-rows-wps = 932
+rows-wps = 933
 
 abbrev pub rows-wreg : ℕ
-rows-wreg = 933
+rows-wreg = 934
 
 abbrev pub rows-wri : ℕ
-rows-wri = 934
+rows-wri = 935
 
 abbrev pub rows-wrl : ℕ
-rows-wrl = 935
+rows-wrl = 936
 
 abbrev pub rows-wsdl : ℕ
-rows-wsdl = 936
+rows-wsdl = 937
 
 abbrev pub rows-wtv : ℕ
-rows-wtv = 937
+rows-wtv = 938
 
 abbrev pub rows-wv : ℕ
-rows-wv = 938
+rows-wv = 939
 
 abbrev pub rows-wve : ℕ
-rows-wve = 939
+rows-wve = 940
 
 abbrev pub rows-x3d : ℕ
-rows-x3d = 940
+rows-x3d = 941
 
 abbrev pub rows-x3dv : ℕ
-rows-x3dv = 941
+rows-x3dv = 942
 
 abbrev pub rows-x3f : ℕ
-rows-x3f = 942
+rows-x3f = 943
 
 abbrev pub rows-xap : ℕ
-rows-xap = 943
+rows-xap = 944
 
 abbrev pub rows-xar : ℕ
-rows-xar = 944
+rows-xar = 945
 
 abbrev pub rows-xbe : ℕ
-rows-xbe = 945
+rows-xbe = 946
 
 abbrev pub rows-xbel : ℕ
-rows-xbel = 946
+rows-xbel = 947
 
 abbrev pub rows-xbm : ℕ
-rows-xbm = 947
+rows-xbm = 948
 
 abbrev pub rows-xbt : ℕ
-rows-xbt = 948
+rows-xbt = 949
 
 abbrev pub rows-xcf : ℕ
-rows-xcf = 949
+rows-xcf = 950
 
 abbrev pub rows-xex : ℕ
-rows-xex = 950
+rows-xex = 951
 
 abbrev pub rows-xhtml : ℕ
-rows-xhtml = 951
+rows-xhtml = 952
 
 abbrev pub rows-xi : ℕ
-rows-xi = 952
+rows-xi = 953
 
 abbrev pub rows-xib : ℕ
-rows-xib = 953
+rows-xib = 954
 
 abbrev pub rows-xisf : ℕ
-rows-xisf = 954
+rows-xisf = 955
 
 abbrev pub rows-xliff : ℕ
-rows-xliff = 955
+rows-xliff = 956
 
 abbrev pub rows-xls : ℕ
-rows-xls = 956
+rows-xls = 957
 
 abbrev pub rows-xlsb : ℕ
-rows-xlsb = 957
+rows-xlsb = 958
 
 abbrev pub rows-xlsm : ℕ
-rows-xlsm = 958
+rows-xlsm = 959
 
 abbrev pub rows-xlsx : ℕ
-rows-xlsx = 959
+rows-xlsx = 960
 
 abbrev pub rows-xm : ℕ
-rows-xm = 960
+rows-xm = 961
 
 abbrev pub rows-xmcd : ℕ
-rows-xmcd = 961
+rows-xmcd = 962
 
 abbrev pub rows-xmf : ℕ
-rows-xmf = 962
+rows-xmf = 963
 
 abbrev pub rows-xmi : ℕ
-rows-xmi = 963
+rows-xmi = 964
 
 abbrev pub rows-xml : ℕ
-rows-xml = 964
+rows-xml = 965
 
 abbrev pub rows-xmp : ℕ
-rows-xmp = 965
+rows-xmp = 966
 
 abbrev pub rows-xpm : ℕ
-rows-xpm = 966
+rows-xpm = 967
 
 abbrev pub rows-xpm-xpm2 : ℕ
-rows-xpm-xpm2 = 967
+rows-xpm-xpm2 = 968
 
 abbrev pub rows-xsd : ℕ
-rows-xsd = 968
+rows-xsd = 969
 
 abbrev pub rows-xslt : ℕ
-rows-xslt = 969
+rows-xslt = 970
 
 abbrev pub rows-xspf : ℕ
-rows-xspf = 970
+rows-xspf = 971
 
 abbrev pub rows-xwd : ℕ
-rows-xwd = 971
+rows-xwd = 972
 
 abbrev pub rows-xz : ℕ
-rows-xz = 972
+rows-xz = 973
 
 abbrev pub rows-y4m : ℕ
-rows-y4m = 973
+rows-y4m = 974
 
 abbrev pub rows-yaml : ℕ
-rows-yaml = 974
+rows-yaml = 975
 
 abbrev pub rows-zck : ℕ
-rows-zck = 975
+rows-zck = 976
 
 abbrev pub rows-zim : ℕ
-rows-zim = 976
+rows-zim = 977
 
 abbrev pub rows-zimage : ℕ
-rows-zimage = 977
+rows-zimage = 978
 
 abbrev pub rows-zip : ℕ
-rows-zip = 978
+rows-zip = 979
 
 abbrev pub rows-zoo : ℕ
-rows-zoo = 979
+rows-zoo = 980
 
 abbrev pub rows-zpaq : ℕ
-rows-zpaq = 980
+rows-zpaq = 981
 
 abbrev pub rows-zst : ℕ
-rows-zst = 981
+rows-zst = 982
 
 abbrev pub rows-zst-zstold : ℕ
-rows-zst-zstold = 982
+rows-zst-zstold = 983
 
 unfoldable pub lead_lists : List (List (List ℕ))
 lead_lists =
@@ -3801,7 +3804,8 @@ sets_5 =
 
 unfoldable pub sets_6 : List (List (List ℕ))
 sets_6 =
-    (codes "scm" ∷ [])
+    (codes "schema" ∷ [])
+    ∷ (codes "scm" ∷ [])
     ∷ (codes "scsyn" ∷ [])
     ∷ (codes "sdb" ∷ [])
     ∷ (codes "sdi" ∷ [])
@@ -3928,12 +3932,12 @@ sets_6 =
     ∷ (codes "uu" ∷ [])
     ∷ (codes "vcdiff" ∷ [])
     ∷ (codes "vcf" ∷ [])
-    ∷ (codes "vcfg" ∷ [])
     ∷ []
 
 unfoldable pub sets_7 : List (List (List ℕ))
 sets_7 =
-    (codes "vdex" ∷ [])
+    (codes "vcfg" ∷ [])
+    ∷ (codes "vdex" ∷ [])
     ∷ (codes "vdi" ∷ [])
     ∷ (codes "vdr" ∷ [])
     ∷ (codes "vgm" ∷ [])

@@ -4337,7 +4337,7 @@ types_0 =
     ∷ named (codes "application/rtf") (row (codes "rtf"))
     ∷ named (codes "application/sarif+json") known
     ∷ named (codes "application/sbml+xml") (row (codes "sbml"))
-    ∷ named (codes "application/schema+json") known
+    ∷ named (codes "application/schema+json") (row (codes "schema"))
     ∷ named (codes "application/sdp") (row (codes "sdp"))
     ∷ named (codes "application/sereal") (row (codes "sereal"))
     ∷ named (codes "application/smil+xml") (row (codes "smil"))

@@ -802,9 +802,9 @@ fn widens_before_768(i: usize, parent: Option<usize>, buf: &[u8]) -> bool
     }
 }
 
-/// [`widens`] for the rows before 930.
+/// [`widens`] for the rows before 931.
 #[inline(always)]
-fn widens_before_930(i: usize, parent: Option<usize>, buf: &[u8]) -> bool
+fn widens_before_931(i: usize, parent: Option<usize>, buf: &[u8]) -> bool
     ensures { IsTrue result ↔ WidensAt parent buf.now i }
 {
     match i {
@@ -970,6 +970,7 @@ fn widens_before_930(i: usize, parent: Option<usize>, buf: &[u8]) -> bool
         927 => widens_row::<927>(parent, buf),
         928 => widens_row::<928>(parent, buf),
         929 => widens_row::<929>(parent, buf),
+        930 => widens_row::<930>(parent, buf),
         _ => widens_any(i, parent, buf),
     }
 }
@@ -989,7 +990,7 @@ pub(crate) fn widens(i: usize, parent: Option<usize>, buf: &[u8]) -> bool
         if i < 768 {
             widens_before_768(i, parent, buf)
         } else {
-            widens_before_930(i, parent, buf)
+            widens_before_931(i, parent, buf)
         }
     }
 }

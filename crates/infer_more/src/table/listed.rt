@@ -488,7 +488,7 @@ fn rows_from_120() -> &'static [FurtherRow]
 static ROWS_FROM_124: &[FurtherRow] = rows![
     Archive "application/x-lzh-compressed" "lzh": => [7, At(2, b"-lh"), Between(5, 0x30, 0x37), is!(6, b'-')] [7, At(2, b"-lh"), OneOf(5, b"dx"), is!(6, b'-')] [7, At(2, b"-lz"), OneOf(5, b"45s"), is!(6, b'-')] [7, At(2, b"-pm"), Between(5, 0x30, 0x32), is!(6, b'-')];
     Video "video/3gpp" "3gp": => [11, At(4, b"ftyp3g"), OneOf(10, b"egprs")];
-    Video "video/3gpp2" "3g2": => [11, At(4, b"ftyp3g2")];
+    Video "video/3gpp2" "3g2": => [11, At(4, b"ftyp3g2")] [12, At(4, b"ftypKDDI")];
     Video "video/x-f4v" "f4v": => [12, At(4, b"ftypf4v ")];
 ];
 
@@ -504,7 +504,7 @@ static ROWS_FROM_128: &[FurtherRow] = rows![
     Audio "audio/x-m4b" "m4b": => [11, At(4, b"ftypM4B")];
     Image "image/x-canon-cr3" "cr3": => [12, At(4, b"ftypcrx ")];
     Image "image/heic-sequence" "heics": => [12, At(4, b"ftyphev"), OneOf(11, b"cx")];
-    Image "image/heif" "heif": => [12, At(4, b"ftypmif1")];
+    Image "image/heif" "heif": => [12, At(4, b"ftypmif1")] [12, At(4, b"ftyphei"), OneOf(11, b"ms")] [12, At(4, b"ftypavci")];
 ];
 
 #[inline(always)]
@@ -3233,8 +3233,8 @@ fn rows_from_852() -> &'static [FurtherRow]
 static ROWS_FROM_856: &[FurtherRow] = rows![
     Text "application/vnd.cyclonedx+json" "cdx": => [FirstKey(b"bomFormat")];
     Image "model/gltf+json" "gltf": => [FirstKey(b"asset")];
+    Text "application/schema+json" "schema": => [FirstKeyWith(b"$schema", b"https://json-schema.org/draft/2020-12/schema")] [FirstKeyWith(b"$schema", b"https://json-schema.org/draft/2019-09/schema")] [FirstKeyWith(b"$schema", b"http://json-schema.org/draft-07/schema#")] [FirstKeyWith(b"$schema", b"http://json-schema.org/draft-06/schema#")] [FirstKeyWith(b"$schema", b"http://json-schema.org/draft-04/schema#")] [FirstKeyWith(b"$schema", b"http://json-schema.org/draft-03/schema#")] [FirstKeyWith(b"$schema", b"http://json-schema.org/schema#")];
     App "application/x-gnupg-private-key" "gpgsec": => [TextFirst(b"(21:protected-private-key")] [TextFirst(b"(11:private-key")] [TextFirstWith(b"Created: ", b"\nKey: (")] [TextFirst(b"Key: (")] [TextFirst(b"(20:shadowed-private-key")];
-    Text "application/x-age-key" "agekey": => [TextFirst(b"AGE-SECRET-KEY-1")] [TextFirstWith(b"# created: ", b"\nAGE-SECRET-KEY-1")];
 ];
 
 #[inline(always)]
@@ -3246,10 +3246,10 @@ fn rows_from_856() -> &'static [FurtherRow]
 }
 
 static ROWS_FROM_860: &[FurtherRow] = rows![
+    Text "application/x-age-key" "agekey": => [TextFirst(b"AGE-SECRET-KEY-1")] [TextFirstWith(b"# created: ", b"\nAGE-SECRET-KEY-1")];
     Image "model/obj" "obj": => [TextFirstWith(b"mtllib ", b"\nv ")] [TextFirstWithAll(b"#", b"\nmtllib ", b"\nv ", b"")] [TextFirstWithAll(b"#", b"\nv ", b"\nvn ", b"\nf ")];
     Image "model/mtl" "mtl": => [TextFirst(b"newmtl ")] [TextFirstWith(b"#", b"\nnewmtl ")];
     Image "image/x-pict" "pict": => [528, At(522, b"\0\x11\x02\xFF\x0C\0")];
-    Image "image/x-mrc" "mrc": => [214, At(208, b"MAP "), OneOf(212, b"\x11D"), OneOf(213, b"\x11AD")];
 ];
 
 #[inline(always)]
@@ -3261,10 +3261,10 @@ fn rows_from_860() -> &'static [FurtherRow]
 }
 
 static ROWS_FROM_864: &[FurtherRow] = rows![
+    Image "image/x-mrc" "mrc": => [214, At(208, b"MAP "), OneOf(212, b"\x11D"), OneOf(213, b"\x11AD")];
     Audio "audio/x-s3m" "s3m": => [48, At(28, b"\x1A\x10"), At(44, b"SCRM")];
     Audio "audio/x-mod" "mod": => [1084, At(1080, b"M.K.")] [1084, At(1080, b"M!K!")] [1084, At(1080, b"FLT"), OneOf(1083, b"48")] [1084, OneOf(1080, b"468"), At(1081, b"CHN")] [1084, At(1080, b"CD81")] [1084, At(1080, b"OKTA")] [1084, At(1080, b"16CN")] [1084, At(1080, b"32CN")];
     Audio "audio/x-stm" "stm": => [30, At(20, b"!Scream!\x1A"), Between(29, 0x01, 0x02)] [30, At(20, b"!SCREAM!\x1A"), Between(29, 0x01, 0x02)] [30, At(20, b"BMOD2STM\x1A"), Between(29, 0x01, 0x02)];
-    Audio "audio/x-ptm" "ptm": => [48, is!(28, 0x1A), At(44, b"PTMF")];
 ];
 
 #[inline(always)]
@@ -3276,10 +3276,10 @@ fn rows_from_864() -> &'static [FurtherRow]
 }
 
 static ROWS_FROM_868: &[FurtherRow] = rows![
+    Audio "audio/x-ptm" "ptm": => [48, is!(28, 0x1A), At(44, b"PTMF")];
     Audio "audio/vnd.dolby.mlp" "mlp": => [8, At(4, b"\xF8ro"), OneOf(7, b"\xBA\xBB")];
     Audio "audio/vnd.audible" "aa": => [8, At(4, b"W\x90u6")];
     Archive "application/x-iso9660-image" "iso": => [32774, At(32769, b"CD001")];
-    Archive "application/x-udf-image" "udf": => [32774, At(32769, b"BEA01")];
 ];
 
 #[inline(always)]
@@ -3291,10 +3291,10 @@ fn rows_from_868() -> &'static [FurtherRow]
 }
 
 static ROWS_FROM_872: &[FurtherRow] = rows![
+    Archive "application/x-udf-image" "udf": => [32774, At(32769, b"BEA01")];
     Archive "application/x-jfs-filesystem" "jfs": => [32773, At(32768, b"JFS1\x01")] [32773, At(32768, b"JFS1\x02")];
     Archive "application/x-swap" "swap": => [4096, At(4086, b"SWAPSPACE2")];
     Archive "application/x-bcachefs" "bcachefs": => [4136, At(4120, b"\xC6\x85s\xF6N\x1AE\xCA\x82e\xF5\x7FH\xBAm\x81")];
-    Archive "application/x-md-raid" "mdraid": => [4104, At(4096, b"\xFCN+\xA9\x01\0\0\0")];
 ];
 
 #[inline(always)]
@@ -3306,10 +3306,10 @@ fn rows_from_872() -> &'static [FurtherRow]
 }
 
 static ROWS_FROM_876: &[FurtherRow] = rows![
+    Archive "application/x-md-raid" "mdraid": => [4104, At(4096, b"\xFCN+\xA9\x01\0\0\0")];
     Image "image/x-photo-cd" "pcdimg": => [2055, At(2048, b"PCD_IPI")];
     Video "video/x-flic" "fli": => [16, OneOf(4, b"\x11\x12"), is!(5, 0xAF), At(12, b"\x08\0"), is!(15, 0x00)];
     Audio "audio/vnd.audible.aax" "aax": => [12, At(4, b"ftypaax ")];
-    Audio "audio/mp4" "f4a": => [12, At(4, b"ftypF4A ")] [12, At(4, b"ftypF4B ")] [12, At(4, b"ftypM4P ")];
 ];
 
 #[inline(always)]
@@ -3321,10 +3321,10 @@ fn rows_from_876() -> &'static [FurtherRow]
 }
 
 static ROWS_FROM_880: &[FurtherRow] = rows![
+    Audio "audio/mp4" "f4a": => [12, At(4, b"ftypF4A ")] [12, At(4, b"ftypF4B ")] [12, At(4, b"ftypM4P ")];
     Video "video/vnd.dvb.file" "dvb": => [12, At(4, b"ftypdvr1")] [12, At(4, b"ftypdvt1")];
     Video "video/quicktime" "mqv": => [12, At(4, b"ftypmqt ")];
     Video "video/mp4" "mp4": => [12, At(4, b"ftypiso"), Between(11, 0x37, 0x39)] [12, At(4, b"ftypisml")];
-    Image "image/heif-sequence" "heifs": => [12, At(4, b"ftypmsf1")] [12, At(4, b"ftyphevm")] [12, At(4, b"ftyphevs")];
 ];
 
 #[inline(always)]
@@ -3336,10 +3336,10 @@ fn rows_from_880() -> &'static [FurtherRow]
 }
 
 static ROWS_FROM_884: &[FurtherRow] = rows![
+    Image "image/heif-sequence" "heifs": => [12, At(4, b"ftypmsf1")] [12, At(4, b"ftyphevm")] [12, At(4, b"ftyphevs")];
     Archive "application/x-ace-compressed" "ace": => [14, At(7, b"**ACE**")];
     App "application/vnd.symbian.install" "sis": => [12, At(8, b"\x19\x04\0\x10")];
     Archive "application/x-f2fs-filesystem" "f2fs": => [1028, At(1024, b"\x10 \xF5\xF2")];
-    Archive "application/x-ntfs-filesystem" "ntfs": => [512, At(3, b"NTFS    "), At(510, b"U\xAA")];
 ];
 
 #[inline(always)]
@@ -3351,10 +3351,10 @@ fn rows_from_884() -> &'static [FurtherRow]
 }
 
 static ROWS_FROM_888: &[FurtherRow] = rows![
+    Archive "application/x-ntfs-filesystem" "ntfs": => [512, At(3, b"NTFS    "), At(510, b"U\xAA")];
     Archive "application/x-exfat-filesystem" "exfat": => [512, At(3, b"EXFAT   \0\0\0\0\0"), At(510, b"U\xAA")];
     Archive "application/x-gpt-disk" "gpt": => [520, At(510, b"U\xAAEFI PART")];
     Archive "application/x-hfsplus-filesystem" "hfsplus": => [1028, At(1024, b"H+\0\x04")] [1028, At(1024, b"HX\0\x05")];
-    Archive "application/x-apfs-filesystem" "apfs": => [36, At(8, b"\x01\0\0\0"), At(32, b"NXSB")];
 ];
 
 #[inline(always)]
@@ -3366,10 +3366,10 @@ fn rows_from_888() -> &'static [FurtherRow]
 }
 
 static ROWS_FROM_892: &[FurtherRow] = rows![
+    Archive "application/x-apfs-filesystem" "apfs": => [36, At(8, b"\x01\0\0\0"), At(32, b"NXSB")];
     Archive "application/x-lvm2" "lvm": => [544, At(512, b"LABELONE"), At(536, b"LVM2 001")];
     Archive "application/x-erofs" "erofs": => [1028, At(1024, b"\xE2\xE1\xF5\xE0")];
     App "application/x-linux-kernel" "zimage": => [40, At(36, b"\x18(o\x01")] [40, At(36, b"\x01o(\x18")];
-    App "application/x-linux-kernel" "bzimage": => [518, At(510, b"U\xAA"), At(514, b"HdrS")];
 ];
 
 #[inline(always)]
@@ -3381,10 +3381,10 @@ fn rows_from_892() -> &'static [FurtherRow]
 }
 
 static ROWS_FROM_896: &[FurtherRow] = rows![
+    App "application/x-linux-kernel" "bzimage": => [518, At(510, b"U\xAA"), At(514, b"HdrS")];
     Archive "application/x-wii-rom" "wbfs": => [5, At(0, b"WBFS\0")] [28, At(24, b"]\x1C\x9E\xA3")];
     Archive "application/x-thomson-sap-image" "thomsap": => [27, At(1, b"SYSTEME D'ARCHIVAGE PUKALL")];
     Archive "application/x-zip" "omni": => [8, At(4, b"PK\x01\x02")];
-    App "application/x-icu-data" "icures": => [16, At(2, b"\xDA'"), At(12, b"ResB")] [16, At(2, b"\xDA'"), At(12, b"CvAl")] [16, At(2, b"\xDA'"), At(12, b"cnvt")] [16, At(2, b"\xDA'"), At(12, b"CmnD")] [16, At(2, b"\xDA'"), At(12, b"Brk ")];
 ];
 
 #[inline(always)]
@@ -3396,10 +3396,10 @@ fn rows_from_896() -> &'static [FurtherRow]
 }
 
 static ROWS_FROM_900: &[FurtherRow] = rows![
+    App "application/x-icu-data" "icures": => [16, At(2, b"\xDA'"), At(12, b"ResB")] [16, At(2, b"\xDA'"), At(12, b"CvAl")] [16, At(2, b"\xDA'"), At(12, b"cnvt")] [16, At(2, b"\xDA'"), At(12, b"CmnD")] [16, At(2, b"\xDA'"), At(12, b"Brk ")];
     Audio "audio/x-iriver-pla" "pla": => [18, At(4, b"iriver UMS PLA")];
     App "application/x-lmdb" "lmdb": => [24, At(16, b"\xDE\xC0\xEF\xBE\x01\0\0\0")];
     App "application/x-ms-sdb" "sdb": => [14, At(8, b"sdbf\x02x")];
-    App "application/x-spss-por" "por": => [60, At(40, b"ASCII SPSS PORT FILE")];
 ];
 
 #[inline(always)]
@@ -3411,10 +3411,10 @@ fn rows_from_900() -> &'static [FurtherRow]
 }
 
 static ROWS_FROM_904: &[FurtherRow] = rows![
+    App "application/x-spss-por" "por": => [60, At(40, b"ASCII SPSS PORT FILE")];
     Book "application/x-aportisdoc" "aportis": => [68, At(60, b"TEXtREAd")] [68, At(60, b"TEXtTlDc")];
     Book "application/prs.plucker" "plucker": => [68, At(60, b"DataPlkr")];
     App "application/x-gnupg-keybox" "kbx": => [12, is!(4, 0x01), At(8, b"KBXf")];
-    App "application/x-gameboy-rom" "gb": => [324, At(260, b"\xCE\xEDff\xCC\r\0\x0B"), Between(323, 0x00, 0x7F)];
 ];
 
 #[inline(always)]
@@ -3426,10 +3426,10 @@ fn rows_from_904() -> &'static [FurtherRow]
 }
 
 static ROWS_FROM_908: &[FurtherRow] = rows![
+    App "application/x-gameboy-rom" "gb": => [324, At(260, b"\xCE\xEDff\xCC\r\0\x0B"), Between(323, 0x00, 0x7F)];
     App "application/x-gameboy-color-rom" "gbc": => [324, At(260, b"\xCE\xEDff\xCC\r\0\x0B"), Between(323, 0x80, 0xFF)];
     App "application/x-gba-rom" "gba": => [12, At(4, b"$\xFF\xAEQi\x9A\xA2!")];
     App "application/x-nintendo-ds-rom" "nds": => [200, At(192, b"$\xFF\xAEQi\x9A\xA2!")];
-    App "application/x-sega-cd-rom" "segacd": => [14, At(0, b"SEGADISCSYSTEM")] [30, At(16, b"SEGADISCSYSTEM")];
 ];
 
 #[inline(always)]
@@ -3441,10 +3441,10 @@ fn rows_from_908() -> &'static [FurtherRow]
 }
 
 static ROWS_FROM_912: &[FurtherRow] = rows![
+    App "application/x-sega-cd-rom" "segacd": => [14, At(0, b"SEGADISCSYSTEM")] [30, At(16, b"SEGADISCSYSTEM")];
     App "application/x-genesis-rom" "md": => [271, At(256, b"SEGA"), OneOf(260, b" _"), At(261, b"MEGA"), OneOf(265, b" _"), At(266, b"DRIVE")] [268, At(256, b"SEGA GENESIS")] [644, At(640, b"EAGN")] [644, At(640, b"EAMG")];
     App "application/x-genesis-32x-rom" "32x": => [264, At(256, b"SEGA 32X")];
     App "application/x-sega-pico-rom" "pico": => [265, At(256, b"SEGA PICO")];
-    App "application/x-saturn-rom" "saturn": => [16, At(0, b"SEGA SEGASATURN ")] [32, At(16, b"SEGA SEGASATURN ")];
 ];
 
 #[inline(always)]
@@ -3456,10 +3456,10 @@ fn rows_from_912() -> &'static [FurtherRow]
 }
 
 static ROWS_FROM_916: &[FurtherRow] = rows![
+    App "application/x-saturn-rom" "saturn": => [16, At(0, b"SEGA SEGASATURN ")] [32, At(16, b"SEGA SEGASATURN ")];
     App "application/x-dc-rom" "dc": => [16, At(0, b"SEGA SEGAKATANA ")] [32, At(16, b"SEGA SEGAKATANA ")];
     App "application/x-sms-rom" "sms": => [32768, At(32752, b"TMR SEGA"), Between(32767, 0x30, 0x4F)];
     App "application/x-gamegear-rom" "gg": => [32768, At(32752, b"TMR SEGA"), Between(32767, 0x50, 0x7F)];
-    App "application/x-neo-geo-pocket-rom" "ngp": => [36, At(10, b"BY SNK CORPORATION"), is!(35, 0x00)];
 ];
 
 #[inline(always)]
@@ -3471,10 +3471,10 @@ fn rows_from_916() -> &'static [FurtherRow]
 }
 
 static ROWS_FROM_920: &[FurtherRow] = rows![
+    App "application/x-neo-geo-pocket-rom" "ngp": => [36, At(10, b"BY SNK CORPORATION"), is!(35, 0x00)];
     App "application/x-neo-geo-pocket-color-rom" "ngc": => [36, At(10, b"BY SNK CORPORATION"), is!(35, 0x10)];
     App "application/x-gamecube-rom" "gcm": => [32, At(28, b"\xC23\x9F=")];
     App "application/x-nintendo-3ds-rom" "cci": => [260, At(256, b"NCSD")];
-    App "application/x-nintendo-ncch" "ncch": => [260, At(256, b"NCCH")];
 ];
 
 #[inline(always)]
@@ -3486,10 +3486,10 @@ fn rows_from_920() -> &'static [FurtherRow]
 }
 
 static ROWS_FROM_924: &[FurtherRow] = rows![
+    App "application/x-nintendo-ncch" "ncch": => [260, At(256, b"NCCH")];
     Image "image/x-tga" "tga": => [18, is!(1, 0x00), OneOf(2, b"\x02\x03\n\x0B"), At(3, b"\0\0\0\0\0"), Between(13, 0x00, 0x1F), Between(15, 0x00, 0x1F), OneOf(16, b"\x08\x10\x18 "), OneOf(17, b"\0\x08 (")] [18, is!(1, 0x01), OneOf(2, b"\x01\t"), At(3, b"\0\0"), Between(6, 0x00, 0x01), OneOf(7, b"\x0F\x10\x18 "), Between(13, 0x00, 0x1F), Between(15, 0x00, 0x1F), is!(16, 0x08), OneOf(17, b"\0 ")];
     Image "model/iges" "igs": => [80, At(72, b"S      1")] [80, At(72, b"S0000001")];
     Text "application/x-ebu-stl" "stlsub": => [11, At(3, b"STL"), Between(6, 0x30, 0x39), Between(7, 0x30, 0x39), At(8, b".01")];
-    Text "application/x-ndjson" "ndjson": => [JsonLines];
 ];
 
 #[inline(always)]
@@ -3501,6 +3501,7 @@ fn rows_from_924() -> &'static [FurtherRow]
 }
 
 static ROWS_FROM_928: &[FurtherRow] = rows![
+    Text "application/x-ndjson" "ndjson": => [JsonLines];
     Text "application/json" "json": => [JsonText];
     Text "text/plain" "txt": => [PlainText];
 ];

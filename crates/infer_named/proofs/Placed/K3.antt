@@ -11,15 +11,15 @@ use Rattle.infer_named.specs.Slots.{starts}
 use Rattle.infer_named.specs.Types.{types, types_0, types_1, types_2, types_3, types_4, types_5}
 use Rattle.infer_named.specs.declared.table.generated.keys.TheConstants.{KEYS}
 
-pub listed : map key_listed (take 309 (drop 878 KEYS)) ≡ keys
+pub listed : map key_listed (take 310 (drop 878 KEYS)) ≡ keys
 unfolding keys key_texts readings
 listed = refl
 
-pub many : length keys ≡ 309
+pub many : length keys ≡ 310
 unfolding keys
 many = refl
 
-pub right : wrong_from starts 1187 878 keys ≡ []
+pub right : wrong_from starts 1188 878 keys ≡ []
 unfolding keys starts types types_0 types_1 types_2 types_3 types_4 types_5 lead_lists sets sets_0 sets_1 sets_2 sets_3 sets_4 sets_5 sets_6 sets_7
 right = refl
 

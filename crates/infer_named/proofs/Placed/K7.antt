@@ -11,7 +11,7 @@ use Rattle.infer_named.specs.Slots.{starts}
 use Rattle.infer_named.specs.Types.{types, types_0, types_1, types_2, types_3, types_4, types_5}
 use Rattle.infer_named.specs.declared.table.generated.keys.TheConstants.{KEYS}
 
-pub listed : map key_listed (take 273 (drop 2047 KEYS)) ≡ keys
+pub listed : map key_listed (take 273 (drop 2048 KEYS)) ≡ keys
 unfolding keys key_texts readings
 listed = refl
 
@@ -19,7 +19,7 @@ pub many : length keys ≡ 273
 unfolding keys
 many = refl
 
-pub right : wrong_from starts 2320 2047 keys ≡ []
+pub right : wrong_from starts 2321 2048 keys ≡ []
 unfolding keys starts types types_0 types_1 types_2 types_3 types_4 types_5 lead_lists sets sets_0 sets_1 sets_2 sets_3 sets_4 sets_5 sets_6 sets_7
 right = refl
 

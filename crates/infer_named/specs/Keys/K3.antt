@@ -2,8 +2,8 @@
 use Rattle.std.specs.Prelude.{List, [], ◌∷◌, codes, false, true}
 use Rattle.infer_named.specs.Key.{Key, key}
 use Rattle.infer_named.specs.Listed.{reading}
-use Rattle.infer_named.specs.Sets.{any-lead, leads-10, leads-2, no-rows, rows-3dmodel-abw-amf-atom-aup-busconfig-catmeta-cml-dae-dbk-dbusintro-dia-diashape-fb2-fodg-fodp-fods-fodt-fontconfig-glade-gml-gnucash-gnumeric-gpx-gresource-gschema-gtkbuilder-jnlp-kml-ldml-lingts-meta4-metainfo-metalink-mimeinfo-mml-mpd-msbuild-mscx-musicxml-ncx-nzb-opf-opml-osm-owx-pkgmeta-plist-pom-rdf-rng-rss-sbml-sch-sitemap-sla-smil-srx-svg-tei-ttml-ttx-ui-wordml-wsdl-x3d-xbel-xhtml-xib-xkbrules-xliff-xmi-xmp-xsd-xslt-xspf, rows-3ds, rows-3gp, rows-aac, rows-aes, rows-afm, rows-ag, rows-application-x-msi, rows-application-x-ole-storage, rows-application-x-ole-storage-pptm-pptx-zip, rows-application-x-ole-storage-pptx-zip, rows-ar, rows-asc, rows-asx, rows-aup3-fossil-gpkg-mbtiles-mtn, rows-awb, rows-awk, rows-bai, rows-bc, rows-bdf, rows-bdfb, rows-bookmarks, rows-bsdiff, rows-bz2, rows-bzimage, rows-caf, rows-cci, rows-ccmx, rows-cdr, rows-cmap-eps-pfa-t2t, rows-cmi, rows-cmx, rows-cmxr, rows-cpt, rows-crw, rows-crx, rows-csr-p10, rows-cubin, rows-dart, rows-dbk, rows-deb-goa, rows-der-pem-txt, rows-djvm, rows-djvu, rows-docx-application-x-ole-storage-zip, rows-dwg, rows-eet, rows-elf, rows-elf-so, rows-eot, rows-escript, rows-exe, rows-exe-dll-efi-lx-ne-sys, rows-f4v, rows-fig, rows-fish, rows-fm, rows-fodg, rows-gb-gbc, rows-gba, rows-gem, rows-gjs-js, rows-glb, rows-gnd, rows-goobj, rows-gpg-gpgold, rows-gpkg, rows-gz-zip, rows-html, rows-html-json-php-svg-txt-xhtml-xml, rows-html-sh-svg-txt-xhtml-xml, rows-html-txt, rows-html-txt-xhtml-xml, rows-html-txt-xml, rows-icc, rows-icures, rows-ifo, rows-ilbm, rows-info, rows-jar-zip, rows-jffs2, rows-jks, rows-jmod, rows-json, rows-json-sh-txt, rows-jxr, rows-kml, rows-kmz, rows-kon, rows-kra, rows-kwaj, rows-las, rows-lingts, rows-lmdb, rows-locarch, rows-lua, rows-lua-sh-txt, rows-luks, rows-ly, rows-lzfse, rows-lzma, rows-m, rows-m3u8, rows-m4, rows-mach, rows-mbox, rows-metalink, rows-mk, rows-mkv, rows-ml, rows-model-step, rows-mol2, rows-mov, rows-mp4, rows-mpc, rows-mpg, rows-mpp, rows-mpq, rows-ms3d, rows-msbuild, rows-mup, rows-myi, rows-n64, rows-nes, rows-o, rows-obj, rows-odf, rows-odg, rows-odm-ott, rows-odp-zip, rows-odt, rows-opml, rows-otp, rows-paf, rows-pat, rows-pcapng, rows-pch, rows-pem, rows-pgn, rows-pgp-pgpmsg, rows-pgpsig-sig, rows-php, rows-php-svg-txt-xhtml-xml, rows-pic, rows-pjl, rows-pkgstream, rows-pla, rows-plist-txt-xml, rows-pom, rows-ppf, rows-ppt, rows-pptm, rows-ppu, rows-ps, rows-ps-sh-txt, rows-ps-txt, rows-ps1, rows-psd, rows-psf1-psf2, rows-ptm, rows-puml, rows-py, rows-qcow2, rows-qgz, rows-qoi, rows-qti, rows-r, rows-raku, rows-rb, rows-res, rows-roff, rows-root, rows-rpm, rows-rtf, rows-s3m, rows-scm, rows-sf2, rows-sh, rows-sh-txt, rows-shn, rows-sid, rows-sk, rows-snoop, rows-sqlite, rows-squashfs, rows-srpm, rows-sxi, rows-sxw, rows-sz, rows-szdd, rows-tar, rows-tex, rows-texlua, rows-tga, rows-ts, rows-txt, rows-txt-xml, rows-unit, rows-ups, rows-usda, rows-vhd, rows-vmdk-vmdkcow, rows-w64, rows-wmv, rows-woff2, rows-wpl, rows-xisf, rows-xliff, rows-xls, rows-xml, rows-zim, rows-zip, rows-zst, text-rows}
-use Rattle.infer_named.specs.Types.{is-application-dita-xml, is-application-font-woff-as-row-woff2, is-application-geopackage-sqlite3, is-application-gnunet-directory, is-application-json, is-application-mbox, is-application-metalink-xml, is-application-octet-stream, is-application-pgp-encrypted, is-application-pgp-keys-as-row-asc, is-application-pgp-keys-as-row-gpg, is-application-pgp-signature, is-application-pkcs10, is-application-postscript, is-application-rtf, is-application-sourcemap-json, is-application-vnd-adobe-xfdf, is-application-vnd-apple-mpegurl, is-application-vnd-chess-pgn, is-application-vnd-corel-draw, is-application-vnd-framemaker, is-application-vnd-garmin-tcx-xml, is-application-vnd-geogebra-file, is-application-vnd-google-earth-kml-xml, is-application-vnd-google-earth-kmz, is-application-vnd-hp-pjl, is-application-vnd-iccprofile, is-application-vnd-las, is-application-vnd-lotus-1-2-3-as-known, is-application-vnd-microsoft-portable-executable, is-application-vnd-ms-excel, is-application-vnd-ms-powerpoint, is-application-vnd-ms-powerpoint-presentation-macroenabled-12, is-application-vnd-ms-powerpoint-template-macroenabled-12, is-application-vnd-ms-project, is-application-vnd-ms-wpl, is-application-vnd-oasis-opendocument-formula, is-application-vnd-oasis-opendocument-graphics, is-application-vnd-oasis-opendocument-graphics-flat-xml, is-application-vnd-oasis-opendocument-presentation-template, is-application-vnd-oasis-opendocument-text, is-application-vnd-openxmlformats-officedocument-wordprocessingml-template, is-application-vnd-sqlite3, is-application-vnd-squashfs, is-application-vnd-sun-xml-impress, is-application-vnd-sun-xml-writer, is-application-x-aes-encrypted, is-application-x-ant-xml, is-application-x-arb-json, is-application-x-bai, is-application-x-bdf, is-application-x-bsdiff, is-application-x-bzip2, is-application-x-ccmx, is-application-x-cern-root, is-application-x-clang-pch, is-application-x-cmi, is-application-x-com-executable, is-application-x-cubin, is-application-x-docbook-xml, is-application-x-eet, is-application-x-entitlements, is-application-x-executable-as-row-obj, is-application-x-fishscript, is-application-x-font-afm, is-application-x-font-bdf, is-application-x-font-linux-psf, is-application-x-gameboy-rom, is-application-x-gba-rom-as-row-gba, is-application-x-gds, is-application-x-gdscript, is-application-x-gir-xml, is-application-x-glibc-locale-archive, is-application-x-go-object, is-application-x-google-chrome-extension, is-application-x-har-json, is-application-x-haskell-interface, is-application-x-icu-data, is-application-x-intellij-xml, is-application-x-ios-app, is-application-x-java-jmod, is-application-x-java-keystore, is-application-x-jffs2, is-application-x-jsonc, is-application-x-jsp, is-application-x-kontour, is-application-x-krita, is-application-x-leveldb-table, is-application-x-linux-kernel-as-row-bzimage, is-application-x-llvm, is-application-x-lmdb, is-application-x-locale-archive, is-application-x-luks, is-application-x-lzfse, is-application-x-lzma-compressed-tar, is-application-x-m4, is-application-x-mach-binary, is-application-x-mimecache, is-application-x-mpq, is-application-x-ms-compress-kwaj, is-application-x-ms-compress-szdd, is-application-x-ms-resource, is-application-x-msbuild-xml, is-application-x-msi, is-application-x-mysql-myisam, is-application-x-n64-rom, is-application-x-nintendo-3ds-rom, is-application-x-nintendo-nes-rom, is-application-x-object, is-application-x-ocaml-cmi, is-application-x-ocaml-cmx, is-application-x-openzim, is-application-x-pascal-unit, is-application-x-pcapng, is-application-x-powershell, is-application-x-ppf-patch, is-application-x-pytorch, is-application-x-qemu-disk, is-application-x-qgis-project-as-row-qgz, is-application-x-qtiplot, is-application-x-ruby-gem, is-application-x-shorten, is-application-x-snappy-framed, is-application-x-snoop, is-application-x-source-rpm, is-application-x-storyboard-xml, is-application-x-svr4-package, is-application-x-swiftmodule, is-application-x-tflite, is-application-x-thumbs-db, is-application-x-tmx-xml, is-application-x-unix-archive, is-application-x-ups-patch, is-application-x-vhd-disk, is-application-x-vim-swap, is-application-x-vmdk-disk, is-application-x-wix-xml, is-application-x-xpinstall, is-application-x-zstd-compressed-tar, is-application-xaml-xml, is-application-xliff-xml, is-application-xquery, is-audio-aac, is-audio-amr-wb, is-audio-prs-sid, is-audio-x-caf, is-audio-x-iriver-pla, is-audio-x-ms-asx, is-audio-x-ms-wma, is-audio-x-musepack, is-audio-x-paf, is-audio-x-ptm, is-audio-x-s3m, is-audio-x-sfbk, is-audio-x-w64, is-chemical-x-mol2, is-image-vnd-adobe-photoshop, is-image-vnd-djvu, is-image-vnd-dwg, is-image-vnd-ms-photo, is-image-x-3ds, is-image-x-applix-graphics, is-image-x-canon-crw, is-image-x-cmx, is-image-x-corel-cpt, is-image-x-gimp-pat, is-image-x-ilbm, is-image-x-pic, is-image-x-qoi, is-image-x-skencil, is-image-x-tga-as-row-tga, is-image-x-xfig, is-image-x-xisf, is-model-gltf-binary, is-model-step, is-model-vnd-usda, is-model-x-milkshape, is-text-html, is-text-javascript, is-text-plain, is-text-troff, is-text-vnd-trolltech-linguist, is-text-x-asn1, is-text-x-asymptote, is-text-x-awk, is-text-x-bluespec, is-text-x-boo, is-text-x-c-src, is-text-x-checksums, is-text-x-cmake, is-text-x-cocci, is-text-x-csound, is-text-x-cuda, is-text-x-cython, is-text-x-d2, is-text-x-dart, is-text-x-dune, is-text-x-ebnf, is-text-x-eex, is-text-x-ejs, is-text-x-erlang, is-text-x-expect, is-text-x-flatbuffers, is-text-x-fortran, is-text-x-fsharp, is-text-x-genie, is-text-x-gerber, is-text-x-gleam, is-text-x-glsl, is-text-x-gomod, is-text-x-hlsl, is-text-x-hy, is-text-x-idl, is-text-x-info, is-text-x-ini, is-text-x-isabelle, is-text-x-krl, is-text-x-lex, is-text-x-lfe, is-text-x-lilypond, is-text-x-logtalk, is-text-x-lua, is-text-x-luatex, is-text-x-makefile, is-text-x-maven-xml, is-text-x-mermaid, is-text-x-meson, is-text-x-metafont, is-text-x-modula, is-text-x-mup, is-text-x-nginx-conf, is-text-x-nix, is-text-x-ocaml, is-text-x-octave, is-text-x-opentype-feature, is-text-x-opml-xml, is-text-x-pascal, is-text-x-php, is-text-x-pic, is-text-x-plantuml, is-text-x-praat, is-text-x-preseed, is-text-x-pug, is-text-x-puppet, is-text-x-python-as-row-py, is-text-x-qmake, is-text-x-raku, is-text-x-razor, is-text-x-rsrc, is-text-x-ruby, is-text-x-sagemath, is-text-x-scheme, is-text-x-spice, is-text-x-starlark, is-text-x-stata, is-text-x-svelte, is-text-x-systemd-unit, is-text-x-tablegen, is-text-x-tex, is-text-x-tla, is-text-x-typescript, is-text-x-vhdl, is-text-x-vim, is-text-x-wkt, is-text-x-xmi, is-text-xml, is-video-3gpp, is-video-mp2t, is-video-mpeg, is-video-quicktime-as-row-mov, is-video-x-f4v, is-video-x-ifo, is-video-x-matroska-3d}
+use Rattle.infer_named.specs.Sets.{any-lead, leads-10, leads-2, no-rows, rows-3dmodel-abw-amf-atom-aup-busconfig-catmeta-cml-dae-dbk-dbusintro-dia-diashape-fb2-fodg-fodp-fods-fodt-fontconfig-glade-gml-gnucash-gnumeric-gpx-gresource-gschema-gtkbuilder-jnlp-kml-ldml-lingts-meta4-metainfo-metalink-mimeinfo-mml-mpd-msbuild-mscx-musicxml-ncx-nzb-opf-opml-osm-owx-pkgmeta-plist-pom-rdf-rng-rss-sbml-sch-sitemap-sla-smil-srx-svg-tei-ttml-ttx-ui-wordml-wsdl-x3d-xbel-xhtml-xib-xkbrules-xliff-xmi-xmp-xsd-xslt-xspf, rows-3ds, rows-3gp, rows-aac, rows-aes, rows-afm, rows-ag, rows-application-x-msi, rows-application-x-ole-storage, rows-application-x-ole-storage-pptm-pptx-zip, rows-application-x-ole-storage-pptx-zip, rows-ar, rows-asc, rows-asx, rows-aup3-fossil-gpkg-mbtiles-mtn, rows-awb, rows-awk, rows-bai, rows-bc, rows-bdf, rows-bdfb, rows-bookmarks, rows-bsdiff, rows-bz2, rows-bzimage, rows-caf, rows-cci, rows-ccmx, rows-cdr, rows-cmap-eps-pfa-t2t, rows-cmi, rows-cmx, rows-cmxr, rows-cpt, rows-crw, rows-crx, rows-csr-p10, rows-cubin, rows-dart, rows-dbk, rows-deb-goa, rows-der-pem-txt, rows-djvm, rows-djvu, rows-docx-application-x-ole-storage-zip, rows-dwg, rows-eet, rows-elf, rows-elf-so, rows-eot, rows-escript, rows-exe, rows-exe-dll-efi-lx-ne-sys, rows-f4v, rows-fig, rows-fish, rows-fm, rows-fodg, rows-gb-gbc, rows-gba, rows-gem, rows-gjs-js, rows-glb, rows-gnd, rows-goobj, rows-gpg-gpgold, rows-gpkg, rows-gz-zip, rows-html, rows-html-json-php-svg-txt-xhtml-xml, rows-html-sh-svg-txt-xhtml-xml, rows-html-txt, rows-html-txt-xhtml-xml, rows-html-txt-xml, rows-icc, rows-icures, rows-ifo, rows-ilbm, rows-info, rows-jar-zip, rows-jffs2, rows-jks, rows-jmod, rows-json, rows-json-sh-txt, rows-jxr, rows-kml, rows-kmz, rows-kon, rows-kra, rows-kwaj, rows-las, rows-lingts, rows-lmdb, rows-locarch, rows-lua, rows-lua-sh-txt, rows-luks, rows-ly, rows-lzfse, rows-lzma, rows-m, rows-m3u8, rows-m4, rows-mach, rows-mbox, rows-metalink, rows-mk, rows-mkv, rows-ml, rows-model-step, rows-mol2, rows-mov, rows-mp4, rows-mpc, rows-mpg, rows-mpp, rows-mpq, rows-ms3d, rows-msbuild, rows-mup, rows-myi, rows-n64, rows-nes, rows-o, rows-obj, rows-odf, rows-odg, rows-odm-ott, rows-odp-zip, rows-odt, rows-opml, rows-otp, rows-paf, rows-pat, rows-pcapng, rows-pch, rows-pem, rows-pgn, rows-pgp-pgpmsg, rows-pgpsig-sig, rows-php, rows-php-svg-txt-xhtml-xml, rows-pic, rows-pjl, rows-pkgstream, rows-pla, rows-plist-txt-xml, rows-pom, rows-ppf, rows-ppt, rows-pptm, rows-ppu, rows-ps, rows-ps-sh-txt, rows-ps-txt, rows-ps1, rows-psd, rows-psf1-psf2, rows-ptm, rows-puml, rows-py, rows-qcow2, rows-qgz, rows-qoi, rows-qti, rows-r, rows-raku, rows-rb, rows-res, rows-roff, rows-root, rows-rpm, rows-rtf, rows-s3m, rows-schema, rows-scm, rows-sf2, rows-sh, rows-sh-txt, rows-shn, rows-sid, rows-sk, rows-snoop, rows-sqlite, rows-squashfs, rows-srpm, rows-sxi, rows-sxw, rows-sz, rows-szdd, rows-tar, rows-tex, rows-texlua, rows-tga, rows-ts, rows-txt, rows-txt-xml, rows-unit, rows-ups, rows-usda, rows-vhd, rows-vmdk-vmdkcow, rows-w64, rows-wmv, rows-woff2, rows-wpl, rows-xisf, rows-xliff, rows-xls, rows-xml, rows-zim, rows-zip, rows-zst, text-rows}
+use Rattle.infer_named.specs.Types.{is-application-dita-xml, is-application-font-woff-as-row-woff2, is-application-geopackage-sqlite3, is-application-gnunet-directory, is-application-json, is-application-mbox, is-application-metalink-xml, is-application-octet-stream, is-application-pgp-encrypted, is-application-pgp-keys-as-row-asc, is-application-pgp-keys-as-row-gpg, is-application-pgp-signature, is-application-pkcs10, is-application-postscript, is-application-rtf, is-application-schema-json, is-application-sourcemap-json, is-application-vnd-adobe-xfdf, is-application-vnd-apple-mpegurl, is-application-vnd-chess-pgn, is-application-vnd-corel-draw, is-application-vnd-framemaker, is-application-vnd-garmin-tcx-xml, is-application-vnd-geogebra-file, is-application-vnd-google-earth-kml-xml, is-application-vnd-google-earth-kmz, is-application-vnd-hp-pjl, is-application-vnd-iccprofile, is-application-vnd-las, is-application-vnd-lotus-1-2-3-as-known, is-application-vnd-microsoft-portable-executable, is-application-vnd-ms-excel, is-application-vnd-ms-powerpoint, is-application-vnd-ms-powerpoint-presentation-macroenabled-12, is-application-vnd-ms-powerpoint-template-macroenabled-12, is-application-vnd-ms-project, is-application-vnd-ms-wpl, is-application-vnd-oasis-opendocument-formula, is-application-vnd-oasis-opendocument-graphics, is-application-vnd-oasis-opendocument-graphics-flat-xml, is-application-vnd-oasis-opendocument-presentation-template, is-application-vnd-oasis-opendocument-text, is-application-vnd-openxmlformats-officedocument-wordprocessingml-template, is-application-vnd-sqlite3, is-application-vnd-squashfs, is-application-vnd-sun-xml-impress, is-application-vnd-sun-xml-writer, is-application-x-aes-encrypted, is-application-x-ant-xml, is-application-x-arb-json, is-application-x-bai, is-application-x-bdf, is-application-x-bsdiff, is-application-x-bzip2, is-application-x-ccmx, is-application-x-cern-root, is-application-x-clang-pch, is-application-x-cmi, is-application-x-com-executable, is-application-x-cubin, is-application-x-docbook-xml, is-application-x-eet, is-application-x-entitlements, is-application-x-executable-as-row-obj, is-application-x-fishscript, is-application-x-font-afm, is-application-x-font-bdf, is-application-x-font-linux-psf, is-application-x-gameboy-rom, is-application-x-gba-rom-as-row-gba, is-application-x-gds, is-application-x-gdscript, is-application-x-gir-xml, is-application-x-glibc-locale-archive, is-application-x-go-object, is-application-x-google-chrome-extension, is-application-x-har-json, is-application-x-haskell-interface, is-application-x-icu-data, is-application-x-intellij-xml, is-application-x-ios-app, is-application-x-java-jmod, is-application-x-java-keystore, is-application-x-jffs2, is-application-x-jsonc, is-application-x-jsp, is-application-x-kontour, is-application-x-krita, is-application-x-leveldb-table, is-application-x-linux-kernel-as-row-bzimage, is-application-x-llvm, is-application-x-lmdb, is-application-x-locale-archive, is-application-x-luks, is-application-x-lzfse, is-application-x-lzma-compressed-tar, is-application-x-m4, is-application-x-mach-binary, is-application-x-mimecache, is-application-x-mpq, is-application-x-ms-compress-kwaj, is-application-x-ms-compress-szdd, is-application-x-ms-resource, is-application-x-msbuild-xml, is-application-x-msi, is-application-x-mysql-myisam, is-application-x-n64-rom, is-application-x-nintendo-3ds-rom, is-application-x-nintendo-nes-rom, is-application-x-object, is-application-x-ocaml-cmi, is-application-x-ocaml-cmx, is-application-x-openzim, is-application-x-pascal-unit, is-application-x-pcapng, is-application-x-powershell, is-application-x-ppf-patch, is-application-x-pytorch, is-application-x-qemu-disk, is-application-x-qgis-project-as-row-qgz, is-application-x-qtiplot, is-application-x-ruby-gem, is-application-x-shorten, is-application-x-snappy-framed, is-application-x-snoop, is-application-x-source-rpm, is-application-x-storyboard-xml, is-application-x-svr4-package, is-application-x-swiftmodule, is-application-x-tflite, is-application-x-thumbs-db, is-application-x-tmx-xml, is-application-x-unix-archive, is-application-x-ups-patch, is-application-x-vhd-disk, is-application-x-vim-swap, is-application-x-vmdk-disk, is-application-x-wix-xml, is-application-x-xpinstall, is-application-x-zstd-compressed-tar, is-application-xaml-xml, is-application-xliff-xml, is-application-xquery, is-audio-aac, is-audio-amr-wb, is-audio-prs-sid, is-audio-x-caf, is-audio-x-iriver-pla, is-audio-x-ms-asx, is-audio-x-ms-wma, is-audio-x-musepack, is-audio-x-paf, is-audio-x-ptm, is-audio-x-s3m, is-audio-x-sfbk, is-audio-x-w64, is-chemical-x-mol2, is-image-vnd-adobe-photoshop, is-image-vnd-djvu, is-image-vnd-dwg, is-image-vnd-ms-photo, is-image-x-3ds, is-image-x-applix-graphics, is-image-x-canon-crw, is-image-x-cmx, is-image-x-corel-cpt, is-image-x-gimp-pat, is-image-x-ilbm, is-image-x-pic, is-image-x-qoi, is-image-x-skencil, is-image-x-tga-as-row-tga, is-image-x-xfig, is-image-x-xisf, is-model-gltf-binary, is-model-step, is-model-vnd-usda, is-model-x-milkshape, is-text-html, is-text-javascript, is-text-plain, is-text-troff, is-text-vnd-trolltech-linguist, is-text-x-asn1, is-text-x-asymptote, is-text-x-awk, is-text-x-bluespec, is-text-x-boo, is-text-x-c-src, is-text-x-checksums, is-text-x-cmake, is-text-x-cocci, is-text-x-csound, is-text-x-cuda, is-text-x-cython, is-text-x-d2, is-text-x-dart, is-text-x-dune, is-text-x-ebnf, is-text-x-eex, is-text-x-ejs, is-text-x-erlang, is-text-x-expect, is-text-x-flatbuffers, is-text-x-fortran, is-text-x-fsharp, is-text-x-genie, is-text-x-gerber, is-text-x-gleam, is-text-x-glsl, is-text-x-gomod, is-text-x-hlsl, is-text-x-hy, is-text-x-idl, is-text-x-info, is-text-x-ini, is-text-x-isabelle, is-text-x-krl, is-text-x-lex, is-text-x-lfe, is-text-x-lilypond, is-text-x-logtalk, is-text-x-lua, is-text-x-luatex, is-text-x-makefile, is-text-x-maven-xml, is-text-x-mermaid, is-text-x-meson, is-text-x-metafont, is-text-x-modula, is-text-x-mup, is-text-x-nginx-conf, is-text-x-nix, is-text-x-ocaml, is-text-x-octave, is-text-x-opentype-feature, is-text-x-opml-xml, is-text-x-pascal, is-text-x-php, is-text-x-pic, is-text-x-plantuml, is-text-x-praat, is-text-x-preseed, is-text-x-pug, is-text-x-puppet, is-text-x-python-as-row-py, is-text-x-qmake, is-text-x-raku, is-text-x-razor, is-text-x-rsrc, is-text-x-ruby, is-text-x-sagemath, is-text-x-scheme, is-text-x-spice, is-text-x-starlark, is-text-x-stata, is-text-x-svelte, is-text-x-systemd-unit, is-text-x-tablegen, is-text-x-tex, is-text-x-tla, is-text-x-typescript, is-text-x-vhdl, is-text-x-vim, is-text-x-wkt, is-text-x-xmi, is-text-xml, is-video-3gpp, is-video-mp2t, is-video-mpeg, is-video-quicktime-as-row-mov, is-video-x-f4v, is-video-x-ifo, is-video-x-matroska-3d}
 use Rattle.infer_named.specs.declared.table.Asks.TheVariants.{Bytes, Nothing, Signature, Text}
 use Rattle.infer_named.specs.declared.table.Part.TheVariants.{Extension, Whole}
 
@@ -26,6 +26,7 @@ keys =
     ∷ key Extension (codes "lex") false (reading is-text-x-lex Text no-rows rows-txt no-rows any-lead ∷ [])
     ∷ key Extension (codes "ppt") false (reading is-application-vnd-ms-powerpoint Signature rows-ppt rows-application-x-ole-storage no-rows any-lead ∷ [])
     ∷ key Extension (codes "ms3d") false (reading is-model-x-milkshape Signature rows-ms3d no-rows no-rows any-lead ∷ [])
+    ∷ key Extension (codes "schema") false (reading is-application-schema-json Text rows-schema rows-json no-rows any-lead ∷ [])
     ∷ key Extension (codes "mk3d") false (reading is-video-x-matroska-3d Signature no-rows rows-mkv no-rows any-lead ∷ [])
     ∷ key Extension (codes "tla") false (reading is-text-x-tla Text no-rows rows-txt no-rows any-lead ∷ [])
     ∷ key Extension (codes "leex") false (reading is-text-x-eex Text no-rows rows-html-json-php-svg-txt-xhtml-xml no-rows any-lead ∷ [])

@@ -2,7 +2,7 @@
 use Rattle.std.specs.Prelude.{List, [], ◌∷◌, codes, false, true}
 use Rattle.infer_named.specs.Key.{Key, key}
 use Rattle.infer_named.specs.Listed.{reading}
-use Rattle.infer_named.specs.Sets.{any-lead, leads-10, leads-7, no-rows, rows-3g2, rows-3gp-mp4, rows-3mf-apk-application-vnd-apple-keynote-chrt-docx-epub-fbz-fcstd-flw-iwa-jar-karbon-kfo-kmz-kon-kpr-kra-ksp-kwd-mscz-odb-odc-odf-odg-odi-odp-ods-odt-ora-otg-otp-ots-ott-pkpass-pptx-qgz-sxc-sxd-sxi-sxm-sxw-vsdx-xap-xlsx, rows-7z, rows-aa, rows-accdb, rows-ace, rows-anim, rows-apfs-bootimg-cramfs-erofs-exfat-f2fs-fat-gpt-hfsplus-jffs2-lvm-ntfs-romfs-simg-ubi-ubifs-xfs, rows-apk-jar-zip, rows-apng, rows-appimage, rows-application-x-ole-storage, rows-application-x-ole-storage-zip, rows-aptcache, rows-ar-thin, rows-aup, rows-aup3-fossil-gpkg-mbtiles-mtn, rows-bam, rows-beam, rows-bgzf-karbon-kil-kpr-ksp-kwd, rows-bik, rows-blend, rows-bmp, rows-bookmarks, rows-bz2, rows-bz2-gz-xz, rows-cdf, rows-cdxa, rows-chm, rows-cloudcfg, rows-cml, rows-csh, rows-dcx, rows-deb-goa, rows-der-p7b-pem, rows-dff, rows-dgn, rows-diff, rows-docm-docx-application-x-ole-storage-zip, rows-docx, rows-dss, rows-dts, rows-dvb, rows-elf, rows-elisp, rows-emf, rows-escript, rows-evtx, rows-fbz, rows-fli, rows-flv, rows-flw, rows-gbs, rows-gcm, rows-ged, rows-gitpatch, rows-gjs-js, rows-gpl, rows-groovy, rows-gz, rows-gz-zip, rows-gz-zst, rows-h265, rows-hdd, rows-hdf5, rows-hdr, rows-heics, rows-heif, rows-heifs, rows-hlp, rows-hs, rows-html, rows-html-json-php-svg-txt-xhtml-xml, rows-html-sh-svg-txt-xhtml-xml, rows-html-txt-xhtml-xml, rows-html-txt-xml, rows-icures, rows-ilbm, rows-ips, rows-jls, rows-jp2, rows-jpg, rows-json, rows-json-ndjson-txt, rows-json-plist-txt-xml, rows-json-sh-txt, rows-json-txt, rows-jsonlz4, rows-kate-oga-ogm-ogv-ogx-opus-spx-vorbis, rows-kra, rows-la, rows-ldif, rows-ldml, rows-lit, rows-locate, rows-lrz, rows-lua, rows-lz4, rows-m4a-mp4, rows-m4b, rows-macbin, rows-mat, rows-mbm, rows-mdb, rows-mf, rows-miff, rows-mj2, rows-mk, rows-mkv, rows-ml, rows-mo3, rows-mpg, rows-mpp, rows-mrw, rows-msbuild, rows-mtl, rows-nc, rows-ndjson, rows-neko, rows-news, rows-o, rows-ods-zip, rows-odt-zip, rows-ogg, rows-ogv, rows-orc, rows-os2hlp, rows-ots, rows-ott, rows-p12, rows-pcdimg, rows-pcl, rows-pdf, rows-php, rows-php-svg-txt-xhtml-xml, rows-pl, rows-plist-txt-xml, rows-pls, rows-png, rows-po, rows-ppk, rows-profraw, rows-ps-sh-txt, rows-ps-txt, rows-puml, rows-py, rows-pysu, rows-qtl, rows-r, rows-raku, rows-rar, rows-rb, rows-rdata, rows-regf, rows-rvz, rows-safetensors, rows-sam, rows-scala, rows-scc, rows-sgi, rows-sh-txt, rows-smil, rows-sqlite, rows-sqlite2, rows-ssh1, rows-syzygy, rows-t2t, rows-tcl, rows-tex, rows-texi, rows-tif, rows-toc, rows-trustdb, rows-tscn, rows-ttc, rows-txt, rows-txt-yaml, rows-txw, rows-typelib, rows-ubifs, rows-umx, rows-unit, rows-vcf, rows-vcfg, rows-vdex, rows-vgm, rows-vips, rows-vsdx-zip, rows-wasm-wasmc, rows-webm, rows-wim, rows-wpd, rows-wsdl, rows-wtv, rows-xbt, rows-xi, rows-xliff, rows-xls, rows-xlsx, rows-xpm-xpm2, rows-xslt, rows-yaml, rows-zimage, rows-zip, text-rows}
+use Rattle.infer_named.specs.Sets.{any-lead, leads-10, leads-7, no-rows, rows-3g2, rows-3gp-mp4, rows-3mf-apk-application-vnd-apple-keynote-chrt-docx-epub-fbz-fcstd-flw-iwa-jar-karbon-kfo-kmz-kon-kpr-kra-ksp-kwd-mscz-odb-odc-odf-odg-odi-odp-ods-odt-ora-otg-otp-ots-ott-pkpass-pptx-qgz-sxc-sxd-sxi-sxm-sxw-vsdx-xap-xlsx, rows-7z, rows-aa, rows-accdb, rows-ace, rows-anim, rows-apfs-bootimg-cramfs-erofs-exfat-f2fs-fat-gpt-hfsplus-jffs2-lvm-ntfs-romfs-simg-ubi-ubifs-xfs, rows-apk-jar-zip, rows-apng, rows-appimage, rows-application-x-ole-storage, rows-application-x-ole-storage-zip, rows-aptcache, rows-ar-thin, rows-aup, rows-aup3-fossil-gpkg-mbtiles-mtn, rows-bam, rows-beam, rows-bgzf-karbon-kil-kpr-ksp-kwd, rows-bik, rows-blend, rows-bmp, rows-bookmarks, rows-bz2, rows-bz2-gz-xz, rows-cdf, rows-cdxa, rows-chm, rows-cloudcfg, rows-cml, rows-csh, rows-dcx, rows-deb-goa, rows-der-p7b-pem, rows-dff, rows-dgn, rows-diff, rows-docm-docx-application-x-ole-storage-zip, rows-docx, rows-dss, rows-dts, rows-dvb, rows-elf, rows-elisp, rows-emf, rows-escript, rows-evtx, rows-fbz, rows-fli, rows-flv, rows-flw, rows-gbs, rows-gcm, rows-ged, rows-gitpatch, rows-gjs-js, rows-gpl, rows-groovy, rows-gz, rows-gz-zip, rows-gz-zst, rows-h265, rows-hdd, rows-hdf5, rows-hdr, rows-heics, rows-heif, rows-heifs, rows-hlp, rows-hs, rows-html, rows-html-json-php-svg-txt-xhtml-xml, rows-html-sh-svg-txt-xhtml-xml, rows-html-txt-xhtml-xml, rows-html-txt-xml, rows-icures, rows-ilbm, rows-ips, rows-jls, rows-jp2, rows-jpg, rows-json, rows-json-ndjson-txt, rows-json-plist-txt-xml, rows-json-sh-txt, rows-json-txt, rows-jsonlz4, rows-kate-oga-ogm-ogv-ogx-opus-spx-vorbis, rows-kra, rows-la, rows-ldif, rows-ldml, rows-lit, rows-locate, rows-lrz, rows-lua, rows-lz4, rows-m4a-mp4, rows-m4b, rows-macbin, rows-mat, rows-mbm, rows-mdb, rows-mf, rows-miff, rows-mj2, rows-mk, rows-mkv, rows-ml, rows-mo3, rows-mpg, rows-mpp, rows-mrw, rows-msbuild, rows-mtl, rows-nc, rows-ndjson, rows-neko, rows-news, rows-o, rows-ods-zip, rows-odt-zip, rows-ogg, rows-ogv, rows-orc, rows-os2hlp, rows-ots, rows-ott, rows-p12, rows-pcdimg, rows-pcl, rows-pdf, rows-php, rows-php-svg-txt-xhtml-xml, rows-pl, rows-plist-txt-xml, rows-pls, rows-png, rows-po, rows-ppk, rows-profraw, rows-ps-sh-txt, rows-ps-txt, rows-puml, rows-py, rows-pysu, rows-qtl, rows-r, rows-raku, rows-rar, rows-rb, rows-rdata, rows-regf, rows-rvz, rows-safetensors, rows-sam, rows-scala, rows-scc, rows-schema, rows-sgi, rows-sh-txt, rows-smil, rows-sqlite, rows-sqlite2, rows-ssh1, rows-syzygy, rows-t2t, rows-tcl, rows-tex, rows-texi, rows-tif, rows-toc, rows-trustdb, rows-tscn, rows-ttc, rows-txt, rows-txt-yaml, rows-txw, rows-typelib, rows-ubifs, rows-umx, rows-unit, rows-vcf, rows-vcfg, rows-vdex, rows-vgm, rows-vips, rows-vsdx-zip, rows-wasm-wasmc, rows-webm, rows-wim, rows-wpd, rows-wsdl, rows-wtv, rows-xbt, rows-xi, rows-xliff, rows-xls, rows-xlsx, rows-xpm-xpm2, rows-xslt, rows-yaml, rows-zimage, rows-zip, text-rows}
 use Rattle.infer_named.specs.Types.{is-application-atomcat-xml, is-application-edn, is-application-gzip, is-application-onnx, is-application-pdf, is-application-pkcs12, is-application-pkcs7-signature, is-application-schema-json, is-application-smil-xml, is-application-syzygy, is-application-vnd-appimage, is-application-vnd-apple-pages, is-application-vnd-comicbook-rar, is-application-vnd-hp-pcl, is-application-vnd-lotus-1-2-3-as-known, is-application-vnd-mozilla-xul-xml, is-application-vnd-ms-excel, is-application-vnd-ms-htmlhelp, is-application-vnd-ms-project, is-application-vnd-ms-visio-template-main-xml, is-application-vnd-ms-word-template-macroenabled-12, is-application-vnd-nintendo-snes-rom, is-application-vnd-oasis-opendocument-spreadsheet-template, is-application-vnd-oasis-opendocument-text-template, is-application-vnd-openxmlformats-officedocument-spreadsheetml-sheet, is-application-vnd-openxmlformats-officedocument-wordprocessingml-document, is-application-vnd-sqlite3, is-application-vnd-wordperfect, is-application-wasm, is-application-winhlp, is-application-wsdl-xml, is-application-x-7z-compressed, is-application-x-ace-compressed, is-application-x-android-vdex, is-application-x-apkm, is-application-x-apt-cache, is-application-x-audacity-project, is-application-x-bam, is-application-x-bentley-dgn, is-application-x-blender, is-application-x-bzip-compressed-tar, is-application-x-cdf, is-application-x-cdrdao-toc, is-application-x-csh, is-application-x-device-tree-blob, is-application-x-entitlements, is-application-x-erlang-beam, is-application-x-gamecube-rom, is-application-x-gir-typelib, is-application-x-gnupg-trustdb, is-application-x-godot-scene, is-application-x-hdf5, is-application-x-icu-data, is-application-x-intellij-xml, is-application-x-ips-patch, is-application-x-kivio, is-application-x-krita, is-application-x-ldml-xml, is-application-x-linux-kernel-as-row-zimage, is-application-x-llvm-profraw, is-application-x-locate-database, is-application-x-lrzip, is-application-x-lz4-compressed-tar, is-application-x-lz4-json, is-application-x-macbinary, is-application-x-matlab-data, is-application-x-ms-evtx, is-application-x-ms-reader, is-application-x-ms-registry, is-application-x-ms-registry-hive, is-application-x-ms-wim, is-application-x-msaccess-as-row-accdb, is-application-x-msaccess-as-row-mdb, is-application-x-msbuild-xml, is-application-x-ndjson, is-application-x-nekovm-bytecode, is-application-x-netcdf, is-application-x-nuspec-xml, is-application-x-object, is-application-x-orc, is-application-x-os2-hlp, is-application-x-parallels-disk, is-application-x-putty-private-key, is-application-x-pyspread-spreadsheet, is-application-x-quattropro, is-application-x-quicktime-media-link, is-application-x-r-data, is-application-x-raw-disk-image, is-application-x-safetensors, is-application-x-scxml-xml, is-application-x-shared-library-la, is-application-x-sqlite2, is-application-x-ssh1-private-key, is-application-x-theme-xml, is-application-x-ubifs, is-application-x-unix-archive, is-application-x-unreal-package, is-application-x-urdf-xml, is-application-x-wii-rom-as-row-rvz, is-application-x-xbmc-xbt, is-application-x-zip-compressed-fb2, is-application-xliff-xml, is-application-xproc-xml, is-application-xslt-xml, is-application-yaml, is-application-zip, is-audio-ogg-as-row-ogg, is-audio-vnd-audible, is-audio-vnd-dts, is-audio-x-dff, is-audio-x-dss, is-audio-x-gbs, is-audio-x-m4b, is-audio-x-mo3, is-audio-x-scpls, is-audio-x-vgm, is-audio-x-xi, is-audio-x-yamaha-txw, is-chemical-x-cif, is-chemical-x-cml, is-chemical-x-mdl-molfile, is-font-collection, is-image-bmp, is-image-emf, is-image-heic-sequence, is-image-heif-sequence, is-image-jpeg, is-image-png, is-image-vnd-radiance, is-image-x-dcx, is-image-x-epoc-mbm, is-image-x-epson-erf, is-image-x-ilbm, is-image-x-miff, is-image-x-minolta-mrw, is-image-x-photo-cd, is-image-x-sgi, is-image-x-tga-as-known, is-image-x-vips, is-image-x-xpixmap, is-message-news, is-model-mtl, is-multipart-related, is-text-cache-manifest, is-text-csv, is-text-html, is-text-javascript, is-text-plain, is-text-tab-separated-values, is-text-uri-list, is-text-vcard, is-text-vnd-familysearch-gedcom, is-text-x-abap, is-text-x-asn1, is-text-x-ballerina, is-text-x-bats, is-text-x-bed, is-text-x-bicep, is-text-x-bpftrace, is-text-x-cfm, is-text-x-cobol, is-text-x-csound, is-text-x-cypher, is-text-x-dune, is-text-x-ebnf, is-text-x-ejs, is-text-x-emacs-lisp, is-text-x-erlang, is-text-x-fennel, is-text-x-freemarker, is-text-x-gerber, is-text-x-gettext-translation, is-text-x-gimp-gpl, is-text-x-gitconfig, is-text-x-gitignore, is-text-x-glsl, is-text-x-gn, is-text-x-groovy, is-text-x-handlebars, is-text-x-haskell, is-text-x-hunspell-affix, is-text-x-idl, is-text-x-jinja, is-text-x-kotlin, is-text-x-ld-script, is-text-x-ldif, is-text-x-lex, is-text-x-lua, is-text-x-makefile, is-text-x-maven-xml, is-text-x-maxima, is-text-x-metal, is-text-x-mib, is-text-x-nim, is-text-x-ocaml, is-text-x-pascal, is-text-x-patch, is-text-x-pawn, is-text-x-perl, is-text-x-php, is-text-x-pig, is-text-x-plantuml, is-text-x-protobuf, is-text-x-psv, is-text-x-python-as-row-py, is-text-x-ragel, is-text-x-raku, is-text-x-razor, is-text-x-reason, is-text-x-rebol, is-text-x-rsrc, is-text-x-ruby, is-text-x-sam, is-text-x-scala, is-text-x-scc, is-text-x-scons, is-text-x-setext, is-text-x-shell-config, is-text-x-sieve, is-text-x-sml, is-text-x-snakemake, is-text-x-stan, is-text-x-systemd-unit, is-text-x-tcl, is-text-x-tex, is-text-x-texinfo, is-text-x-textproto, is-text-x-tmux-conf, is-text-x-txt2tags, is-text-x-unity, is-text-x-vcf, is-text-x-verilog, is-text-x-vue, is-text-x-vyper, is-text-x-wdl, is-text-x-xresources, is-video-3gpp2, is-video-h265, is-video-mj2, is-video-mpeg, is-video-ogg, is-video-vnd-dvb-file, is-video-vnd-radgamettools-bink, is-video-x-anim, is-video-x-cdxa, is-video-x-flic, is-video-x-flv, is-video-x-matroska, is-video-x-ms-wtv}
 use Rattle.infer_named.specs.declared.table.Asks.TheVariants.{Bytes, Signature, Text}
 use Rattle.infer_named.specs.declared.table.Part.TheVariants.{Extension, Whole}
@@ -218,7 +218,7 @@ keys =
     ∷ key Extension (codes "mhtml") false (reading is-multipart-related Text no-rows rows-txt no-rows any-lead ∷ [])
     ∷ key Extension (codes "metal") false (reading is-text-x-metal Text no-rows rows-txt no-rows any-lead ∷ [])
     ∷ key Extension (codes "accde") false (reading is-application-x-msaccess-as-row-accdb Signature rows-accdb no-rows no-rows any-lead ∷ [])
-    ∷ key Extension (codes "schema.json") false (reading is-application-schema-json Text no-rows rows-json no-rows any-lead ∷ [])
+    ∷ key Extension (codes "schema.json") false (reading is-application-schema-json Text rows-schema rows-json no-rows any-lead ∷ [])
     ∷ key Whole (codes ".gitmodules") false (reading is-text-x-gitconfig Text no-rows rows-txt no-rows any-lead ∷ [])
     ∷ key Whole (codes ".xresources") false (reading is-text-x-xresources Text no-rows rows-txt no-rows any-lead ∷ [])
     ∷ key Extension (codes "sc") false (reading is-text-x-scala Text rows-scala rows-sh-txt no-rows any-lead ∷ [])
