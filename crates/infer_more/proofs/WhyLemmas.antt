@@ -7,6 +7,8 @@ use Rattle.std.specs.Prelude.{All, Any}
 use Rattle.infer.proofs.CandidateLemmas.{read_has}
 use Rattle.infer.proofs.ListLemmas.{HoldsAt-read}
 use Rattle.infer.proofs.EvidenceLemmas.{buffers_with, same_by_reads}
+use Rattle.infer_deep.specs.Signatures.{MayBecome}
+use Rattle.infer_notation.specs.Alternative as signature
 use Rattle.infer_evidence.proofs.ListedLemmas.{all_told}
 use Rattle.infer_evidence.specs.Weighed.{HasPart, HasParts}
 use Rattle.infer_sig.specs.Places.{StandsByPlace}
@@ -35,6 +37,11 @@ pub front_tells : (i : ℕ) (b c : List ℕ) (n : ℕ) → IsBuffer b → IsBuff
     → ((k : ℕ) → k < n → (k < length c) × (get_or c k 0 ≡ get_or b k 0)) → IsAlikeAt i b c
 front_tells i b c n bytes others le told same =
     buffers_with (IsAlikeAt i) b c n bytes others le same (λ v w of more. alike_with (slice_get further i) (take n b) v w of more told)
+
+-- a buffer is not accepted that begins with what no bytes make accepted
+pub never_with : (xs : List signature.Alternative) (b c : List ℕ) (n : ℕ) → IsBuffer b → IsBuffer c → n ≤ length b → ¬ MayBecome (Accepted xs) (take n b)
+    → ((k : ℕ) → k < n → (k < length c) × (get_or c k 0 ≡ get_or b k 0)) → ¬ Accepted xs c
+never_with xs b c n bytes others le never same = buffers_with (λ y z. ¬ Accepted xs z) b c n bytes others le same (λ v w of more h. never (w, more, h))
 
 alike_itself : (o : Option Further) (b : List ℕ) → MatchOption o (Unit {0}) (λ r. Accepted r.signature b ↔ Accepted r.signature b)
 alike_itself None b = tt

@@ -170,6 +170,42 @@ fn weigh_row(row: &FurtherRow, i: usize, buf: &[u8], evidence: &mut Evidence) ->
     accepts
 }
 
+/// Whether the first byte tells that the row does not accept the buffer, and asks for it if so. It does of most rows, and the
+/// evidence that there is no built-in answer asks for it already.
+#[tactic(auto, using(crate::proofs::NamedLemmas::row_passes, crate::proofs::TableLemmas::all_sound))]
+#[inline(always)]
+fn refuse_by_first(row: &FurtherRow, i: usize, buf: &[u8], evidence: &mut Evidence) -> bool
+    requires { slice_get further i ≡ Some (row_listed row.now) }
+    ensures answer { IsTrue result → ¬ Accepted (row_listed row.now).signature buf.now }
+    ensures tells { Tells evidence.old evidence.new buf.now
+        (λ c. IsTrue result → ¬ Accepted (row_listed row.now).signature c) }
+    ensures inside { IsOf evidence.old buf.now → IsOf evidence.new buf.now }
+{
+    if buf.is_empty() || may_become_accepted(row.signature, &buf[..1]) {
+        return false;
+    }
+    evidence.ask(Range::new(0, 1, number(i)));
+    true
+}
+
+/// The same as [`weigh_row`]. Most rows without a parent cost no more than a look at the first byte.
+#[inline(always)]
+fn weigh_led(row: &FurtherRow, i: usize, buf: &[u8], evidence: &mut Evidence) -> bool
+    requires closed { IsTrue (is_row_closed (row_listed row.now)) }
+    requires listed { slice_get further i ≡ Some (row_listed row.now) }
+    ensures answer { IsTrue result ↔ Accepted (row_listed row.now).signature buf.now }
+    ensures tells { Tells evidence.old evidence.new buf.now (IsAlikeAt i buf.now) }
+    ensures inside { IsOf evidence.old buf.now → IsOf evidence.new buf.now }
+{
+    if row.parent.is_some() {
+        return weigh_row(row, i, buf, evidence);
+    }
+    if refuse_by_first(row, i, buf, evidence) {
+        return false;
+    }
+    weigh_row(row, i, buf, evidence)
+}
+
 /// Whether the row has this parent.
 #[inline(always)]
 fn has_parent(row: &FurtherRow, parent: Option<usize>) -> bool
@@ -187,7 +223,7 @@ fn weigh_at(i: usize, parent: Option<usize>, buf: &[u8], evidence: &mut Evidence
     ensures inside { IsOf evidence.old buf.now → IsOf evidence.new buf.now }
 {
     match row_at(i) {
-        Some(row) => has_parent(row, parent) && weigh_row(row, i, buf, evidence),
+        Some(row) => has_parent(row, parent) && weigh_led(row, i, buf, evidence),
         None => false,
     }
 }
