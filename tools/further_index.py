@@ -15,6 +15,8 @@ from texts import kept, text_of
 # A set of more bytes is no entry, but is left to the signature; and one of more bytes than the other picks no span.
 MOST_BYTES, MOST_PICKED = 5, 10
 MOST_GUARDS = 11
+# What an entry costs, and what a row that is tried in vain.
+ENTRY, TRIED = 8, 40
 # Behind the gate, what a row costs that passes the guard of another.
 BEHIND = 12
 HEAD = """//! Made by `tools/tables` from the further rows, the lists of the index: a place, a byte there, and a row, or a name and a
@@ -395,10 +397,11 @@ def covers(pairs, alternative, known):
 
 def rank(pairs, chosen, left, later, known):
     """What it costs to list a row so, for each alternative that it lists: each entry, and each later row that is found
-    only after this one was tried. Zeros stand near the front of many buffers. At one price what stands later tells more: the
-    bytes of the parent come first."""
+    only after this one was tried in vain, as often. Zeros stand near the front of many buffers. At one price what stands later
+    tells more: the bytes of the parent come first."""
     new = pairs - chosen
-    price = 8 * len(new) + sum(hits(it, *pair) for it in later for pair in new) + sum(4 for _, byte in new if byte in COMMON)
+    vain = TRIED * sum(hits(it, *pair) for it in later for pair in new) / 100
+    price = ENTRY * len(new) + vain + sum(4 for _, byte in new if byte in COMMON)
     price += sum(max(0, FRONT - place) for place, byte in new if byte == 0x00)
     count = sum(covers(pairs, it, known) for it in left)
     return (price + 30 * (known in pairs)) / count, sorted((-place, byte) for place, byte in pairs)
