@@ -17,13 +17,13 @@ HasPart b (Text place t) = StandsByPlace place t.now b
 HasPart b (AnyText place ts) = Any (λ t. StandsByPlace place t.now b) ts.now
 HasPart b (Byte place set) = (place < length b) × IsTrue (allows (set_listed set) (slice_index b place))
 
--- and the least length, and what each of these asks as a part
-abbrev pub HasParts : {P : Type 0} → (P → Part) → List ℕ → ℕ → List P → Type 0
-HasParts part b least parts = (least ≤ length b) × All (λ p. HasPart b (part p)) parts
+-- and the least length, and what each of these asks
+abbrev pub HasParts : {P : Type 0} → (P → List ℕ → Type 0) → List ℕ → ℕ → List P → Type 0
+HasParts asks b least parts = (least ≤ length b) × All (λ p. asks p b) parts
 
 -- and what an alternative asks
 abbrev pub HasAlternative : List ℕ → Alternative → Type 0
-HasAlternative b a = HasParts (λ part. part) b a.least a.parts.now
+HasAlternative b a = HasParts (λ part c. HasPart c part) b a.least a.parts.now
 
 -- and this of some alternative
 abbrev pub HasSignature : List ℕ → List Alternative → Type 0

@@ -1,7 +1,7 @@
 //! Fixed signatures as data that the code reads.
-ghost use Rattle.std.specs.Prelude.{◌≡◌};
+ghost use Rattle.std.specs.Prelude.{◌≡◌, ◌↔◌, ℕ, List};
 ghost use Rattle.infer_evidence.specs.Listed.{set_listed};
-ghost use Rattle.infer_evidence.specs.declared.signature.Part.{Part};
+ghost use Rattle.infer_evidence.specs.Weighed.{HasPart};
 ghost use Rattle.infer_sig.specs.Signature.{allows};
 
 /// A set of bytes.
@@ -35,15 +35,16 @@ pub struct Alternative {
 
 /// What is written in another way, and asks what a part asks.
 pub trait AsPart {
-    ghost part: { Self → Part };
+    // The buffer has what it asks.
+    ghost asks: { Self → List ℕ → Type 0 };
 
     /// The part.
     fn part(&self) -> Part
-        ensures { result ≡ part self.now };
+        ensures { (b : List ℕ) → HasPart b result ↔ asks self.now b };
 }
 
 impl AsPart for Part {
-    ghost part = { λ p. p };
+    ghost asks = { λ p b. HasPart b p };
 
     fn part(&self) -> Part {
         *self

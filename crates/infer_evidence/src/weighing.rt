@@ -179,8 +179,8 @@ fn byte_refused(place: usize, buf: &[u8], row: Option<usize>) -> Refusal
 /// The first part that the buffer lacks.
 fn lacking<P: AsPart>(parts: &[P], buf: &[u8]) -> Option<Part>
     ensures some { IfSome result (λ part. ¬ HasPart buf.now part) }
-    ensures among { IfSome result (λ part. Any (λ p. P.part p ≡ part) parts.now) }
-    ensures none { result ≡ None → All (λ p. HasPart buf.now (P.part p)) parts.now }
+    ensures among { IfSome result (λ part. Any (λ p. (c : List ℕ) → HasPart c part ↔ P.asks p c) parts.now) }
+    ensures none { result ≡ None → All (λ p. P.asks p buf.now) parts.now }
 {
     for asked in parts {
         let part = asked.part();
@@ -248,7 +248,7 @@ fn differing(part: &Part, buf: &[u8], row: Option<usize>) -> Option<Range>
 fn refused_by_bytes<P: AsPart>(parts: &[P], buf: &[u8], row: Option<usize>) -> Option<Range>
     ensures inside { IfSome result (IsInside buf.now) }
     ensures tells { IfSome result (λ range. (c : List ℕ) → IsSame buf.now c range
-        → ¬ All (λ p. HasPart c (P.part p)) parts.now) }
+        → ¬ All (λ p. P.asks p c) parts.now) }
 {
     for asked in parts {
         let part = asked.part();
@@ -261,7 +261,7 @@ fn refused_by_bytes<P: AsPart>(parts: &[P], buf: &[u8], row: Option<usize>) -> O
 
 /// Whether the buffer has that length at least, and what the parts ask.
 pub fn fits<P: AsPart>(least: usize, parts: &[P], buf: &[u8]) -> bool
-    ensures { IsTrue result ↔ HasParts P.part buf.now least parts.now }
+    ensures { IsTrue result ↔ HasParts P.asks buf.now least parts.now }
 {
     least <= buf.len() && lacking(parts, buf).is_none()
 }
@@ -275,9 +275,9 @@ pub fn accept<P: AsPart>(
     row: Option<usize>,
     evidence: &mut Evidence,
 )
-    requires { HasParts P.part buf.now least parts.now }
+    requires { HasParts P.asks buf.now least parts.now }
     ensures tells { (c : List ℕ) → AgreesOn evidence.new buf.now c → AgreesOn evidence.old buf.now c
-        × HasParts P.part c least parts.now }
+        × HasParts P.asks c least parts.now }
     ensures inside { IsOf evidence.old buf.now → IsOf evidence.new buf.now }
     ensures few { evidence.new.count ≤ evidence.old.count + length parts.now }
 {
@@ -295,9 +295,9 @@ pub fn refuse<P: AsPart>(
     row: Option<usize>,
     evidence: &mut Evidence,
 )
-    requires { ¬ HasParts P.part buf.now least parts.now }
+    requires { ¬ HasParts P.asks buf.now least parts.now }
     ensures tells { (c : List ℕ) → AgreesOn evidence.new buf.now c → AgreesOn evidence.old buf.now c
-        × ¬ HasParts P.part c least parts.now }
+        × ¬ HasParts P.asks c least parts.now }
     ensures inside { IsOf evidence.old buf.now → IsOf evidence.new buf.now }
     ensures few { evidence.new.count ≤ evidence.old.count + 1 }
 {
