@@ -1,5 +1,5 @@
-"""Writes the further rows as the code has them, from their definitions: a few rows a list, and each list behind a function
-whose contract compares it with them."""
+"""Writes the further rows as the code has them, from their definitions: rows, alternatives and pieces as lists of numbers, and
+relations a few a list, each list behind a function whose contract compares it with them."""
 import re
 
 from signatures import literal
@@ -7,60 +7,158 @@ from terms import Call
 from texts import text_of
 
 RELATIONS = "crates/infer_formats/src/relation.rt"
-# The check of a list takes time quadratic in its rows.
-ROWS_OF_A_LIST = 4
-HEAD = """//! Made by `tools/tables` from the definitions of the further rows, which the prover compares with them: a few rows a list.
-ghost use Rattle.std.specs.Prelude.{{◌≡◌, ◌+◌, ◌<◌, ◌≤◌, IfSome, None}};
-ghost use Rattle.infer_more.specs.Listed.{{AreEnded, AreRows}};
+# The check of a list takes time quadratic in the references that it holds.
+RELATIONS_OF_A_LIST = 16
+DATA = """//! Made by `tools/tables` from the definitions of the further rows, which the prover compares with them.
+ghost use Rattle.std.specs.Prelude.{{◌≡◌, IsAscii}};
+ghost use Rattle.infer_more.specs.Listed.{{alternatives, asked_texts, extensions, mime_types, pieces, rows}};
 
-use crate::signature::Piece::{{At, Between, OneOf}};
-use crate::signature::{{Alternative, Bytes}};
-use crate::table::{{EndedTexts, FurtherRow}};
+use crate::listed::Piece::{{At, Between, OneOf}};
+use crate::listed::{{Alternative, Bytes, FurtherRow, Piece, Span}};
 use infer::MatcherType;
 use infer::rows::{{
 {parents}
 }};
-use infer_formats::relation::Relation::{{
-{relations}
-}};
 
-/// How many rows stand in a list, but perhaps the last.
-const ROWS_OF_A_LIST: usize = {size};
-"""
-LIST = """
-static ROWS_FROM_{first}: &[FurtherRow] = rows![
+/// The MIME types of the rows, each with a zero after it.
+static MIME_TYPES: &str =
+    "{mime_types}";
+
+pub(super) fn mime_types() -> &'static str
+    ensures value {{ result.now ≡ mime_types }}
+    ensures ascii {{ IsAscii result.now }}
+{{
+    MIME_TYPES
+}}
+
+/// The extensions of the rows, each with a zero after it.
+static EXTENSIONS: &str =
+    "{extensions}";
+
+pub(super) fn extensions() -> &'static str
+    ensures value {{ result.now ≡ extensions }}
+    ensures ascii {{ IsAscii result.now }}
+{{
+    EXTENSIONS
+}}
+
+/// What the rows ask for.
+static ASKED_TEXTS: &[u8] =
+    {asked};
+
+#[inline(always)]
+pub(super) fn asked_texts() -> &'static [u8]
+    ensures {{ result.now ≡ asked_texts }}
+{{
+    ASKED_TEXTS
+}}
+
+/// The pieces of all alternatives, a piece a line: a place, and a span of what is asked for or a range of bytes.
+static PIECES: [Piece; {piece_count}] = pieces![
+{pieces}
+];
+
+#[inline(always)]
+pub(super) fn all_pieces() -> &'static [Piece]
+    ensures {{ result.now ≡ pieces }}
+{{
+    &PIECES
+}}
+
+/// The alternatives of all rows, one a line: a least length and a span of pieces, or the number of a relation.
+static ALTERNATIVES: [Alternative; {alternative_count}] = alternatives![
+{alternatives}
+];
+
+#[inline(always)]
+pub(super) fn all_alternatives() -> &'static [Alternative]
+    ensures {{ result.now ≡ alternatives }}
+{{
+    &ALTERNATIVES
+}}
+
+/// The rows, a row a line: spans of what it shows and of its alternatives, and its parent.
+static ROWS: [FurtherRow; {row_count}] = rows![
 {rows}
 ];
 
 #[inline(always)]
-fn rows_from_{first}() -> &'static [FurtherRow]
-    ensures listed {{ AreRows {first} result.now }}
-    ensures ended {{ AreEnded result.now }}
+pub(super) fn all_rows() -> &'static [FurtherRow]
+    ensures {{ result.now ≡ rows }}
 {{
-    ROWS_FROM_{first}
+    &ROWS
 }}
 """
-ALL = """
-/// The list in which row `i` stands, and the number of the row with which it begins.
+LISTS = """//! Made by `tools/tables` from the definitions of the further rows, which the prover compares with them: the relations that
+//! rows ask for, a few a list.
+ghost use Rattle.std.specs.Prelude.{{◌≡◌, ◌+◌, ◌<◌, ◌≤◌, IfSome, None}};
+ghost use Rattle.infer_more.specs.Listed.{{AreRelations}};
+
+use infer_formats::relation::Relation;
+use infer_formats::relation::Relation::{{
+{relations}
+}};
+
+/// How many relations stand in a list, but perhaps the last.
+const RELATIONS_OF_A_LIST: usize = {size};
+
+/// How many relations there are.
+const RELATION_COUNT: usize = {count};
+{lists}
+/// The list in which the relation of that number stands, and the number of the relation with which it begins.
 #[inline(always)]
-pub(super) fn list_of(i: usize) -> Option<(usize, &'static [FurtherRow])>
-    ensures listed {{ IfSome result (λ list. (list.0 ≤ i) × (i < list.0 + ROWS_OF_A_LIST)
-        × AreRows list.0 list.1.now × AreEnded list.1.now) }}
-    ensures all {{ result ≡ None → {count} ≤ i }}
+pub(super) fn list_of(number: usize) -> Option<(usize, &'static [Relation<'static>])>
+    ensures listed {{ IfSome result (λ list. (list.0 ≤ number)
+        × (number < list.0 + RELATIONS_OF_A_LIST) × AreRelations list.0 list.1.now) }}
+    ensures all {{ result ≡ None → RELATION_COUNT ≤ number }}
 {{
-    match i / ROWS_OF_A_LIST {{
+    match number / RELATIONS_OF_A_LIST {{
 {arms}
         _ => None,
     }}
 }}
 """
-ANSWERS = """-- Made by `tools/tables`: the rows of a list are those of the definitions.
-use Rattle.infer_more.proofs.Common.{{{names}, refl}}
-use Rattle.infer_more.proofs.table.listed.rows_from_{first}.Goals as goal
+LIST = """
+static RELATIONS_FROM_{first}: &[Relation<'static>] = &[
+{relations}
+];
 
-pub returns-clause-listed : goal.returns-clause-listed
-unfolding {unfolded}
-returns-clause-listed c = refl
+#[inline(always)]
+fn relations_from_{first}() -> &'static [Relation<'static>]
+    ensures {{ AreRelations {first} result.now }}
+{{
+    RELATIONS_FROM_{first}
+}}
+"""
+# Rows are compared sixteen a line, and of so many lines at once: one that takes too long ends the check.
+ROWS_OF_A_LINE, LINES = 16, 16
+OF_ROWS = """-- Made by `tools/tables`: the rows of the code are those of the definitions, and a zero stands after each of their texts, sixteen
+-- rows a line, so that a line which is refused tells of which rows.
+use Rattle.infer_more.proofs.Common.{{{names}, ◌≡◌, drop, map, refl}}
+use Rattle.infer_more.proofs.ListedLemmas.{{AreAlike, listed, shown, walked}}
+use Rattle.infer_more.specs.Listed.{{alternatives, asked_texts, extensions, mime_types, pieces, relations, rows}}
+{lines}
+past : map listed (drop {past} rows) ≡ map shown (drop {past} further)
+unfolding rows {unfolded}
+past = refl
+
+pub rows_listed : map listed rows ≡ map shown further
+rows_listed = {walked}
+"""
+LINES_OF_ROWS = """
+from_{first} : AreAlike listed shown rows further {first} {count}
+unfolding alternatives asked_texts extensions mime_types pieces relations rows {unfolded}
+from_{first} =
+{lines}
+"""
+OF_RELATIONS = """-- Made by `tools/tables`: the relations of a list are those of the definitions.
+use Rattle.infer_more.proofs.Common.{{{names}, refl}}
+use Rattle.infer_more.specs.Listed.{{relations}}
+use Rattle.infer_more.proofs.listed.relations.relations_from_{first}.Goals as goal
+
+pub returns : goal.returns
+unfolding relations {unfolded}
+returns c = refl
 """
 
 
@@ -114,13 +212,6 @@ def alternative(term):
     return f"{name}({takes})" if takes else name
 
 
-def row(shown):
-    """A row."""
-    group, mime_type, extension, parent, signature = shown
-    alternatives = "".join(f" [{alternative(it)}]" for it in signature)
-    return f'    {group} "{mime_type}" "{extension}":{" " if parent else ""}{parent} =>{alternatives};'
-
-
 def wrapped(names):
     """Names that are used, a line of the code each some."""
     lines = [""]
@@ -131,22 +222,107 @@ def wrapped(names):
     return "\n".join("   " + it for it in lines)
 
 
-def in_lists(rows):
-    """The number of the first row of each list, and the rows."""
-    return [(first, rows[first : first + ROWS_OF_A_LIST]) for first in range(0, len(rows), ROWS_OF_A_LIST)]
+class Texts:
+    """Texts in one, each once and where it stands there already."""
+
+    def __init__(self):
+        self.whole = b""
+
+    def span(self, text):
+        """Where the text stands, and its length."""
+        if text not in self.whole:
+            self.whole += text
+        return f"{self.whole.index(text)} {len(text)}"
+
+    def ended(self, text):
+        """The same of a text with a zero after it, which the length leaves out."""
+        place, _ = self.span(f"{text}\0".encode()).split()
+        return f"{place} {len(text)}"
 
 
-def text(rows):
+class Listed:
+    """The rows as lists of numbers, and their texts."""
+
+    def __init__(self, rows):
+        self.mime_types, self.extensions, self.asked = Texts(), Texts(), Texts()
+        self.pieces, self.alternatives, self.relations = [], [], []
+        self.rows = list(map(self.row, rows))
+
+    def piece(self, part):
+        place, asked = part.takes
+        if part.name == "text" and len(asked) == 1:
+            return f"Between {place} {byte(asked[0])} {byte(asked[0])}"
+        if part.name == "text":
+            return f"At {place} {self.asked.span(bytes(asked))}"
+        if asked.name == "anyof":
+            return f"OneOf {place} {self.asked.span(bytes(*asked.takes))}"
+        return f"Between {place} {' '.join(map(byte, asked.takes))}"
+
+    def alternative(self, term):
+        if term.name == "related":
+            self.relations.append(alternative(term))
+            return f"Related {len(self.relations) - 1}"
+        kind, (least, parts) = ("Bytes", term.takes) if term.name == "atleast" else ("BinaryBytes", term.takes[0].takes)
+        first = len(self.pieces)
+        self.pieces += map(self.piece, parts)
+        return f"{kind} {least} {first} {len(parts)}"
+
+    def row(self, shown):
+        group, mime_type, extension, parent, signature = shown
+        first = len(self.alternatives)
+        self.alternatives += map(self.alternative, signature)
+        return f"{group} {self.mime_types.ended(mime_type)} {self.extensions.ended(extension)} {first} {len(signature)} {parent}".rstrip()
+
+
+def lines(listed):
+    return "\n".join(f"    {it};" for it in listed)
+
+
+def data(rows):
     """The file of the rows."""
+    listed = Listed(rows)
+    return DATA.format(
+        parents=wrapped({it[3] for it in rows} - {""}),
+        mime_types=literal(listed.mime_types.whole)[2:-1], extensions=literal(listed.extensions.whole)[2:-1], asked=literal(listed.asked.whole),
+        piece_count=len(listed.pieces), pieces=lines(listed.pieces),
+        alternative_count=len(listed.alternatives), alternatives=lines(listed.alternatives),
+        row_count=len(rows), rows=lines(listed.rows),
+    )
+
+
+def in_lists(rows):
+    """The number of the first relation of each list, and the relations."""
+    asked = Listed(rows).relations
+    return [(first, asked[first : first + RELATIONS_OF_A_LIST]) for first in range(0, len(asked), RELATIONS_OF_A_LIST)]
+
+
+def relations(rows):
+    """The file of the relations."""
     lists = in_lists(rows)
-    relations = {variants()[it.takes[0].name][0] for shown in rows for it in shown[4] if it.name == "related"}
-    head = HEAD.format(parents=wrapped({it[3] for it in rows} - {""}), relations=wrapped(relations), size=ROWS_OF_A_LIST)
-    arms = "\n".join(f"        {k} => Some(({first}, rows_from_{first}()))," for k, (first, _) in enumerate(lists))
-    listed = (LIST.format(first=first, rows="\n".join(map(row, its))) for first, its in lists)
-    return head + "".join(listed) + ALL.format(count=ROWS_OF_A_LIST * len(lists), arms=arms)
+    names = {it.partition("(")[0] for _, its in lists for it in its}
+    return LISTS.format(
+        relations=wrapped(names), size=RELATIONS_OF_A_LIST, count=sum(len(its) for _, its in lists),
+        lists="".join(LIST.format(first=first, relations="\n".join(f"    {it}," for it in its)) for first, its in lists),
+        arms="\n".join(f"        {k} => Some(({first}, relations_from_{first}()))," for k, (first, _) in enumerate(lists)),
+    )
+
+
+def of_rows(count, unfolded):
+    """The lines that compare the rows, some at once."""
+    for first in range(0, count, ROWS_OF_A_LINE * LINES):
+        here = -(-min(ROWS_OF_A_LINE * LINES, count - first) // ROWS_OF_A_LINE)
+        told = "\n".join(["    (refl,"] * here)
+        yield first, here, LINES_OF_ROWS.format(first=first, count=here, unfolded=unfolded, lines=f"{told} tt{')' * here}")
 
 
 def answers(rows, names):
-    """The proof of each list, by the name of its function."""
+    """The proofs of the lists, by their files."""
+    joined, unfolded = ", ".join(names), " ".join(names)
+    parts = list(of_rows(len(rows), unfolded))
+    walked = "past"
+    for first, here, _ in reversed(parts):
+        walked = f"walked listed shown rows further {here} {first} from_{first} ({walked})"
+    yield "ListedRows", OF_ROWS.format(
+        names=joined, unfolded=unfolded, lines="".join(it for _, _, it in parts), walked=walked, past=parts[-1][0] + ROWS_OF_A_LINE * parts[-1][1])
     for first, _ in in_lists(rows):
-        yield f"rows_from_{first}", ANSWERS.format(first=first, names=", ".join(names), unfolded=" ".join(names))
+        yield f"listed/relations/relations_from_{first}/Answers", OF_RELATIONS.format(first=first, names=joined, unfolded=unfolded)

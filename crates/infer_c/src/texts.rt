@@ -22,7 +22,7 @@ macro_rules! pairs {
 
 mod generated;
 
-static NONE: EndedTexts = EndedTexts {
+const NONE: EndedTexts = EndedTexts {
     mime_type: "\0",
     extension: "\0",
 };
@@ -35,23 +35,23 @@ fn pairs() -> &'static [EndedTexts]
 }
 
 /// The texts of built-in row `i`.
-fn at(i: usize) -> &'static EndedTexts
+fn at(i: usize) -> EndedTexts
     requires { i < ROW_COUNT }
-    ensures { option_map ended_shown (slice_get shown i) ≡ Some (ended_listed result.now) }
+    ensures { option_map ended_shown (slice_get shown i) ≡ Some (ended_listed result) }
 {
     laws::numbers();
-    &pairs()[i]
+    pairs()[i]
 }
 
 /// The texts of the row with this number, which are empty if there is no such row.
-pub fn of(row: i32) -> &'static EndedTexts
-    ensures mime_type { result.now.mime_type.now
+pub fn of(row: i32) -> EndedTexts
+    ensures mime_type { result.mime_type.now
         ≡ ended (option_map_or (λ t. t.mime_type) (triple_at row) []) }
-    ensures extension { result.now.extension.now
+    ensures extension { result.extension.now
         ≡ ended (option_map_or (λ t. t.extension) (triple_at row) []) }
 {
     if row < 0 {
-        return &NONE;
+        return NONE;
     }
     let i = row as usize;
     if i < ROW_COUNT {
@@ -59,6 +59,6 @@ pub fn of(row: i32) -> &'static EndedTexts
     }
     match ended_texts(i) {
         Some(texts) => texts,
-        None => &NONE,
+        None => NONE,
     }
 }

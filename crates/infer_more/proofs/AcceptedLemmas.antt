@@ -1,6 +1,6 @@
 -- What an alternative accepts, its signature does.
 use Rattle.infer_more.proofs.Common.{◌≡◌, ℕ, zero, suc, ◌+◌, ◌≤◌, ◌⊎◌, inl, inr, List, [], ◌∷◌, length, subst, arith, cases_lt, FitsAt, signature_listed, Accepted}
-use Rattle.infer_more.specs.declared.signature.Alternative.{Alternative}
+use Rattle.infer_more.specs.declared.listed.Alternative.{Alternative}
 
 module _ (b : List ℕ) where
   -- an alternative past the last fits nothing, and one that fits makes the buffer accepted

@@ -109,5 +109,5 @@ pub use Rattle.infer_more.specs.declared.index.Parentless.{Parentless}
 pub use Rattle.infer_more.specs.declared.index.Rooted.{Rooted}
 pub use Rattle.infer_more.specs.declared.index.generated.TheConstants.{FURTHER_COUNT}
 pub use Rattle.infer_more.specs.declared.samples.TheConstants.{SAMPLE_SIZE}
-pub use Rattle.infer_more.specs.declared.signature.Piece.{Piece}
-pub use Rattle.infer_more.specs.declared.table.FurtherRow.{FurtherRow}
+pub use Rattle.infer_more.specs.declared.listed.Piece.{Piece}
+pub use Rattle.infer_more.specs.declared.listed.FurtherRow.{FurtherRow}

@@ -1,9 +1,9 @@
 -- Elements of lists that are joined, and of parts of a list.
-use Rattle.infer_more.proofs.Common.{◌≡◌, ◌+◌, ◌-◌, ◌<◌, ◌≤◌, ℕ, zero, suc, List, [], ◌∷◌, ◌++◌, Option, None, Some, length, option_map, drop, take, ap, sym, ◌∙◌, refl, arith, slice_get-map, FurtherRow, ended_shown, further, row_listed}
+use Rattle.infer_more.proofs.Common.{◌≡◌, ◌+◌, ◌-◌, ◌<◌, ◌≤◌, ℕ, zero, suc, List, [], ◌∷◌, ◌++◌, Option, None, Some, length, option_map, drop, take, ap, sym, ◌∙◌, refl, arith, slice_get-map, relation_listed}
 use Rattle.std.proofs.Common.{slice_get}
-use Rattle.infer_more.specs.Ended.{ended_listed}
-use Rattle.infer_more.specs.Listed.{AreEnded, AreRows}
-use Rattle.infer_more.specs.declared.table.listed.TheConstants.{ROWS_OF_A_LIST}
+use Rattle.infer_formats.specs.declared.relation.Relation as code
+use Rattle.infer_more.specs.Listed.{AreRelations, relations}
+use Rattle.infer_more.specs.declared.listed.relations.TheConstants.{RELATIONS_OF_A_LIST}
 
 module _ {A : Type 0} where
   pub slice_get_front : (xs ys : List A) (i : ℕ) (x : A) → slice_get xs i ≡ Some x → slice_get (xs ++ ys) i ≡ Some x
@@ -34,20 +34,11 @@ module _ {A : Type 0} where
   pub slice_get_part : (xs : List A) (k n j : ℕ) → j < n → slice_get (take n (drop k xs)) j ≡ slice_get xs (k + j)
   slice_get_part xs k n j lt = slice_get_first (drop k xs) n j lt ∙ slice_get_drop xs k j
 
--- what stands at a place of a list of rows, or that nothing does, is so of all rows
-pub found_in : (first i : ℕ) (rows : List FurtherRow) (o : Option FurtherRow) → first ≤ i → i < first + ROWS_OF_A_LIST → AreRows first rows
-    → slice_get rows (i - first) ≡ o → option_map row_listed o ≡ slice_get further i
-found_in first i rows o low high are e =
-    let listed = slice_get-map row_listed rows (i - first) ∙ ap (option_map row_listed) e in
-    let part = slice_get_part further first ROWS_OF_A_LIST (i - first) (omega (arith, low, high)) in
-    let place : first + (i - first) ≡ i = omega (arith, low) in
-    sym listed ∙ (ap (λ xs. slice_get xs (i - first)) are ∙ (part ∙ ap (slice_get further) place))
-
--- the row that stands in a list has its texts with their zeros
-pub ended_here : (rows : List FurtherRow) (j : ℕ) (row : FurtherRow) → AreEnded rows → slice_get rows j ≡ Some row
-    → ended_listed row.ended ≡ ended_shown (row_listed row).shows
-ended_here rows j row are e =
-    let texts = slice_get-map (λ (r : FurtherRow). ended_listed r.ended) rows j ∙ ap (option_map (λ (r : FurtherRow). ended_listed r.ended)) e in
-    let shown = slice_get-map (λ (r : FurtherRow). ended_shown (row_listed r).shows) rows j ∙ ap (option_map (λ (r : FurtherRow). ended_shown (row_listed r).shows)) e in
-    let same = sym texts ∙ (ap (λ l. slice_get l j) are ∙ shown) in
-    cc
+-- what stands at a place of a list of relations, or that nothing does, is so of all of them
+pub found_in : (first number : ℕ) (list : List code.Relation) (o : Option code.Relation) → first ≤ number → number < first + RELATIONS_OF_A_LIST
+    → AreRelations first list → slice_get list (number - first) ≡ o → option_map relation_listed o ≡ slice_get relations number
+found_in first number list o low high are e =
+    let listed = slice_get-map relation_listed list (number - first) ∙ ap (option_map relation_listed) e in
+    let part = slice_get_part relations first RELATIONS_OF_A_LIST (number - first) (omega (arith, low, high)) in
+    let place : first + (number - first) ≡ number = omega (arith, low) in
+    sym listed ∙ (ap (λ xs. slice_get xs (number - first)) are ∙ (part ∙ ap (slice_get relations) place))

@@ -1,5 +1,8 @@
 pub mod Common
 pub mod ListLemmas
+pub mod AsciiLemmas
+pub mod ListedLemmas
+pub mod ListedRows
 pub mod AcceptedLemmas
 pub mod JoinedLemmas
 pub mod NamedLemmas

@@ -15,13 +15,13 @@ use Rattle.infer_sig.specs.Places.{StandsByPlace}
 use Rattle.infer_sig.specs.Signature as fixed
 use Rattle.infer_sig.specs.Signature.{any_of, byte, fits, stands, text}
 use Rattle.infer_more.proofs.AcceptedLemmas.{accepted_at}
-use Rattle.infer_more.specs.Listed.{bytes_listed}
-use Rattle.infer_more.specs.Why.{IsAlikeAt, IsTold, IsToldAt, LacksBytes, part_of}
-use Rattle.infer_more.specs.declared.signature.Alternative.{Alternative}
-use Rattle.infer_more.specs.declared.signature.Alternative.TheVariants.{BinaryBytes, Bytes, Related}
-use Rattle.infer_more.specs.declared.signature.Bytes as listed
-use Rattle.infer_more.specs.declared.signature.Piece.{Piece}
-use Rattle.infer_more.specs.declared.signature.Piece.TheVariants.{At, Between, OneOf}
+use Rattle.infer_more.specs.Listed.{asked, bytes_listed, pieces_of}
+use Rattle.infer_more.specs.Why.{IsAlikeAt, IsTold, IsToldAt, HasBytes, HasPiece, LacksBytes}
+use Rattle.infer_more.specs.declared.listed.Alternative.{Alternative}
+use Rattle.infer_more.specs.declared.listed.Alternative.TheVariants.{BinaryBytes, Bytes, Related}
+use Rattle.infer_more.specs.declared.listed.Bytes as listed
+use Rattle.infer_more.specs.declared.listed.Piece.{Piece}
+use Rattle.infer_more.specs.declared.listed.Piece.TheVariants.{At, Between, OneOf}
 
 -- buffers that begin with what tells of a row are accepted alike
 alike_with : (o : Option Further) (f v w : List ℕ) → IsBuffer v → IsBuffer w → MatchOption o (Unit {0}) (λ r. IsTold r.signature f)
@@ -81,14 +81,9 @@ module _ (by_place : (place : ℕ) (t b : List ℕ) → IsTrue (stands place t b
             told.1 (λ k lt. one_byte place low has.0 value k lt),
       )
 
-  piece_told : (p : Piece) → IsTrue (has_part b (part_listed p)) ↔ HasPart b (part_of p)
-  piece_told (At place t) = by_place place t.now b
-  piece_told (OneOf place xs) = byte_told place (any_of xs.now)
-  piece_told (Between place low high) = range_told place low high (low == high) refl
-
-  pub bytes_told : (a : listed.Bytes) → IsTrue (fits b (bytes_listed a)) ↔ HasParts part_of b a.least a.pieces.now
+  pub bytes_told : (a : listed.Bytes) → IsTrue (fits b (bytes_listed a)) ↔ HasBytes b a
   bytes_told a =
-      let pieces = all_told (has_part b) part_listed (λ p. HasPart b (part_of p)) piece_told a.pieces.now in (
+      let pieces = all_told (has_part b) part_listed (λ p. HasPiece p b) (λ p. (λ h. h, λ h. h)) (pieces_of a) in (
         λ h. let both = and_parts _ _ h in (leb-true a.least (length b) both.0, pieces.0 both.1),
         λ has. and_from _ _ (le-leb a.least (length b) has.0) (pieces.1 has.1),
       )
@@ -106,7 +101,7 @@ module _ (by_place : (place : ℕ) (t b : List ℕ) → IsTrue (stands place t b
     | inr later ↦ lacks_all xs (All-tail (LacksBytes b) x xs all) later
   ]
 
-  pub has_some : (xs : List Alternative) (a : listed.Bytes) → Any (λ x. x ≡ Bytes a) xs → HasParts part_of b a.least a.pieces.now → Accepted (signature_listed xs) b
+  pub has_some : (xs : List Alternative) (a : listed.Bytes) → Any (λ x. x ≡ Bytes a) xs → HasBytes b a → Accepted (signature_listed xs) b
   has_some xs a found has =
       let is : slice_get xs found.0 ≡ Some found.1 = slice_get_read xs (length xs) found.0 found.1 refl found.2 (sym found.3) in
       accepted_at b xs found.0 (subst (λ o. MatchOption o ⊥ (λ x. Fits (alternative_listed x) b)) (sym is)

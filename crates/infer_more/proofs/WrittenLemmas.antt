@@ -12,7 +12,8 @@ use Rattle.infer_sig.specs.Signature as fixed
 use Rattle.infer_more.specs.Samples.{AllReach, HasNoSample, has_room_after, joined_sample, prolog, row_model}
 use Rattle.infer_formats.specs.Relation.{least_of}
 use Rattle.infer.specs.declared.samples.TheConstants as built_in_samples
-use Rattle.infer_more.specs.declared.signature.Alternative as Listed
+use Rattle.infer_more.specs.Listed.{alternatives_of}
+use Rattle.infer_more.specs.declared.listed.Alternative as Listed
 use Rattle.infer_more.proofs.IndexLemmas.{both_left, both_right}
 
 -- the sample of a row that is found
@@ -58,10 +59,10 @@ counted_parent (Some s) = refl
 -- ---- further rows
 
 -- the model of the first alternative
-first_model : (row : FurtherRow) (a : Listed.Alternative) (before : List ℕ) → Some a ≡ slice_get row.signature.now 0 → before ≡ prolog row.parent
+first_model : (row : FurtherRow) (a : Listed.Alternative) (before : List ℕ) → Some a ≡ slice_get (alternatives_of row) 0 → before ≡ prolog row.parent
     → row_model (row_listed row) ≡ Some (model before (alternative_listed a))
 first_model row a before first is =
-    ap (option_map (model (prolog row.parent))) (slice_get-map alternative_listed row.signature.now 0 ∙ ap (option_map alternative_listed) (sym first))
+    ap (option_map (model (prolog row.parent))) (slice_get-map alternative_listed (alternatives_of row) 0 ∙ ap (option_map alternative_listed) (sym first))
     ∙ ap (λ v. Some (model v (alternative_listed a))) (sym is)
 
 -- each part is written over a place that is there
@@ -78,7 +79,7 @@ length-parts n [] b e h = e
 length-parts n (part ∷ parts) b e h =
     length-parts n parts (with_part part b) (length-part n part b e (both_left (is_inside n part) _ h)) (both_right (is_inside n part) _ h)
 
-module _ (row : FurtherRow) (a : Listed.Alternative) (before : List ℕ) (first : Some a ≡ slice_get row.signature.now 0) (is : before ≡ prolog row.parent)
+module _ (row : FurtherRow) (a : Listed.Alternative) (before : List ℕ) (first : Some a ≡ slice_get (alternatives_of row) 0) (is : before ≡ prolog row.parent)
     (room : IsTrue (has_room (row_listed row))) where
   room_for : IsTrue (has_room_after (length (parent_sample row.parent)) (model before (alternative_listed a)))
   room_for = subst (λ o. IsTrue (option_map_or (has_room_after (length (parent_sample row.parent))) o false)) (first_model row a before first is) room
@@ -101,7 +102,7 @@ rest_zeros p n low le =
     ap (λ k. drop k (p ++ zeros (SAMPLE_SIZE - length p))) parted ∙ drop-append-add p (zeros (SAMPLE_SIZE - length p)) (n - length p)
     ∙ drop-replicate (n - length p) (SAMPLE_SIZE - length p) 0 ∙ ap zeros left
 
-module _ (row : FurtherRow) (a : Listed.Alternative) (before : List ℕ) (n : ℕ) (out new : List ℕ) (first : Some a ≡ slice_get row.signature.now 0)
+module _ (row : FurtherRow) (a : Listed.Alternative) (before : List ℕ) (n : ℕ) (out new : List ℕ) (first : Some a ≡ slice_get (alternatives_of row) 0)
     (is : before ≡ prolog row.parent) (room : IsTrue (has_room (row_listed row)))
     (many : n ≡ max (length (parent_sample row.parent)) (least_of (model before (alternative_listed a))))
     (fronted : out ≡ parent_sample row.parent ++ zeros (SAMPLE_SIZE - length (parent_sample row.parent))) where

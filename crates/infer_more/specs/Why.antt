@@ -1,21 +1,20 @@
 -- Which bytes of a buffer decide its wider answer.
-use Rattle.std.specs.Prelude.{◌↔◌, ◌⊎◌, ℕ, List, Option, MatchOption, slice_get}
+use Rattle.std.specs.Prelude.{◌↔◌, ◌⊎◌, ℕ, IsTrue, List, Option, MatchOption, slice_get}
 use Rattle.infer_deep.specs.Signatures.{MayBecome}
 use Rattle.infer_evidence.specs.Evidence.{AgreesOn}
 use Rattle.infer_evidence.specs.declared.ranges.Evidence.{Evidence}
-use Rattle.infer_evidence.specs.declared.signature.Part.{Part}
-use Rattle.infer_evidence.specs.declared.signature.Part.TheVariants.{Byte, Text}
-use Rattle.infer_evidence.specs.declared.signature.Set.TheVariants as set
 use Rattle.infer_formats.specs.Open.{Stays}
 use Rattle.infer.specs.Buffer.{IsBuffer}
 use Rattle.infer_notation.specs.Alternative.{Accepted, Alternative}
 use Rattle.infer_more.specs.Table.{further}
 use Rattle.infer_more.specs.Wider.{IsWider}
 use Rattle.infer_evidence.specs.Weighed.{HasParts}
-use Rattle.infer_more.specs.declared.signature.Alternative as code
-use Rattle.infer_more.specs.declared.signature.Alternative.TheVariants.{BinaryBytes, Bytes, Related}
-use Rattle.infer_more.specs.declared.signature.Piece.{Piece}
-use Rattle.infer_more.specs.declared.signature.Piece.TheVariants.{At, OneOf, Between}
+use Rattle.infer_sig.specs.Signature.{has_part}
+use Rattle.infer_more.specs.Listed.{part_listed, pieces_of}
+use Rattle.infer_more.specs.declared.listed.Alternative as code
+use Rattle.infer_more.specs.declared.listed.Alternative.TheVariants.{BinaryBytes, Bytes, Related}
+use Rattle.infer_more.specs.declared.listed.Bytes as listed
+use Rattle.infer_more.specs.declared.listed.Piece.{Piece}
 
 -- every buffer that agrees with b on the evidence has this wider answer
 abbrev pub Decides : Evidence → List ℕ → Option ℕ → Type 0
@@ -37,14 +36,16 @@ IsTold signature b = Stays (Accepted signature) b ⊎ ¬ MayBecome (Accepted sig
 abbrev pub IsToldAt : ℕ → List ℕ → Type 0
 IsToldAt i b = MatchOption (slice_get further i) (Unit {0}) (λ r. IsTold r.signature b)
 
--- the piece as a part
-abbrev pub part_of : Piece → Part
-part_of (At place t) = Text place t
-part_of (OneOf place xs) = Byte place (set.AnyOf xs)
-part_of (Between place low high) = Byte place (set.Between low high)
+-- the buffer has what the piece asks
+abbrev pub HasPiece : Piece → List ℕ → Type 0
+HasPiece p b = IsTrue (has_part b (part_listed p))
+
+-- and the least length, and what each piece asks
+abbrev pub HasBytes : List ℕ → listed.Bytes → Type 0
+HasBytes b a = HasParts HasPiece b a.least (pieces_of a)
 
 -- the alternative asks for bytes at fixed places alone, and the buffer has them not
 abbrev pub LacksBytes : List ℕ → code.Alternative → Type 0
-LacksBytes b (Bytes a) = ¬ HasParts part_of b a.least a.pieces.now
+LacksBytes b (Bytes a) = ¬ HasBytes b a
 LacksBytes b (BinaryBytes a) = ⊥
 LacksBytes b (Related r) = ⊥

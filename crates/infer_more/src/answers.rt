@@ -14,9 +14,9 @@ ghost use Rattle.infer_more.specs.declared.index.generated.TheConstants.{FURTHER
 
 use crate::index::asked::found_parentless;
 use crate::index::{FURTHER_COUNT, found_below};
-use crate::signature;
+use crate::listed::{EndedTexts, FurtherRow, alternatives_of, ended_at, row_at};
 use crate::signature::ANY;
-use crate::table::{EndedTexts, FurtherRow, row_at};
+use crate::{listed, signature};
 use infer::Type;
 use infer::rows::{ROW_COUNT, numbers as law_numbers};
 
@@ -67,7 +67,12 @@ fn never(_buf: &[u8]) -> bool {
 fn type_of(row: &FurtherRow) -> Type
     ensures { triple_of result ≡ (row_listed row.now).shows }
 {
-    Type::new(row.matcher_type, row.mime_type, row.extension, never)
+    Type::new(
+        row.matcher_type,
+        listed::mime_type(row),
+        listed::extension(row),
+        never,
+    )
 }
 
 /// The type of further row `i`, counted among these.
@@ -96,19 +101,16 @@ pub fn row(i: usize) -> Option<Type>
 
 /// The texts of further row `i`, each with a zero after it.
 #[tactic(auto, using(crate::proofs::ShownLemmas::shown_further))]
-pub fn ended_texts(i: usize) -> Option<&'static EndedTexts>
+pub fn ended_texts(i: usize) -> Option<EndedTexts>
     ensures built_in { i < ROW_COUNT → result ≡ None }
-    ensures further { ROW_COUNT ≤ i → option_map (λ texts. ended_listed texts.now) result
+    ensures further { ROW_COUNT ≤ i → option_map ended_listed result
         ≡ option_map ended_shown (slice_get shown i) }
 {
     law_numbers();
     if i < ROW_COUNT {
         return None;
     }
-    match row_at(i - ROW_COUNT) {
-        Some(row) => Some(&row.ended),
-        None => None,
-    }
+    ended_at(i - ROW_COUNT)
 }
 
 /// The number of the parent of row `i`.
@@ -132,7 +134,7 @@ pub fn accepts(buf: &[u8], i: usize) -> bool
         return infer::accepts(buf, i);
     }
     match row_at(i - ROW_COUNT) {
-        Some(row) => signature::accepts::<ANY>(row.signature, buf),
+        Some(row) => signature::accepts::<ANY>(alternatives_of(row), buf),
         None => false,
     }
 }
@@ -151,7 +153,7 @@ fn shows_extension(i: usize, extension: &str) -> bool
         × HoldsAt (λ r. r.shows.extension ≡ extension.now) further i) }
 {
     match row_at(i) {
-        Some(row) => is_same(row.extension, extension),
+        Some(row) => is_same(listed::extension(row), extension),
         None => false,
     }
 }
@@ -175,7 +177,7 @@ fn shows_mime_type(i: usize, mime_type: &str) -> bool
         × HoldsAt (λ r. r.shows.mime_type ≡ mime_type.now) further i) }
 {
     match row_at(i) {
-        Some(row) => is_same(row.mime_type, mime_type),
+        Some(row) => is_same(listed::mime_type(row), mime_type),
         None => false,
     }
 }

@@ -9,10 +9,10 @@ ghost use Rattle.infer_notation.specs.Alternative.{Accepted};
 ghost use Rattle.infer_more.specs.Table.{further};
 
 use crate::index::FURTHER_COUNT;
+use crate::listed::{FurtherRow, alternatives_of, row_at};
 use crate::open::{may_become_accepted, stays_accepted};
 use crate::signature;
 use crate::signature::ANY;
-use crate::table::{FurtherRow, row_at};
 use infer::rows::ROW_COUNT;
 
 /// Whether no bytes after the buffer change its wider answer, as far as this tells: a yes is certain.
@@ -54,7 +54,8 @@ pub(super) fn is_stable(row: &FurtherRow, buf: &[u8]) -> bool
     requires sound { IsTrue (is_row_sound (row_listed row.now)) }
     ensures { IsTrue result → Stays (Accepted (row_listed row.now).signature) buf.now }
 {
-    signature::accepts::<ANY>(row.signature, buf) && stays_accepted(row.signature, buf)
+    let signature = alternatives_of(row);
+    signature::accepts::<ANY>(signature, buf) && stays_accepted(signature, buf)
 }
 
 /// The first row that may widen the answer.
@@ -88,7 +89,7 @@ fn row_may_widen(row: &FurtherRow, parent: Option<usize>, buf: &[u8]) -> bool
     ensures may { MayWiden parent buf.now (row_listed row.now) → IsTrue result }
     ensures below { IsTrue result → (row_listed row.now).parent ≡ parent }
 {
-    row.parent == parent && may_become_accepted(row.signature, buf)
+    row.parent == parent && may_become_accepted(alternatives_of(row), buf)
 }
 
 /// Whether some bytes after the buffer, or none, may make row `i`, built-in or further, accept it: a no is certain, and so
@@ -102,7 +103,7 @@ pub fn may_become(buf: &[u8], i: usize) -> bool
         return infer::may_become(buf, i);
     }
     match row_at(i - ROW_COUNT) {
-        Some(row) => may_become_accepted(row.signature, buf),
+        Some(row) => may_become_accepted(alternatives_of(row), buf),
         None => false,
     }
 }

@@ -32,6 +32,7 @@ mod answers;
 mod decided;
 mod index;
 pub mod laws;
+mod listed;
 mod open;
 mod read;
 mod samples;
@@ -44,12 +45,12 @@ pub use index::FURTHER_COUNT;
 use infer::{FRONT, Fault, Infer, Type, Watched};
 pub use infer_formats::text;
 pub use infer_notation::Reason;
+pub use listed::EndedTexts;
 pub use samples::{SAMPLE_SIZE, sample};
 use std::alloc::Allocator;
 use std::io;
 use std::io::Read;
 use std::rt::Files;
-pub use table::EndedTexts;
 pub use types::{Mistake, Rows, Types};
 pub use why::evidence;
 
@@ -89,9 +90,9 @@ pub fn row(i: usize) -> Option<Type>
 }
 
 /// The texts of further row `i`, each with a zero after it, and `None` of any other number.
-pub fn ended_texts(i: usize) -> Option<&'static EndedTexts>
+pub fn ended_texts(i: usize) -> Option<EndedTexts>
     ensures built_in { i < ROW_COUNT → result ≡ None }
-    ensures further { ROW_COUNT ≤ i → option_map (λ texts. ended_listed texts.now) result
+    ensures further { ROW_COUNT ≤ i → option_map ended_listed result
         ≡ option_map ended_shown (slice_get shown i) }
 {
     answers::ended_texts(i)

@@ -8,7 +8,8 @@ ghost use Rattle.infer_more.specs.Open.{are_fixed, are_sound, is_fixed, is_one_o
 ghost use Rattle.infer_notation.specs.Alternative.{Accepted, Fits};
 
 use crate::laws::lasting;
-use crate::signature::{Alternative, Bytes, Piece, is_among, is_between};
+use crate::listed::{Alternative, Bytes, Piece, asked, pieces_of, relation_at};
+use crate::signature::{is_among, is_between};
 use infer_deep::places::may_stand_at;
 
 /// Whether some bytes after the buffer, or none, may make the signature accept it: a no is certain, and so is a yes of
@@ -39,7 +40,7 @@ fn may_fit(alternative: &Alternative, buf: &[u8]) -> bool
     match alternative {
         Alternative::Bytes(bytes) => may_have_bytes(bytes, buf),
         Alternative::BinaryBytes(bytes) => may_have_bytes(bytes, buf),
-        Alternative::Related(relation) => relation.may_fit(buf),
+        Alternative::Related(number) => relation_at(*number).may_fit(buf),
     }
 }
 
@@ -48,7 +49,7 @@ fn may_fit(alternative: &Alternative, buf: &[u8]) -> bool
 fn may_have_bytes(bytes: &Bytes, buf: &[u8]) -> bool
     ensures { result ≡ may_fit buf.now (bytes_listed bytes.now) }
 {
-    for piece in bytes.pieces {
+    for piece in pieces_of(bytes) {
         if !may_have(piece, buf) {
             return false;
         }
@@ -61,8 +62,10 @@ fn may_have(piece: &Piece, buf: &[u8]) -> bool
     ensures { result ≡ may_have buf.now (part_listed piece.now) }
 {
     match piece {
-        Piece::OneOf(place, bytes) => buf.len() <= *place || is_among(buf[*place], bytes),
-        Piece::At(place, text) => may_stand_at(buf, text, *place),
+        Piece::OneOf(place, bytes) => {
+            buf.len() <= *place || is_among(buf[*place], asked(*bytes))
+        }
+        Piece::At(place, text) => may_stand_at(buf, asked(*text), *place),
         Piece::Between(place, low, high) => {
             buf.len() <= *place || is_between(buf[*place], *low, *high)
         }
@@ -92,6 +95,6 @@ fn stays(alternative: &Alternative, buf: &[u8]) -> bool
     match alternative {
         Alternative::Bytes(_) => true,
         Alternative::BinaryBytes(_) => true,
-        Alternative::Related(relation) => relation.stays(buf),
+        Alternative::Related(number) => relation_at(*number).stays(buf),
     }
 }

@@ -15,8 +15,9 @@ ghost use Rattle.infer.specs.declared.samples.TheConstants as built_in_samples;
 ghost use Rattle.infer_more.specs.declared.samples.TheConstants.{SAMPLE_SIZE};
 
 use crate::laws;
-use crate::signature::{Alternative, Piece};
-use crate::table::{FurtherRow, row_at};
+use crate::listed::{
+    Alternative, FurtherRow, Piece, alternatives_of, asked, pieces_of, relation_at, row_at,
+};
 use infer::rows::{DLL, EPUB_ARCHIVE, HTML, ROW_COUNT, XML};
 use infer_formats::model::Model;
 
@@ -37,8 +38,8 @@ fn put_piece(piece: &Piece, out: &mut [u8])
     ensures { out.new ≡ with_part (part_listed piece.now) out.old }
 {
     match piece {
-        Piece::At(place, text) => put(*place, text, out),
-        Piece::OneOf(place, bytes) => match bytes.first() {
+        Piece::At(place, text) => put(*place, asked(*text), out),
+        Piece::OneOf(place, bytes) => match asked(*bytes).first() {
             Some(byte) => put(*place, &[*byte], out),
             None => put(*place, &[0], out),
         },
@@ -88,9 +89,9 @@ fn put_model(prolog: &'static [u8], alternative: &Alternative, out: &mut [u8])
         ≡ with_parts (parts_of (model prolog.now (alternative_listed alternative.now))) out.old }
 {
     match alternative {
-        Alternative::Bytes(bytes) => put_pieces(bytes.pieces, out),
-        Alternative::BinaryBytes(bytes) => put_pieces(bytes.pieces, out),
-        Alternative::Related(relation) => put_texts(&relation.model(prolog), out),
+        Alternative::Bytes(bytes) => put_pieces(pieces_of(bytes), out),
+        Alternative::BinaryBytes(bytes) => put_pieces(pieces_of(bytes), out),
+        Alternative::Related(number) => put_texts(&relation_at(*number).model(prolog), out),
     }
 }
 
@@ -102,7 +103,7 @@ fn model_length(prolog: &[u8], alternative: &Alternative) -> usize
     match alternative {
         Alternative::Bytes(bytes) => bytes.least,
         Alternative::BinaryBytes(bytes) => bytes.least,
-        Alternative::Related(relation) => relation.model(prolog).least,
+        Alternative::Related(number) => relation_at(*number).model(prolog).least,
     }
 }
 
@@ -144,7 +145,7 @@ fn of_row(row: &FurtherRow, out: &mut [u8; SAMPLE_SIZE]) -> Option<usize>
     ensures fits { IfSome result (λ n. n ≤ SAMPLE_SIZE) }
     ensures some { IsSome result }
 {
-    let alternative = row.signature.first()?;
+    let alternative = alternatives_of(row).first()?;
     let prolog = prolog(row.parent);
     let n = parent(row.parent, out).max(model_length(prolog, alternative));
     put_model(prolog, alternative, &mut out[..n]);

@@ -1,4 +1,4 @@
-//! Signatures as data, and one function that decides them all.
+//! One function that decides all signatures.
 ghost use Rattle.std.specs.Prelude.{◌≡◌, ◌↔◌, ◌≤◌, ◌||◌, ℕ, IsTrue, length, map, not};
 ghost use Rattle.std.specs.List.{list_all};
 ghost use Rattle.infer_sig.specs.Signature.{allows, any_of, between, fits, has_part};
@@ -6,33 +6,9 @@ ghost use Rattle.infer_more.specs.Listed.{FitsAt, alternative_listed, bytes_list
 ghost use Rattle.infer_more.specs.Row.{is_closed, is_closed_alternative, is_inside};
 ghost use Rattle.infer_notation.specs.Alternative.{Accepted, Fits};
 
+use crate::listed::{Alternative, Bytes, Piece, asked, pieces_of, relation_at};
 use infer_deep::places::same_text;
-use infer_formats::relation::Relation;
 use infer_formats::text::is_binary;
-
-/// What a signature asks of places.
-#[derive(Drop)]
-pub(crate) enum Piece {
-    /// At the place one of these bytes.
-    OneOf(usize, &'static [u8]),
-    /// These bytes, from the place on.
-    At(usize, &'static [u8]),
-    /// At the place a byte from the first to the second.
-    Between(usize, u8, u8),
-}
-
-/// A least length, and pieces.
-pub(crate) struct Bytes {
-    pub least: usize,
-    pub pieces: &'static [Piece],
-}
-
-/// One of the alternatives of a signature: bytes at fixed places, these and a byte of binary data, or a relation.
-pub(crate) enum Alternative {
-    Bytes(Bytes),
-    BinaryBytes(Bytes),
-    Related(Relation<'static>),
-}
 
 /// In the place of a row's number, where the row is not known.
 pub(crate) const ANY: usize = usize::MAX;
@@ -97,7 +73,7 @@ fn fits(alternative: &Alternative, buf: &[u8]) -> bool
     match alternative {
         Alternative::Bytes(bytes) => has_bytes(bytes, buf),
         Alternative::BinaryBytes(bytes) => has_bytes(bytes, buf) && is_binary(buf),
-        Alternative::Related(relation) => relation.fits(buf),
+        Alternative::Related(number) => relation_at(*number).fits(buf),
     }
 }
 
@@ -108,7 +84,7 @@ fn has_bytes(bytes: &Bytes, buf: &[u8]) -> bool
     requires { IsTrue (is_closed (bytes_listed bytes.now)) }
     ensures { result ≡ fits buf.now (bytes_listed bytes.now) }
 {
-    bytes.least <= buf.len() && has_every(bytes.pieces, buf)
+    bytes.least <= buf.len() && has_every(pieces_of(bytes), buf)
 }
 
 /// Whether it has what each piece asks, all of it within the buffer. The texts have a loop of their own, so that the
@@ -161,7 +137,7 @@ fn has_text(piece: &Piece, buf: &[u8]) -> bool
     ensures { result ≡ (not (is_text piece.now) || has_part buf.now (part_listed piece.now)) }
 {
     match piece {
-        Piece::At(place, text) => same_text(buf, text, *place),
+        Piece::At(place, text) => same_text(buf, asked(*text), *place),
         _ => true,
     }
 }
@@ -174,7 +150,7 @@ fn has_single(piece: &Piece, buf: &[u8]) -> bool
     ensures { result ≡ (is_text piece.now || has_part buf.now (part_listed piece.now)) }
 {
     match piece {
-        Piece::OneOf(place, bytes) => is_among(buf[*place], bytes),
+        Piece::OneOf(place, bytes) => is_among(buf[*place], asked(*bytes)),
         Piece::At(_, _) => true,
         Piece::Between(place, low, high) => is_between(buf[*place], *low, *high),
     }

@@ -3,7 +3,6 @@ ghost use Rattle.std.specs.Prelude.{◌≡◌, ◌↔◌, ◌+◌, ◌<◌, All,
 ghost use Rattle.infer.specs.First.{IsFirstOf};
 ghost use Rattle.infer.specs.declared.table.rows.TheConstants.{ROW_COUNT};
 ghost use Rattle.infer_evidence.specs.Evidence.{IsOf};
-ghost use Rattle.infer_evidence.specs.Weighed.{HasParts};
 ghost use Rattle.infer_notation.specs.Alternative.{Accepted};
 ghost use Rattle.infer_more.specs.Index.{FindsBelow, ascends, entry_row};
 ghost use Rattle.infer_more.specs.declared.index.Below.TheVariants as ways;
@@ -11,29 +10,32 @@ ghost use Rattle.infer_more.specs.Listed.{row_listed, signature_listed};
 ghost use Rattle.infer_more.specs.Open.{is_row_sound};
 ghost use Rattle.infer_more.specs.Row.{is_row_closed};
 ghost use Rattle.infer_more.specs.Table.{further};
-ghost use Rattle.infer_more.specs.Why.{Decides, IsAlikeAt, IsTold, IsToldAt, LacksBytes, Tells, part_of};
+ghost use Rattle.infer_more.specs.Why.{Decides, HasBytes, HasPiece, IsAlikeAt, IsTold, IsToldAt, LacksBytes, Tells};
 ghost use Rattle.infer_more.specs.Wider.{IsWider, IsWidest, Widens, WidensAt};
 ghost use Rattle.infer_more.specs.declared.index.generated.TheConstants.{FURTHER_COUNT};
-ghost use Rattle.infer_more.specs.declared.signature.Alternative.TheVariants as listed;
+ghost use Rattle.infer_more.specs.declared.listed.Alternative.TheVariants as listed;
 
 use crate::decided::is_stable;
 use crate::index::{Below, Entry, FURTHER_COUNT, is_parent, way_below};
+use crate::listed::{
+    Alternative, Bytes, FurtherRow, Piece, alternatives_of, asked, pieces_of, row_at,
+};
 use crate::open::may_become_accepted;
 use crate::signature;
-use crate::signature::{ANY, Alternative, Bytes, Piece};
-use crate::table::{FurtherRow, row_at};
+use crate::signature::ANY;
 use infer::rows::{ROW_COUNT, numbers as law_numbers};
 use infer_evidence::{
     AsPart, Evidence, Part, Range, Set, Told, accept, fits, refuse, shortest_front,
 };
 
 impl AsPart for Piece {
-    ghost part = { λ p. part_of p };
+    ghost asks = { HasPiece };
 
     fn part(&self) -> Part {
+        infer_sig::laws::by_place();
         match self {
-            Piece::OneOf(place, bytes) => Part::Byte(*place, Set::AnyOf(bytes)),
-            Piece::At(place, text) => Part::Text(*place, text),
+            Piece::OneOf(place, bytes) => Part::Byte(*place, Set::AnyOf(asked(*bytes))),
+            Piece::At(place, text) => Part::Text(*place, asked(*text)),
             Piece::Between(place, low, high) => Part::Byte(*place, Set::Between(*low, *high)),
         }
     }
@@ -48,7 +50,7 @@ fn tells(row: &FurtherRow, accepts: bool, front: &[u8]) -> bool
     if accepts {
         return is_stable(row, front);
     }
-    !may_become_accepted(row.signature, front)
+    !may_become_accepted(alternatives_of(row), front)
 }
 
 /// What tells of the further row with this number: of one that accepts the buffer that it does whatever follows, and of
@@ -98,12 +100,12 @@ fn number(i: usize) -> Option<usize>
 
 /// The first alternative of bytes at fixed places that the buffer has.
 fn bytes_held<'a>(signature: &'a [Alternative], buf: &[u8]) -> Option<&'a Bytes>
-    ensures { IfSome result (λ held. HasParts part_of buf.now held.now.least held.now.pieces.now
+    ensures { IfSome result (λ held. HasBytes buf.now held.now
         × Any (λ a. a ≡ listed.Bytes held.now) signature.now) }
 {
     for alternative in signature {
         if let Alternative::Bytes(bytes) = alternative
-            && fits(bytes.least, bytes.pieces, buf)
+            && fits(bytes.least, pieces_of(bytes), buf)
         {
             return Some(bytes);
         }
@@ -117,7 +119,7 @@ fn lacks_bytes(signature: &[Alternative], buf: &[u8]) -> bool
 {
     for alternative in signature {
         match alternative {
-            Alternative::Bytes(bytes) if !fits(bytes.least, bytes.pieces, buf) => {}
+            Alternative::Bytes(bytes) if !fits(bytes.least, pieces_of(bytes), buf) => {}
             _ => return false,
         }
     }
@@ -131,7 +133,7 @@ fn refuse_bytes(alternative: &Alternative, i: usize, buf: &[u8], evidence: &mut 
     ensures inside { IsOf evidence.old buf.now → IsOf evidence.new buf.now }
 {
     if let Alternative::Bytes(bytes) = alternative {
-        refuse(bytes.least, bytes.pieces, buf, number(i), evidence);
+        refuse(bytes.least, pieces_of(bytes), buf, number(i), evidence);
     }
 }
 
@@ -157,15 +159,16 @@ fn weigh_row(row: &FurtherRow, i: usize, buf: &[u8], evidence: &mut Evidence) ->
     ensures inside { IsOf evidence.old buf.now → IsOf evidence.new buf.now }
 {
     infer_sig::laws::by_place();
-    if lacks_bytes(row.signature, buf) {
-        refuse_all(row.signature, i, buf, evidence);
+    let signature = alternatives_of(row);
+    if lacks_bytes(signature, buf) {
+        refuse_all(signature, i, buf, evidence);
         return false;
     }
-    if let Some(bytes) = bytes_held(row.signature, buf) {
-        accept(bytes.least, bytes.pieces, buf, number(i), evidence);
+    if let Some(bytes) = bytes_held(signature, buf) {
+        accept(bytes.least, pieces_of(bytes), buf, number(i), evidence);
         return true;
     }
-    let accepts = signature::accepts::<ANY>(row.signature, buf);
+    let accepts = signature::accepts::<ANY>(signature, buf);
     weigh_front(&Acceptance { i, accepts }, buf, evidence);
     accepts
 }
@@ -181,7 +184,7 @@ fn refuse_by_first(row: &FurtherRow, i: usize, buf: &[u8], evidence: &mut Eviden
         (λ c. IsTrue result → ¬ Accepted (row_listed row.now).signature c) }
     ensures inside { IsOf evidence.old buf.now → IsOf evidence.new buf.now }
 {
-    if buf.is_empty() || may_become_accepted(row.signature, &buf[..1]) {
+    if buf.is_empty() || may_become_accepted(alternatives_of(row), &buf[..1]) {
         return false;
     }
     evidence.ask(Range::new(0, 1, number(i)));

@@ -1,7 +1,6 @@
 pub mod SmallLemmas
 pub mod ListLemmas
 pub mod StretchLemmas
-pub mod AsciiLemmas
 pub mod FindLemmas
 pub mod MarkLemmas
 pub mod Placed

@@ -1,13 +1,14 @@
 use Rattle.infer_more.proofs.Common.{[], ◌∷◌, IsTrue, sym, subst, MayBecome, alternative_listed, relation_listed, Fits}
-use Rattle.infer_more.specs.Listed.{bytes_listed}
+use Rattle.infer_formats.specs.Relation.{IsSound}
+use Rattle.infer_more.specs.Listed.{bytes_listed, relation_at}
 use Rattle.infer_more.specs.Open.{is_sound}
-use Rattle.infer_more.specs.declared.signature.Alternative.{Alternative}
+use Rattle.infer_more.specs.declared.listed.Alternative.{Alternative}
 use Rattle.infer_more.proofs.OpenLemmas.{binary_open, bytes_open, sound_relation}
 use Rattle.infer_more.proofs.open.may_fit.Goals as goal
 
 pub may_fit-requires : goal.may_fit-requires
 may_fit-requires c =
-    sound_relation (relation_listed c.in-Related.relation) (subst (λ (a : Alternative). IsTrue (is_sound (alternative_listed a))) c.in-Related.is c.requires)
+    subst IsSound (sym c.relation_at.ensures) (sound_relation (relation_at c.in-Related.number) (subst (λ (a : Alternative). IsTrue (is_sound (alternative_listed a))) c.in-Related.is c.requires))
 
 pub returns-in-Bytes : goal.returns-in-Bytes
 returns-in-Bytes c =

@@ -1,6 +1,6 @@
 use Rattle.std.proofs.Common.{refl}
 use Rattle.infer_named.specs.declared.table.generated.texts.TheConstants.{MIME_TYPES}
-use Rattle.infer_named.proofs.AsciiLemmas.{ascii_by_test}
+use Rattle.infer_more.proofs.AsciiLemmas.{ascii_by_test}
 use Rattle.infer_named.specs.Listed.{mime_types}
 use Rattle.infer_named.proofs.table.generated.mime_types.Goals as goal
 

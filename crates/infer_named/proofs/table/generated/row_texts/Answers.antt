@@ -1,6 +1,6 @@
 use Rattle.std.proofs.Common.{refl}
 use Rattle.infer_named.specs.declared.table.generated.texts.TheConstants.{ROW_TEXTS}
-use Rattle.infer_named.proofs.AsciiLemmas.{ascii_by_test}
+use Rattle.infer_more.proofs.AsciiLemmas.{ascii_by_test}
 use Rattle.infer_named.specs.Listed.{row_texts}
 use Rattle.infer_named.proofs.table.generated.row_texts.Goals as goal
 
