@@ -9,6 +9,8 @@ from texts import text_of
 RELATIONS = "crates/infer_formats/src/relation.rt"
 # The check of a list takes time quadratic in the references that it holds.
 RELATIONS_OF_A_LIST = 16
+# What a call takes stands on one line up to here.
+CALL_WIDTH = 60
 DATA = """//! Made by `tools/tables` from the definitions of the further rows, which the prover compares with them.
 ghost use Rattle.std.specs.Prelude.{{◌≡◌, IsAscii}};
 ghost use Rattle.infer_more.specs.Listed.{{alternatives, asked_texts, extensions, mime_types, pieces, rows}};
@@ -132,24 +134,26 @@ fn relations_from_{first}() -> &'static [Relation<'static>]
 """
 # Rows are compared sixteen a line, and of so many lines at once: one that takes too long ends the check.
 ROWS_OF_A_LINE, LINES = 16, 16
+ROWS_AT_ONCE = ROWS_OF_A_LINE * LINES
 OF_ROWS = """-- Made by `tools/tables`: the rows of the code are those of the definitions, and a zero stands after each of their texts, sixteen
 -- rows a line, so that a line which is refused tells of which rows.
 use Rattle.infer_more.proofs.Common.{{{names}, ◌≡◌, drop, map, refl}}
 use Rattle.infer_more.proofs.ListedLemmas.{{AreAlike, listed, shown, walked}}
 use Rattle.infer_more.specs.Listed.{{alternatives, asked_texts, extensions, mime_types, pieces, relations, rows}}
 {lines}
-past : map listed (drop {past} rows) ≡ map shown (drop {past} further)
+behind : map listed (drop {past} rows) ≡ map shown (drop {past} further)
 unfolding rows {unfolded}
-past = refl
+behind = refl
 
 pub rows_listed : map listed rows ≡ map shown further
 rows_listed = {walked}
 """
 LINES_OF_ROWS = """
-from_{first} : AreAlike listed shown rows further {first} {count}
+from_{first} : AreAlike listed shown rows further {first}
 unfolding alternatives asked_texts extensions mime_types pieces relations rows {unfolded}
-from_{first} =
+from_{first} = (
 {lines}
+)
 """
 OF_RELATIONS = """-- Made by `tools/tables`: the relations of a list are those of the definitions.
 use Rattle.infer_more.proofs.Common.{{{names}, refl}}
@@ -296,33 +300,40 @@ def in_lists(rows):
     return [(first, asked[first : first + RELATIONS_OF_A_LIST]) for first in range(0, len(asked), RELATIONS_OF_A_LIST)]
 
 
+def laid_out(relation):
+    """A relation as `rt fmt` has it in a list."""
+    name, _, takes = relation.partition("(")
+    if len(takes) - 1 <= CALL_WIDTH or "," not in takes:
+        return f"    {relation},"
+    taken = "\n".join(f"        {it}," for it in re.findall(r'b"(?:[^"\\]|\\.)*"|[^, ]+', takes[:-1]))
+    return f"    {name}(\n{taken}\n    ),"
+
+
 def relations(rows):
     """The file of the relations."""
     lists = in_lists(rows)
     names = {it.partition("(")[0] for _, its in lists for it in its}
     return LISTS.format(
         relations=wrapped(names), size=RELATIONS_OF_A_LIST, count=sum(len(its) for _, its in lists),
-        lists="".join(LIST.format(first=first, relations="\n".join(f"    {it}," for it in its)) for first, its in lists),
+        lists="".join(LIST.format(first=first, relations="\n".join(map(laid_out, its))) for first, its in lists),
         arms="\n".join(f"        {k} => Some(({first}, relations_from_{first}()))," for k, (first, _) in enumerate(lists)),
     )
 
 
-def of_rows(count, unfolded):
-    """The lines that compare the rows, some at once."""
-    for first in range(0, count, ROWS_OF_A_LINE * LINES):
-        here = -(-min(ROWS_OF_A_LINE * LINES, count - first) // ROWS_OF_A_LINE)
-        told = "\n".join(["    (refl,"] * here)
-        yield first, here, LINES_OF_ROWS.format(first=first, count=here, unfolded=unfolded, lines=f"{told} tt{')' * here}")
+def of_rows(first, unfolded):
+    """The lines that compare some rows."""
+    told = (f"  refl,  -- {at} to {at + ROWS_OF_A_LINE - 1}" for at in range(first, first + ROWS_AT_ONCE, ROWS_OF_A_LINE))
+    return LINES_OF_ROWS.format(first=first, unfolded=unfolded, lines="\n".join(told))
 
 
 def answers(rows, names):
     """The proofs of the lists, by their files."""
     joined, unfolded = ", ".join(names), " ".join(names)
-    parts = list(of_rows(len(rows), unfolded))
-    walked = "past"
-    for first, here, _ in reversed(parts):
-        walked = f"walked listed shown rows further {here} {first} from_{first} ({walked})"
+    firsts = range(0, len(rows), ROWS_AT_ONCE)
+    walked = "behind"
+    for first in reversed(firsts):
+        walked = f"walked listed shown rows further {first} {first + ROWS_AT_ONCE} refl from_{first} {walked if first == firsts[-1] else f'({walked})'}"
     yield "ListedRows", OF_ROWS.format(
-        names=joined, unfolded=unfolded, lines="".join(it for _, _, it in parts), walked=walked, past=parts[-1][0] + ROWS_OF_A_LINE * parts[-1][1])
+        names=joined, unfolded=unfolded, lines="".join(of_rows(first, unfolded) for first in firsts), walked=walked, past=firsts[-1] + ROWS_AT_ONCE)
     for first, _ in in_lists(rows):
         yield f"listed/relations/relations_from_{first}/Answers", OF_RELATIONS.format(first=first, names=joined, unfolded=unfolded)

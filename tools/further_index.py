@@ -105,14 +105,15 @@ pub(crate) fn found_below(buf: &[u8], row: usize) -> usize
     }}
 }}
 """
-BY_NUMBER = """//! Made by `tools/tables` from the further rows: code of its own for each.
+BY_NUMBER = """//! Made by `tools/tables` from the further rows: code of its own for each that the index has tried.
 ghost use Rattle.std.specs.Prelude.{{◌↔◌, IsTrue}};
 ghost use Rattle.infer_more.specs.Wider.{{WidensAt}};
 
 use crate::table::{{widens_any, widens_row}};
 
 {}
-/// Whether further row `i` has this parent and accepts the buffer: code of its own for each row.
+/// Whether further row `i` has this parent and accepts the buffer: code of its own for each row that the index has tried, and
+/// the evaluator itself for those that it tells by names.
 #[inline(never)]
 pub(crate) fn widens(i: usize, parent: Option<usize>, buf: &[u8]) -> bool
     ensures {{ IsTrue result ↔ WidensAt parent buf.now i }}
@@ -132,7 +133,7 @@ fn widens_before_{0}(i: usize, parent: Option<usize>, buf: &[u8]) -> bool
     }}
 }}
 """
-BLOCK_SIZE = 256
+MOST_ARMS = 256
 NO_OTHER_PARENT = """-- Made by `tools/tables` from the further rows: no row that the code does not name is the parent of one.
 use Rattle.infer_more.proofs.Common.{{◌∷◌, [], None, arith, refl}}
 use Rattle.infer_more.proofs.Common.{{{names}}}
@@ -221,6 +222,8 @@ TOLD_BYTES, TOLD_MARK = b"\t\n\r <{\xEF", 1 << 63
 TAGGED = {"DirectoryTag", "DirectoryTagAndMake"}
 # What is told without a parent and not tried.
 TOLD = TEXTS | {"Root", "RootWith", "FirstKey", "FirstKeyWith"}
+# What is told with a parent or without one.
+NOT_TRIED = TOLD | {"ClassId", "PackageWith", "Program"}
 COMMON = set(b" etaoinshrdlu\n\x00\x01\xFF")
 RELATIONS = "crates/infer_formats/specs/Relation.antt"
 # What every buffer has that fits an alternative which looks inside, where RELATIONS names other definitions, or asks for more
@@ -1057,14 +1060,16 @@ def computed(rows, parents):
     yield "told_below", TOLD_BELOW.format(parents=others, differ=differing(apart(ways)))
 
 
-def blocks(count):
-    """The numbers of so many rows, some at a time."""
-    return [range(first, min(first + BLOCK_SIZE, count)) for first in range(0, count, BLOCK_SIZE)]
+def blocks(rows):
+    """The numbers of the rows that are tried, some at a time: as many each, since a check takes time quadratic in the arms."""
+    tried = [k for k, row in enumerate(rows) if {it.name for it in row.signature} - NOT_TRIED]
+    count = -(-len(tried) // MOST_ARMS)
+    return [tried[len(tried) * k // count : len(tried) * (k + 1) // count] for k in range(count)]
 
 
 def block(numbers):
     """What tells the rows of these numbers."""
-    return BLOCK.format(numbers.stop, arms(numbers, "widens_row::<{}>(parent, buf)"))
+    return BLOCK.format(numbers[-1] + 1, arms(numbers, "widens_row::<{}>(parent, buf)"))
 
 
 def by_block(ends, call):
@@ -1077,8 +1082,8 @@ def by_block(ends, call):
 
 def by_number(rows):
     """The file with each row by its number, and with code for each."""
-    parts = blocks(len(rows))
-    ends = [it.stop for it in parts]
+    parts = blocks(rows)
+    ends = [it[-1] + 1 for it in parts]
     return BY_NUMBER.format("\n".join(map(block, parts)), textwrap.indent(by_block(ends, "widens_before_{}(i, parent, buf)"), "    "))
 
 

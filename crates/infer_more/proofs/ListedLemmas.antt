@@ -1,6 +1,6 @@
 -- The rows that the code lists, some at a time, beside those of the definitions.
 use Rattle.infer_more.proofs.Common.{◌≡◌, ◌+◌, ◌∙◌, ℕ, zero, suc, List, ◌++◌, [], ◌∷◌, Option, None, Some, get_or, get_or_from_slice_get, refl, ap, arith, drop, map, option_map, subst, sym, Further, FurtherRow, ended_shown, row_listed, slice_get-map}
-use Rattle.std.proofs.Common.{◌*◌, slice_get}
+use Rattle.std.proofs.Common.{slice_get}
 use Rattle.std.proofs.lemmas.List.{drop-drop, map-append, take-append-drop}
 use Rattle.infer_formats.specs.Relation.{Relation, plain_text}
 use Rattle.infer_more.specs.Ended.{Ended}
@@ -14,10 +14,17 @@ abbrev pub shown : Further → Further × Ended
 shown r = (r, ended_shown r.shows)
 
 module _ {A B C : Type 0} (f : A → C) (g : B → C) (xs : List A) (ys : List B) where
-  -- in k steps of sixteen from s on, the two lists have the same images
-  abbrev pub AreAlike : ℕ → ℕ → Type 0
-  AreAlike s zero = Unit {0}
-  AreAlike s (suc k) = (map f (stretch xs s 16) ≡ map g (stretch ys s 16)) × AreAlike (s + 16) k
+  -- sixteen elements from s on have the same images in either list
+  abbrev AreAlike16 : ℕ → Type 0
+  AreAlike16 s = map f (stretch xs s 16) ≡ map g (stretch ys s 16)
+
+  -- and 256 of them, sixteen at a time
+  abbrev pub AreAlike : ℕ → Type 0
+  AreAlike s =
+      AreAlike16 s × AreAlike16 (s + 16) × AreAlike16 (s + 32) × AreAlike16 (s + 48)
+      × AreAlike16 (s + 64) × AreAlike16 (s + 80) × AreAlike16 (s + 96) × AreAlike16 (s + 112)
+      × AreAlike16 (s + 128) × AreAlike16 (s + 144) × AreAlike16 (s + 160) × AreAlike16 (s + 176)
+      × AreAlike16 (s + 192) × AreAlike16 (s + 208) × AreAlike16 (s + 224) × AreAlike16 (s + 240)
 
   joined : (s : ℕ) → map f (stretch xs s 16) ≡ map g (stretch ys s 16) → map f (drop (s + 16) xs) ≡ map g (drop (s + 16) ys) → map f (drop s xs) ≡ map g (drop s ys)
   joined s here behind =
@@ -26,12 +33,21 @@ module _ {A B C : Type 0} (f : A → C) (g : B → C) (xs : List A) (ys : List B
       let rest = ap (map f) (drop-drop 16 s xs) ∙ (behind ∙ sym (ap (map g) (drop-drop 16 s ys))) in
       left ∙ (ap (λ l. l ++ map f (drop 16 (drop s xs))) here ∙ (ap (λ l. map g (stretch ys s 16) ++ l) rest ∙ sym right))
 
-  -- and behind them too, so from s on
-  pub walked : (k s : ℕ) → AreAlike s k → map f (drop (s + 16 * k) xs) ≡ map g (drop (s + 16 * k) ys) → map f (drop s xs) ≡ map g (drop s ys)
-  walked zero s are behind = let same : s + 16 * zero ≡ s = omega arith in subst (λ n. map f (drop n xs) ≡ map g (drop n ys)) same behind
-  walked (suc k) s are behind =
-      let same : s + 16 * suc k ≡ (s + 16) + 16 * k = omega arith in
-      joined s are.0 (walked k (s + 16) are.1 (subst (λ n. map f (drop n xs) ≡ map g (drop n ys)) same behind))
+  -- from s on
+  abbrev AreAlikeFrom : ℕ → Type 0
+  AreAlikeFrom s = map f (drop s xs) ≡ map g (drop s ys)
+
+  step : (s t : ℕ) → t ≡ s + 16 → AreAlike16 s → AreAlikeFrom t → AreAlikeFrom s
+  step s t next here behind = joined s here (subst AreAlikeFrom next behind)
+
+  -- 256 of them, and those behind
+  pub walked : (s t : ℕ) → t ≡ s + 256 → AreAlike s → AreAlikeFrom t → AreAlikeFrom s
+  walked s t next are behind =
+      let (a, b, c, d, e, h, i, j, k, l, m, n, o, p, q, r) = are in
+      step s (s + 16) refl a (step (s + 16) (s + 32) (omega arith) b (step (s + 32) (s + 48) (omega arith) c (step (s + 48) (s + 64) (omega arith) d
+      (step (s + 64) (s + 80) (omega arith) e (step (s + 80) (s + 96) (omega arith) h (step (s + 96) (s + 112) (omega arith) i (step (s + 112) (s + 128) (omega arith) j
+      (step (s + 128) (s + 144) (omega arith) k (step (s + 144) (s + 160) (omega arith) l (step (s + 160) (s + 176) (omega arith) m (step (s + 176) (s + 192) (omega arith) n
+      (step (s + 192) (s + 208) (omega arith) o (step (s + 208) (s + 224) (omega arith) p (step (s + 224) (s + 240) (omega arith) q (step (s + 240) t (omega arith) r behind)))))))))))))))
 
 -- nothing is read where nothing stands
 none_read : {A : Type 0} (xs : List A) (i : ℕ) (d : A) → slice_get xs i ≡ None → d ≡ get_or xs i d

@@ -282,7 +282,10 @@ static RELATIONS_FROM_160: &[Relation<'static>] = &[
     RootWith(b"TEI", b"http://www.tei-c.org/ns/1.0"),
     RootWith(b"package", b"http://www.idpf.org/2007/opf"),
     Root(b"ncx"),
-    RootWith(b"Project", b"http://schemas.microsoft.com/developer/msbuild/2003"),
+    RootWith(
+        b"Project",
+        b"http://schemas.microsoft.com/developer/msbuild/2003",
+    ),
     RootWith(b"Project", b"Sdk="),
     RootWith(b"project", b"http://maven.apache.org/POM/4.0.0"),
     Root(b"glade-interface"),
@@ -304,7 +307,10 @@ fn relations_from_160() -> &'static [Relation<'static>]
 }
 
 static RELATIONS_FROM_176: &[Relation<'static>] = &[
-    RootWith(b"mime-info", b"http://www.freedesktop.org/standards/shared-mime-info"),
+    RootWith(
+        b"mime-info",
+        b"http://www.freedesktop.org/standards/shared-mime-info",
+    ),
     Root(b"XMI"),
     RootWith(b"RDF", b"http://www.w3.org/1999/02/22-rdf-syntax-ns#"),
     RootWith(b"FeatureCollection", b"http://www.opengis.net/gml"),
@@ -317,9 +323,18 @@ static RELATIONS_FROM_176: &[Relation<'static>] = &[
     Root(b"abiword"),
     RootWith(b"diagram", b"http://www.lysator.liu.se/~alla/dia/"),
     RootWith(b"Workbook", b"http://www.gnumeric.org/v10.dtd"),
-    RootWith(b"wordDocument", b"http://schemas.microsoft.com/office/word/2003/wordml"),
-    RootWith(b"document", b"application/vnd.oasis.opendocument.spreadsheet"),
-    RootWith(b"document", b"application/vnd.oasis.opendocument.presentation"),
+    RootWith(
+        b"wordDocument",
+        b"http://schemas.microsoft.com/office/word/2003/wordml",
+    ),
+    RootWith(
+        b"document",
+        b"application/vnd.oasis.opendocument.spreadsheet",
+    ),
+    RootWith(
+        b"document",
+        b"application/vnd.oasis.opendocument.presentation",
+    ),
 ];
 
 #[inline(always)]
@@ -360,7 +375,10 @@ static RELATIONS_FROM_208: &[Relation<'static>] = &[
     RootWith(b"stylesheet", b"http://www.w3.org/1999/XSL/Transform"),
     RootWith(b"transform", b"http://www.w3.org/1999/XSL/Transform"),
     RootWith(b"schema", b"http://www.w3.org/2001/XMLSchema"),
-    RootWith(b"Project", b"http://schemas.microsoft.com/developer/msbuild/2003"),
+    RootWith(
+        b"Project",
+        b"http://schemas.microsoft.com/developer/msbuild/2003",
+    ),
     RootWith(b"Project", b"Sdk="),
     RootWith(b"project", b"http://maven.apache.org/POM/4.0.0"),
     RootWith(b"map", b"version="),

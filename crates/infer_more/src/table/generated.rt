@@ -1,12 +1,12 @@
-//! Made by `tools/tables` from the further rows: code of its own for each.
+//! Made by `tools/tables` from the further rows: code of its own for each that the index has tried.
 ghost use Rattle.std.specs.Prelude.{◌↔◌, IsTrue};
 ghost use Rattle.infer_more.specs.Wider.{WidensAt};
 
 use crate::table::{widens_any, widens_row};
 
-/// [`widens`] for the rows before 256.
+/// [`widens`] for the rows before 245.
 #[inline(always)]
-fn widens_before_256(i: usize, parent: Option<usize>, buf: &[u8]) -> bool
+fn widens_before_245(i: usize, parent: Option<usize>, buf: &[u8]) -> bool
     ensures { IsTrue result ↔ WidensAt parent buf.now i }
 {
     match i {
@@ -17,11 +17,6 @@ fn widens_before_256(i: usize, parent: Option<usize>, buf: &[u8]) -> bool
         4 => widens_row::<4>(parent, buf),
         5 => widens_row::<5>(parent, buf),
         6 => widens_row::<6>(parent, buf),
-        7 => widens_row::<7>(parent, buf),
-        8 => widens_row::<8>(parent, buf),
-        9 => widens_row::<9>(parent, buf),
-        10 => widens_row::<10>(parent, buf),
-        11 => widens_row::<11>(parent, buf),
         12 => widens_row::<12>(parent, buf),
         13 => widens_row::<13>(parent, buf),
         14 => widens_row::<14>(parent, buf),
@@ -29,10 +24,6 @@ fn widens_before_256(i: usize, parent: Option<usize>, buf: &[u8]) -> bool
         16 => widens_row::<16>(parent, buf),
         17 => widens_row::<17>(parent, buf),
         18 => widens_row::<18>(parent, buf),
-        19 => widens_row::<19>(parent, buf),
-        20 => widens_row::<20>(parent, buf),
-        21 => widens_row::<21>(parent, buf),
-        22 => widens_row::<22>(parent, buf),
         23 => widens_row::<23>(parent, buf),
         24 => widens_row::<24>(parent, buf),
         25 => widens_row::<25>(parent, buf),
@@ -49,23 +40,6 @@ fn widens_before_256(i: usize, parent: Option<usize>, buf: &[u8]) -> bool
         36 => widens_row::<36>(parent, buf),
         37 => widens_row::<37>(parent, buf),
         38 => widens_row::<38>(parent, buf),
-        39 => widens_row::<39>(parent, buf),
-        40 => widens_row::<40>(parent, buf),
-        41 => widens_row::<41>(parent, buf),
-        42 => widens_row::<42>(parent, buf),
-        43 => widens_row::<43>(parent, buf),
-        44 => widens_row::<44>(parent, buf),
-        45 => widens_row::<45>(parent, buf),
-        46 => widens_row::<46>(parent, buf),
-        47 => widens_row::<47>(parent, buf),
-        48 => widens_row::<48>(parent, buf),
-        49 => widens_row::<49>(parent, buf),
-        50 => widens_row::<50>(parent, buf),
-        51 => widens_row::<51>(parent, buf),
-        52 => widens_row::<52>(parent, buf),
-        53 => widens_row::<53>(parent, buf),
-        54 => widens_row::<54>(parent, buf),
-        55 => widens_row::<55>(parent, buf),
         56 => widens_row::<56>(parent, buf),
         57 => widens_row::<57>(parent, buf),
         58 => widens_row::<58>(parent, buf),
@@ -163,7 +137,6 @@ fn widens_before_256(i: usize, parent: Option<usize>, buf: &[u8]) -> bool
         150 => widens_row::<150>(parent, buf),
         151 => widens_row::<151>(parent, buf),
         152 => widens_row::<152>(parent, buf),
-        153 => widens_row::<153>(parent, buf),
         154 => widens_row::<154>(parent, buf),
         155 => widens_row::<155>(parent, buf),
         156 => widens_row::<156>(parent, buf),
@@ -175,32 +148,9 @@ fn widens_before_256(i: usize, parent: Option<usize>, buf: &[u8]) -> bool
         162 => widens_row::<162>(parent, buf),
         163 => widens_row::<163>(parent, buf),
         164 => widens_row::<164>(parent, buf),
-        165 => widens_row::<165>(parent, buf),
-        166 => widens_row::<166>(parent, buf),
         167 => widens_row::<167>(parent, buf),
         168 => widens_row::<168>(parent, buf),
         169 => widens_row::<169>(parent, buf),
-        170 => widens_row::<170>(parent, buf),
-        171 => widens_row::<171>(parent, buf),
-        172 => widens_row::<172>(parent, buf),
-        173 => widens_row::<173>(parent, buf),
-        174 => widens_row::<174>(parent, buf),
-        175 => widens_row::<175>(parent, buf),
-        176 => widens_row::<176>(parent, buf),
-        177 => widens_row::<177>(parent, buf),
-        178 => widens_row::<178>(parent, buf),
-        179 => widens_row::<179>(parent, buf),
-        180 => widens_row::<180>(parent, buf),
-        181 => widens_row::<181>(parent, buf),
-        182 => widens_row::<182>(parent, buf),
-        183 => widens_row::<183>(parent, buf),
-        184 => widens_row::<184>(parent, buf),
-        185 => widens_row::<185>(parent, buf),
-        186 => widens_row::<186>(parent, buf),
-        187 => widens_row::<187>(parent, buf),
-        188 => widens_row::<188>(parent, buf),
-        189 => widens_row::<189>(parent, buf),
-        190 => widens_row::<190>(parent, buf),
         191 => widens_row::<191>(parent, buf),
         192 => widens_row::<192>(parent, buf),
         193 => widens_row::<193>(parent, buf),
@@ -255,6 +205,16 @@ fn widens_before_256(i: usize, parent: Option<usize>, buf: &[u8]) -> bool
         242 => widens_row::<242>(parent, buf),
         243 => widens_row::<243>(parent, buf),
         244 => widens_row::<244>(parent, buf),
+        _ => widens_any(i, parent, buf),
+    }
+}
+
+/// [`widens`] for the rows before 464.
+#[inline(always)]
+fn widens_before_464(i: usize, parent: Option<usize>, buf: &[u8]) -> bool
+    ensures { IsTrue result ↔ WidensAt parent buf.now i }
+{
+    match i {
         245 => widens_row::<245>(parent, buf),
         246 => widens_row::<246>(parent, buf),
         247 => widens_row::<247>(parent, buf),
@@ -266,16 +226,6 @@ fn widens_before_256(i: usize, parent: Option<usize>, buf: &[u8]) -> bool
         253 => widens_row::<253>(parent, buf),
         254 => widens_row::<254>(parent, buf),
         255 => widens_row::<255>(parent, buf),
-        _ => widens_any(i, parent, buf),
-    }
-}
-
-/// [`widens`] for the rows before 512.
-#[inline(always)]
-fn widens_before_512(i: usize, parent: Option<usize>, buf: &[u8]) -> bool
-    ensures { IsTrue result ↔ WidensAt parent buf.now i }
-{
-    match i {
         256 => widens_row::<256>(parent, buf),
         257 => widens_row::<257>(parent, buf),
         258 => widens_row::<258>(parent, buf),
@@ -318,26 +268,6 @@ fn widens_before_512(i: usize, parent: Option<usize>, buf: &[u8]) -> bool
         295 => widens_row::<295>(parent, buf),
         296 => widens_row::<296>(parent, buf),
         297 => widens_row::<297>(parent, buf),
-        298 => widens_row::<298>(parent, buf),
-        299 => widens_row::<299>(parent, buf),
-        300 => widens_row::<300>(parent, buf),
-        301 => widens_row::<301>(parent, buf),
-        302 => widens_row::<302>(parent, buf),
-        303 => widens_row::<303>(parent, buf),
-        304 => widens_row::<304>(parent, buf),
-        305 => widens_row::<305>(parent, buf),
-        306 => widens_row::<306>(parent, buf),
-        307 => widens_row::<307>(parent, buf),
-        308 => widens_row::<308>(parent, buf),
-        309 => widens_row::<309>(parent, buf),
-        310 => widens_row::<310>(parent, buf),
-        311 => widens_row::<311>(parent, buf),
-        312 => widens_row::<312>(parent, buf),
-        313 => widens_row::<313>(parent, buf),
-        314 => widens_row::<314>(parent, buf),
-        315 => widens_row::<315>(parent, buf),
-        316 => widens_row::<316>(parent, buf),
-        317 => widens_row::<317>(parent, buf),
         318 => widens_row::<318>(parent, buf),
         319 => widens_row::<319>(parent, buf),
         320 => widens_row::<320>(parent, buf),
@@ -355,9 +285,6 @@ fn widens_before_512(i: usize, parent: Option<usize>, buf: &[u8]) -> bool
         332 => widens_row::<332>(parent, buf),
         333 => widens_row::<333>(parent, buf),
         334 => widens_row::<334>(parent, buf),
-        335 => widens_row::<335>(parent, buf),
-        336 => widens_row::<336>(parent, buf),
-        337 => widens_row::<337>(parent, buf),
         338 => widens_row::<338>(parent, buf),
         339 => widens_row::<339>(parent, buf),
         340 => widens_row::<340>(parent, buf),
@@ -484,6 +411,16 @@ fn widens_before_512(i: usize, parent: Option<usize>, buf: &[u8]) -> bool
         461 => widens_row::<461>(parent, buf),
         462 => widens_row::<462>(parent, buf),
         463 => widens_row::<463>(parent, buf),
+        _ => widens_any(i, parent, buf),
+    }
+}
+
+/// [`widens`] for the rows before 659.
+#[inline(always)]
+fn widens_before_659(i: usize, parent: Option<usize>, buf: &[u8]) -> bool
+    ensures { IsTrue result ↔ WidensAt parent buf.now i }
+{
+    match i {
         464 => widens_row::<464>(parent, buf),
         465 => widens_row::<465>(parent, buf),
         466 => widens_row::<466>(parent, buf),
@@ -532,16 +469,6 @@ fn widens_before_512(i: usize, parent: Option<usize>, buf: &[u8]) -> bool
         509 => widens_row::<509>(parent, buf),
         510 => widens_row::<510>(parent, buf),
         511 => widens_row::<511>(parent, buf),
-        _ => widens_any(i, parent, buf),
-    }
-}
-
-/// [`widens`] for the rows before 768.
-#[inline(always)]
-fn widens_before_768(i: usize, parent: Option<usize>, buf: &[u8]) -> bool
-    ensures { IsTrue result ↔ WidensAt parent buf.now i }
-{
-    match i {
         512 => widens_row::<512>(parent, buf),
         513 => widens_row::<513>(parent, buf),
         514 => widens_row::<514>(parent, buf),
@@ -689,6 +616,16 @@ fn widens_before_768(i: usize, parent: Option<usize>, buf: &[u8]) -> bool
         656 => widens_row::<656>(parent, buf),
         657 => widens_row::<657>(parent, buf),
         658 => widens_row::<658>(parent, buf),
+        _ => widens_any(i, parent, buf),
+    }
+}
+
+/// [`widens`] for the rows before 928.
+#[inline(always)]
+fn widens_before_928(i: usize, parent: Option<usize>, buf: &[u8]) -> bool
+    ensures { IsTrue result ↔ WidensAt parent buf.now i }
+{
+    match i {
         659 => widens_row::<659>(parent, buf),
         660 => widens_row::<660>(parent, buf),
         661 => widens_row::<661>(parent, buf),
@@ -702,74 +639,6 @@ fn widens_before_768(i: usize, parent: Option<usize>, buf: &[u8]) -> bool
         669 => widens_row::<669>(parent, buf),
         670 => widens_row::<670>(parent, buf),
         671 => widens_row::<671>(parent, buf),
-        672 => widens_row::<672>(parent, buf),
-        673 => widens_row::<673>(parent, buf),
-        674 => widens_row::<674>(parent, buf),
-        675 => widens_row::<675>(parent, buf),
-        676 => widens_row::<676>(parent, buf),
-        677 => widens_row::<677>(parent, buf),
-        678 => widens_row::<678>(parent, buf),
-        679 => widens_row::<679>(parent, buf),
-        680 => widens_row::<680>(parent, buf),
-        681 => widens_row::<681>(parent, buf),
-        682 => widens_row::<682>(parent, buf),
-        683 => widens_row::<683>(parent, buf),
-        684 => widens_row::<684>(parent, buf),
-        685 => widens_row::<685>(parent, buf),
-        686 => widens_row::<686>(parent, buf),
-        687 => widens_row::<687>(parent, buf),
-        688 => widens_row::<688>(parent, buf),
-        689 => widens_row::<689>(parent, buf),
-        690 => widens_row::<690>(parent, buf),
-        691 => widens_row::<691>(parent, buf),
-        692 => widens_row::<692>(parent, buf),
-        693 => widens_row::<693>(parent, buf),
-        694 => widens_row::<694>(parent, buf),
-        695 => widens_row::<695>(parent, buf),
-        696 => widens_row::<696>(parent, buf),
-        697 => widens_row::<697>(parent, buf),
-        698 => widens_row::<698>(parent, buf),
-        699 => widens_row::<699>(parent, buf),
-        700 => widens_row::<700>(parent, buf),
-        701 => widens_row::<701>(parent, buf),
-        702 => widens_row::<702>(parent, buf),
-        703 => widens_row::<703>(parent, buf),
-        704 => widens_row::<704>(parent, buf),
-        705 => widens_row::<705>(parent, buf),
-        706 => widens_row::<706>(parent, buf),
-        707 => widens_row::<707>(parent, buf),
-        708 => widens_row::<708>(parent, buf),
-        709 => widens_row::<709>(parent, buf),
-        710 => widens_row::<710>(parent, buf),
-        711 => widens_row::<711>(parent, buf),
-        712 => widens_row::<712>(parent, buf),
-        713 => widens_row::<713>(parent, buf),
-        714 => widens_row::<714>(parent, buf),
-        715 => widens_row::<715>(parent, buf),
-        716 => widens_row::<716>(parent, buf),
-        717 => widens_row::<717>(parent, buf),
-        718 => widens_row::<718>(parent, buf),
-        719 => widens_row::<719>(parent, buf),
-        720 => widens_row::<720>(parent, buf),
-        721 => widens_row::<721>(parent, buf),
-        722 => widens_row::<722>(parent, buf),
-        723 => widens_row::<723>(parent, buf),
-        724 => widens_row::<724>(parent, buf),
-        725 => widens_row::<725>(parent, buf),
-        726 => widens_row::<726>(parent, buf),
-        727 => widens_row::<727>(parent, buf),
-        728 => widens_row::<728>(parent, buf),
-        729 => widens_row::<729>(parent, buf),
-        730 => widens_row::<730>(parent, buf),
-        731 => widens_row::<731>(parent, buf),
-        732 => widens_row::<732>(parent, buf),
-        733 => widens_row::<733>(parent, buf),
-        734 => widens_row::<734>(parent, buf),
-        735 => widens_row::<735>(parent, buf),
-        736 => widens_row::<736>(parent, buf),
-        737 => widens_row::<737>(parent, buf),
-        738 => widens_row::<738>(parent, buf),
-        739 => widens_row::<739>(parent, buf),
         740 => widens_row::<740>(parent, buf),
         741 => widens_row::<741>(parent, buf),
         742 => widens_row::<742>(parent, buf),
@@ -798,16 +667,6 @@ fn widens_before_768(i: usize, parent: Option<usize>, buf: &[u8]) -> bool
         765 => widens_row::<765>(parent, buf),
         766 => widens_row::<766>(parent, buf),
         767 => widens_row::<767>(parent, buf),
-        _ => widens_any(i, parent, buf),
-    }
-}
-
-/// [`widens`] for the rows before 931.
-#[inline(always)]
-fn widens_before_931(i: usize, parent: Option<usize>, buf: &[u8]) -> bool
-    ensures { IsTrue result ↔ WidensAt parent buf.now i }
-{
-    match i {
         768 => widens_row::<768>(parent, buf),
         769 => widens_row::<769>(parent, buf),
         770 => widens_row::<770>(parent, buf),
@@ -894,11 +753,6 @@ fn widens_before_931(i: usize, parent: Option<usize>, buf: &[u8]) -> bool
         851 => widens_row::<851>(parent, buf),
         852 => widens_row::<852>(parent, buf),
         853 => widens_row::<853>(parent, buf),
-        854 => widens_row::<854>(parent, buf),
-        855 => widens_row::<855>(parent, buf),
-        856 => widens_row::<856>(parent, buf),
-        857 => widens_row::<857>(parent, buf),
-        858 => widens_row::<858>(parent, buf),
         859 => widens_row::<859>(parent, buf),
         860 => widens_row::<860>(parent, buf),
         861 => widens_row::<861>(parent, buf),
@@ -968,29 +822,27 @@ fn widens_before_931(i: usize, parent: Option<usize>, buf: &[u8]) -> bool
         925 => widens_row::<925>(parent, buf),
         926 => widens_row::<926>(parent, buf),
         927 => widens_row::<927>(parent, buf),
-        928 => widens_row::<928>(parent, buf),
-        929 => widens_row::<929>(parent, buf),
-        930 => widens_row::<930>(parent, buf),
         _ => widens_any(i, parent, buf),
     }
 }
 
-/// Whether further row `i` has this parent and accepts the buffer: code of its own for each row.
+/// Whether further row `i` has this parent and accepts the buffer: code of its own for each row that the index has tried, and
+/// the evaluator itself for those that it tells by names.
 #[inline(never)]
 pub(crate) fn widens(i: usize, parent: Option<usize>, buf: &[u8]) -> bool
     ensures { IsTrue result ↔ WidensAt parent buf.now i }
 {
-    if i < 512 {
-        if i < 256 {
-            widens_before_256(i, parent, buf)
+    if i < 464 {
+        if i < 245 {
+            widens_before_245(i, parent, buf)
         } else {
-            widens_before_512(i, parent, buf)
+            widens_before_464(i, parent, buf)
         }
     } else {
-        if i < 768 {
-            widens_before_768(i, parent, buf)
+        if i < 659 {
+            widens_before_659(i, parent, buf)
         } else {
-            widens_before_931(i, parent, buf)
+            widens_before_928(i, parent, buf)
         }
     }
 }
