@@ -10,18 +10,15 @@ use Rattle.infer.proofs.EvidenceLemmas.{buffers_with, same_by_reads}
 use Rattle.infer_deep.specs.Signatures.{MayBecome}
 use Rattle.infer_notation.specs.Alternative as signature
 use Rattle.infer_evidence.proofs.ListedLemmas.{all_told}
-use Rattle.infer_evidence.specs.Weighed.{HasPart, HasParts}
 use Rattle.infer_sig.specs.Places.{StandsByPlace}
 use Rattle.infer_sig.specs.Signature as fixed
 use Rattle.infer_sig.specs.Signature.{any_of, byte, fits, stands, text}
 use Rattle.infer_more.proofs.AcceptedLemmas.{accepted_at}
-use Rattle.infer_more.specs.Listed.{asked, bytes_listed, pieces_of}
+use Rattle.infer_more.specs.Listed.{bytes_listed, pieces_of}
 use Rattle.infer_more.specs.Why.{IsAlikeAt, IsTold, IsToldAt, HasBytes, HasPiece, LacksBytes}
 use Rattle.infer_more.specs.declared.listed.Alternative.{Alternative}
 use Rattle.infer_more.specs.declared.listed.Alternative.TheVariants.{BinaryBytes, Bytes, Related}
 use Rattle.infer_more.specs.declared.listed.Bytes as listed
-use Rattle.infer_more.specs.declared.listed.Piece.{Piece}
-use Rattle.infer_more.specs.declared.listed.Piece.TheVariants.{At, Between, OneOf}
 
 -- buffers that begin with what tells of a row are accepted alike
 alike_with : (o : Option Further) (f v w : List ℕ) → IsBuffer v → IsBuffer w → MatchOption o (Unit {0}) (λ r. IsTold r.signature f)

@@ -1,4 +1,4 @@
-use Rattle.infer_more.proofs.Common.{◌≡◌, ◌∙◌, None, Some, ap, ended_shown, further, option_map, refl, slice_get_past, slice_get_read, sym}
+use Rattle.infer_more.proofs.Common.{◌≡◌, ◌∙◌, None, Some, ap, further, option_map, refl, slice_get_past, slice_get_read, sym}
 use Rattle.std.proofs.Common.{slice_get}
 use Rattle.infer_more.specs.Listed.{ended_of, rows}
 use Rattle.infer_more.proofs.ListedLemmas.{ended_read}

@@ -1,4 +1,4 @@
-use Rattle.infer_more.proofs.Common.{◌≡◌, ◌-◌, None, Some, arith, refl, relation_listed, slice_get_past, slice_get_read, sym}
+use Rattle.infer_more.proofs.Common.{◌≡◌, ◌-◌, None, Some, arith, refl, slice_get_past, slice_get_read, sym}
 use Rattle.std.proofs.Common.{slice_get}
 use Rattle.infer_more.specs.Listed.{relations}
 use Rattle.infer_more.proofs.JoinedLemmas.{found_in}

@@ -1,4 +1,4 @@
-use Rattle.infer_more.proofs.Common.{[], ◌∷◌, IsTrue, sym, subst, MayBecome, alternative_listed, relation_listed, Fits}
+use Rattle.infer_more.proofs.Common.{[], ◌∷◌, IsTrue, sym, subst, MayBecome, alternative_listed, Fits}
 use Rattle.infer_formats.specs.Relation.{IsSound}
 use Rattle.infer_more.specs.Listed.{bytes_listed, relation_at}
 use Rattle.infer_more.specs.Open.{is_sound}
