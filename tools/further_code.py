@@ -137,9 +137,10 @@ ROWS_OF_A_LINE, LINES = 16, 16
 ROWS_AT_ONCE = ROWS_OF_A_LINE * LINES
 OF_ROWS = """-- Made by `tools/tables`: the rows of the code are those of the definitions, and a zero stands after each of their texts, sixteen
 -- rows a line, so that a line which is refused tells of which rows.
-use Rattle.infer_more.proofs.Common.{{{names}, ◌≡◌, drop, map, refl}}
+use Rattle.infer_more.proofs.Common.{{{names}, ◌≡◌, drop, length, map, refl}}
 use Rattle.infer_more.proofs.ListedLemmas.{{AreAlike, listed, shown, walked}}
 use Rattle.infer_more.specs.Listed.{{alternatives, asked_texts, extensions, mime_types, pieces, relations, rows}}
+use Rattle.infer_more.specs.declared.listed.relations.TheConstants.{{RELATION_COUNT}}
 {lines}
 behind : map listed (drop {past} rows) ≡ map shown (drop {past} further)
 unfolding rows {unfolded}
@@ -147,6 +148,10 @@ behind = refl
 
 pub rows_listed : map listed rows ≡ map shown further
 rows_listed = {walked}
+
+pub length-relations : length relations ≡ RELATION_COUNT
+unfolding relations {unfolded}
+length-relations = refl
 """
 LINES_OF_ROWS = """
 from_{first} : AreAlike listed shown rows further {first}

@@ -1,8 +1,9 @@
 -- Made by `tools/tables`: the rows of the code are those of the definitions, and a zero stands after each of their texts, sixteen
 -- rows a line, so that a line which is refused tells of which rows.
-use Rattle.infer_more.proofs.Common.{archives, assorted, bitmaps, bundles, buried, captions, chunks, code, compiled, consoles, databases, deeper, dialects, disks, documents, elements, farther, further, games, headers, headlines, images, inner, keyrings, kinds, late, letters, markup, measures, media, mended, notations, objects, office, openings, others, packages, packed, papers, pictures, prefaces, prints, rasters, records, remarks, roots, schemas, science, scores, scripts, secrets, settings, shallow, shapes, sounds, squeezed, stores, texts, tunes, unheaded, volumes, ◌≡◌, drop, map, refl}
+use Rattle.infer_more.proofs.Common.{archives, assorted, bitmaps, bundles, buried, captions, chunks, code, compiled, consoles, databases, deeper, dialects, disks, documents, elements, farther, further, games, headers, headlines, images, inner, keyrings, kinds, late, letters, markup, measures, media, mended, notations, objects, office, openings, others, packages, packed, papers, pictures, prefaces, prints, rasters, records, remarks, roots, schemas, science, scores, scripts, secrets, settings, shallow, shapes, sounds, squeezed, stores, texts, tunes, unheaded, volumes, ◌≡◌, drop, length, map, refl}
 use Rattle.infer_more.proofs.ListedLemmas.{AreAlike, listed, shown, walked}
 use Rattle.infer_more.specs.Listed.{alternatives, asked_texts, extensions, mime_types, pieces, relations, rows}
+use Rattle.infer_more.specs.declared.listed.relations.TheConstants.{RELATION_COUNT}
 
 from_0 : AreAlike listed shown rows further 0
 unfolding alternatives asked_texts extensions mime_types pieces relations rows archives assorted bitmaps bundles buried captions chunks code compiled consoles databases deeper dialects disks documents elements farther further games headers headlines images inner keyrings kinds late letters markup measures media mended notations objects office openings others packages packed papers pictures prefaces prints rasters records remarks roots schemas science scores scripts secrets settings shallow shapes sounds squeezed stores texts tunes unheaded volumes
@@ -94,3 +95,7 @@ behind = refl
 
 pub rows_listed : map listed rows ≡ map shown further
 rows_listed = walked listed shown rows further 0 256 refl from_0 (walked listed shown rows further 256 512 refl from_256 (walked listed shown rows further 512 768 refl from_512 (walked listed shown rows further 768 1024 refl from_768 behind)))
+
+pub length-relations : length relations ≡ RELATION_COUNT
+unfolding relations archives assorted bitmaps bundles buried captions chunks code compiled consoles databases deeper dialects disks documents elements farther further games headers headlines images inner keyrings kinds late letters markup measures media mended notations objects office openings others packages packed papers pictures prefaces prints rasters records remarks roots schemas science scores scripts secrets settings shallow shapes sounds squeezed stores texts tunes unheaded volumes
+length-relations = refl

@@ -1,18 +1,12 @@
 -- The table's length, that no row asks for more than its least length, and that it can be told what more bytes bring each.
 use Rattle.infer_more.proofs.Common.{◌≡◌, IsTrue, length, refl, list_all, is_row_sound, is_row_closed, archives, code, further, headers, images, late, markup, media, packages, records, disks, elements, games, kinds, office, others, packed, papers, pictures, rasters, roots, sounds, stores, scripts, documents, secrets, openings, prefaces, bitmaps, shapes, chunks, tunes, squeezed, bundles, volumes, assorted, databases, science, measures, prints, compiled, keyrings, consoles, shallow, schemas, dialects, notations, unheaded, mended, remarks, captions, headlines, inner, deeper, farther, buried, letters, settings, scores, objects, texts, FURTHER_COUNT}
 use Rattle.std.proofs.Common.{◌*◌, leb}
-use Rattle.infer_more.specs.Listed.{relations}
-use Rattle.infer_more.specs.declared.listed.relations.TheConstants.{RELATION_COUNT}
 use Rattle.infer_more.proofs.Common.{◌+◌, ◌<◌, ◌≤◌, ◌||◌, [], ◌∷◌, ℕ, Bool, List, true, false, inl, inr, zero, suc, arith, cases_lt, nat_tests, subst, get_or, if◌then◌else◌, Further, NoneRefused, passed}
 use Rattle.std.proofs.lemmas.List.Sums.{list_all-from_AllPass}
 
 pub length-further : length further ≡ FURTHER_COUNT
 unfolding further archives code headers images late markup media packages records disks elements games kinds office others packed papers pictures rasters roots sounds stores scripts documents secrets openings prefaces bitmaps shapes chunks tunes squeezed bundles volumes assorted databases science measures prints compiled keyrings consoles shallow schemas dialects notations unheaded mended remarks captions headlines inner deeper farther buried letters settings scores objects texts
 length-further = refl
-
-pub length-relations : length relations ≡ RELATION_COUNT
-unfolding relations further archives code headers images late markup media packages records disks elements games kinds office others packed papers pictures rasters roots sounds stores scripts documents secrets openings prefaces bitmaps shapes chunks tunes squeezed bundles volumes assorted databases science measures prints compiled keyrings consoles shallow schemas dialects notations unheaded mended remarks captions headlines inner deeper farther buried letters settings scores objects texts
-length-relations = refl
 
 -- none of m steps of sixteen rows is refused, and none of k steps behind them
 none_behind : (test : ℕ → Bool) (m k s : ℕ) → NoneRefused test FURTHER_COUNT s m → NoneRefused test FURTHER_COUNT (s + 16 * m) k

@@ -2,7 +2,7 @@ use Rattle.infer_more.proofs.Common.{◌≡◌, ◌-◌, None, Some, arith, refl
 use Rattle.std.proofs.Common.{slice_get}
 use Rattle.infer_more.specs.Listed.{relations}
 use Rattle.infer_more.proofs.JoinedLemmas.{found_in}
-use Rattle.infer_more.proofs.TableLemmas.{length-relations}
+use Rattle.infer_more.proofs.ListedRows.{length-relations}
 use Rattle.infer_more.proofs.listed.relation_in_lists.Goals as goal
 
 here : (c : goal.In-Some-get) → slice_get c.in-Some.relations.now (c.args.number - c.in-Some.first) ≡ Some c.in-Some-get.relation.now
