@@ -121,19 +121,21 @@ pub(crate) fn widens(i: usize, parent: Option<usize>, buf: &[u8]) -> bool
 {}
 }}
 """
-# The rows before one of these numbers: the borrow checker takes no function with some 500 arms.
-BLOCK = """/// [`widens`] for the rows before {0}.
+# Some rows from one of these numbers on, and what asks of the others.
+PART = """/// [`widens`] for some rows from {0} on.
 #[inline(always)]
-fn widens_before_{0}(i: usize, parent: Option<usize>, buf: &[u8]) -> bool
+fn widens_from_{0}(i: usize, parent: Option<usize>, buf: &[u8]) -> bool
     ensures {{ IsTrue result ↔ WidensAt parent buf.now i }}
 {{
     match i {{
 {1}
-        _ => widens_any(i, parent, buf),
+        _ => {2}(i, parent, buf),
     }}
 }}
 """
-MOST_ARMS = 256
+# A check takes time quadratic in the arms of a match, and of two matches one behind the other the compiler makes one table of
+# jumps, if neither has more than 63 arms.
+MOST_ARMS = 63
 NO_OTHER_PARENT = """-- Made by `tools/tables` from the further rows: no row that the code does not name is the parent of one.
 use Rattle.infer_more.proofs.Common.{{◌∷◌, [], None, arith, refl}}
 use Rattle.infer_more.proofs.Common.{{{names}}}
@@ -1060,31 +1062,35 @@ def computed(rows, parents):
     yield "told_below", TOLD_BELOW.format(parents=others, differ=differing(apart(ways)))
 
 
-def blocks(rows):
-    """The numbers of the rows that are tried, some at a time: as many each, since a check takes time quadratic in the arms."""
-    tried = [k for k, row in enumerate(rows) if {it.name for it in row.signature} - NOT_TRIED]
-    count = -(-len(tried) // MOST_ARMS)
-    return [tried[len(tried) * k // count : len(tried) * (k + 1) // count] for k in range(count)]
+def cut(some, most):
+    """Lists of at most so many, as many each."""
+    count = -(-len(some) // most)
+    return [some[len(some) * k // count : len(some) * (k + 1) // count] for k in range(count)]
+
+
+def part(numbers, others):
+    """What tells the rows of these numbers, and what tells others."""
+    return PART.format(numbers[0], arms(numbers, "widens_row::<{}>(parent, buf)"), others)
 
 
 def block(numbers):
-    """What tells the rows of these numbers."""
-    return BLOCK.format(numbers[-1] + 1, arms(numbers, "widens_row::<{}>(parent, buf)"))
+    """What tells the rows of these numbers, in two parts."""
+    first, last = cut(numbers, -(-len(numbers) // 2))
+    return f"{part(last, 'widens_any')}\n{part(first, f'widens_from_{last[0]}')}"
 
 
-def by_block(ends, call):
+def by_block(parts):
     """The block of row `i`: half of what is in question is left out by each test."""
-    if len(ends) == 1:
-        return f"{call.format(ends[0])}"
-    first, others = ends[: len(ends) // 2], ends[len(ends) // 2 :]
-    return f"if i < {first[-1]} {{\n{textwrap.indent(by_block(first, call), '    ')}\n}} else {{\n{textwrap.indent(by_block(others, call), '    ')}\n}}"
+    if len(parts) == 1:
+        return f"widens_from_{parts[0][0]}(i, parent, buf)"
+    first, others = parts[: len(parts) // 2], parts[len(parts) // 2 :]
+    return f"if i < {others[0][0]} {{\n{textwrap.indent(by_block(first), '    ')}\n}} else {{\n{textwrap.indent(by_block(others), '    ')}\n}}"
 
 
 def by_number(rows):
-    """The file with each row by its number, and with code for each."""
-    parts = blocks(rows)
-    ends = [it[-1] + 1 for it in parts]
-    return BY_NUMBER.format("\n".join(map(block, parts)), textwrap.indent(by_block(ends, "widens_before_{}(i, parent, buf)"), "    "))
+    """The file with each row by its number, and with code for each that is tried."""
+    parts = cut([k for k, row in enumerate(rows) if {it.name for it in row.signature} - NOT_TRIED], 2 * MOST_ARMS)
+    return BY_NUMBER.format("\n".join(map(block, parts)), textwrap.indent(by_block(parts), "    "))
 
 
 def text(rows, parents):
