@@ -8,12 +8,16 @@ from terms import Call
 ROWS_OF_A_LIST = 8
 # What a place may have of which nothing is known.
 ALL = {*range(256)}
-# Rows that read deeper, but have a byte that is known: images of ISO media in a box "ftyp".
-BOXED = {"heif": {4: {0x66}}, "avif": {4: {0x66}}}
+# Rows that read deeper, but have bytes that are known: images of ISO media in a box "ftyp".
+BOXED = {kind: {4: {0x66}, 5: {0x74}} for kind in ("heif", "avif")}
 # With which bytes others of these begin. A PDF document may begin with any.
 WHITE = {0x09, 0x0A, 0x0C, 0x0D, 0x20, 0x3C}
 FIRST = {"matroska": {0x1A}, "office": {0x50}, "doc": {0xD0}, "xls": {0xD0}, "ppt": {0xD0}, "html": WHITE, "xml": WHITE | {0xEF, 0xFE, 0xFF}}
 FIRST |= {"framed": {*range(0x50, 0x60), 0x28, 0x04}, "pdf": ALL}
+# With which bytes a name of Office begins, and where.
+OFFICE_NAME, OFFICE_LEADS = 30, {*b"wpx[_d"}
+# What is searched for in a PDF document, and in how many bytes.
+PDF_MARK, PDF_END = b"%PDF", 1024
 
 
 def set_of(bytes_):
@@ -57,7 +61,8 @@ def guard(row, own, known):
     probes, left = {}, []
     for name, kind, alternatives in known[:row]:
         if kind in FIRST:
-            left += [name] if FIRST[kind] & own[0] else []
+            is_other = kind == "office" and not own.get(OFFICE_NAME, ALL) & OFFICE_LEADS
+            left += [(name, kind)] if FIRST[kind] & own[0] and not is_other else []
             continue
         for places in [BOXED[kind]] if kind in BOXED else map(asked, alternatives):
             if is_barred(places, own):
@@ -69,6 +74,13 @@ def guard(row, own, known):
             for byte in sorted(places[place]):
                 of_place.setdefault(byte, name)
     return sorted(probes.items()), left
+
+
+def shortest(kind, own):
+    """A length that a buffer of this kind has at least, if it has by an alternative what this asks."""
+    if kind == "pdf":
+        return next(it + len(PDF_MARK) for it in range(PDF_END) if all(PDF_MARK[k] in own.get(it + k, ALL) for k in range(len(PDF_MARK))))
+    return {"office": OFFICE_NAME + 1, "doc": 30, "xls": 30, "ppt": 30}.get(kind, 0)
 
 
 def named(ranges, place):
@@ -88,8 +100,9 @@ def lead_of(own, others):
 
 
 def text_of_guard(found, alternative, constant, lead):
-    """A guard as the code writes it: the ranges that lie ready, each with its row; the least length, and the lead; of each probe
-    the place, the two bytes, and how many ranges have a place before it; and the rows that are left."""
+    """A guard as the code writes it: the ranges that lie ready, each with its row; the least length, below which length no row
+    accepts that is left, and the lead; of each probe the place, the two bytes, and how many ranges have a place before it; and
+    the rows that are left."""
     if found is None:
         return " [none]"
     ranges, probes = ranges_of(alternative, constant), []
@@ -99,7 +112,8 @@ def text_of_guard(found, alternative, constant, lead):
         if not named(ranges, place):
             ranges.append((place, 1, names[listed[0]]))
     ready = ", ".join(f"{at} {length} {row}" for at, length, row in ranges)
-    return f" [{ready}; {alternative[0]} 0x{lead:02X}; {', '.join(probes)};{''.join(f' {it}' for it in found[1])}]"
+    alone = min((shortest(kind, held(alternative)) for _, kind in found[1]), default=0)
+    return f" [{ready}; {alternative[0]} {alone} 0x{lead:02X}; {', '.join(probes)};{''.join(f' {it}' for it, _ in found[1])}]"
 
 
 def lines(names, constants):

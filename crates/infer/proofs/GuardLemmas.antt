@@ -1,5 +1,5 @@
 -- What guards say of the rows before an answer.
-use Rattle.infer.proofs.Common.{◌≡◌, ◌+◌, ◌-◌, ◌<◌, ◌≤◌, ◌⊎◌, ◌↔◌, ◌||◌, ◌∷◌, ◌==◌, ◌&&◌, ◌∙◌, nat_lt, ap, ◌≢◌, AllWithin, AllWithin-more, cases_lt, IsAscending, is_ascending, eqb-true, IsFirst, IsFirstAmong, map, get_or_default, leb-true, length-range_with_len, inl, inr, ℕ, zero, suc, Bool, true, false, false≢true, not, List, [], Option, None, Some, IsTrue, MatchOption, All, length, take, get_or, subst, sym, refl, arith, nat_tests, and_parts, list_all, list_any, range_with_len, slice_get, option_map_or, AllPass-from_list_all, get_or-range_with_len, Alternative, stands, accepts, IsAccepted, BuiltIn, fixed, avif, doc, framed, heif, html, matroska, office, pdf, ppt, xls, xml, Leads, allows_first, Row, Accepts, RowHas, table, is_listed, codes, OccursAt, IsGuardedBy, Lacks, alternatives_of, are_guards, bars, bars_alternative, bars_part, bars_rows, bars_signature, bars_text, first_asked, guard_rows, is_guarded_by, part_bars, probe_bars, signature_of}
+use Rattle.infer.proofs.Common.{◌≡◌, ◌+◌, ◌-◌, ◌<◌, ◌≤◌, ◌⊎◌, ◌↔◌, ◌||◌, ◌∷◌, ◌==◌, ◌&&◌, ◌∙◌, nat_lt, ap, ◌≢◌, AllWithin, AllWithin-more, cases_lt, IsAscending, is_ascending, eqb-true, IsFirst, IsFirstAmong, map, get_or_default, leb-true, length-range_with_len, inl, inr, ℕ, zero, suc, Bool, true, false, false≢true, not, List, [], Option, None, Some, IsTrue, MatchOption, All, length, take, get_or, subst, sym, refl, arith, nat_tests, and_parts, list_all, list_any, range_with_len, slice_get, option_map_or, AllPass-from_list_all, get_or-range_with_len, Alternative, stands, accepts, IsAccepted, BuiltIn, fixed, avif, doc, framed, heif, html, matroska, office, pdf, ppt, xls, xml, IsOffice, IsRoot, Leads, allows_first, Row, Accepts, RowHas, table, is_listed, codes, OccursAt, IsGuardedBy, Lacks, alternatives_of, are_guards, bars, bars_alternative, bars_part, bars_rows, bars_signature, bars_text, first_asked, guard_rows, is_guarded_by, part_bars, probe_bars, signature_of}
 use Rattle.std.proofs.lemmas.List.Kept.{AllPairs-cons}
 use Rattle.std.proofs.lemmas.List.Folds.{Any-from_list_any}
 use Rattle.std.specs.Prelude.{nat_le}
@@ -12,6 +12,8 @@ use Rattle.infer_evidence.specs.declared.signature.Alternative as listed
 use Rattle.infer.proofs.CandidateLemmas.{read_has}
 use Rattle.infer.proofs.EvidenceLemmas.{row_fixed}
 use Rattle.infer.proofs.ListLemmas.{HoldsAt-read}
+use Rattle.infer.proofs.TableLemmas.{row_accepts}
+use Rattle.infer.specs.Guards.{IsAlone, bars_first, bars_short, guards_of, office_leads}
 use Rattle.infer.specs.declared.why.known.Guard.{Guard}
 use Rattle.infer.specs.declared.why.known.Known.{Known}
 use Rattle.infer.specs.declared.why.known.Probe.{Probe}
@@ -66,6 +68,29 @@ begins_with : (b : List ℕ) (x : ℕ) → HasAt b 0 x → (rest : List ℕ) × 
 begins_with [] x at = absurd (omega (arith, at.0))
 begins_with (y ∷ b) x at = (b, subst (λ z. (y ∷ b) ≡ (z ∷ b)) at.1 refl)
 
+-- a text that occurs has its first byte there
+occurs_first : (t b : List ℕ) (p : ℕ) → 0 < length t → OccursAt b t p → HasAt b p (get_or t 0 0)
+occurs_first t b p some at = let fit = at.fits in let first = at.reads 0 some in (omega (arith, fit, some), subst (λ k. get_or b k 0 ≡ get_or t 0 0) (omega arith) first)
+
+-- what is a document of Office has at byte 30 the first of a folder or of a name that Office gives
+office_lead : (folder b : List ℕ) → IsOffice folder b → (x : ℕ) × (IsTrue (list_any (λ y. y == x) office_leads) × HasAt b 30 x)
+office_lead folder b is = elim is.1.1 as (λ _. (x : ℕ) × (IsTrue (list_any (λ y. y == x) office_leads) × HasAt b 30 x)) [
+  | inl own ↦ elim own.0 as (λ _. (x : ℕ) × (IsTrue (list_any (λ y. y == x) office_leads) × HasAt b 30 x)) [
+    | inl word ↦ (0x77, (refl, occurs_first (codes "word/") b 30 (omega arith) word))
+    | inr other ↦ elim other as (λ _. (x : ℕ) × (IsTrue (list_any (λ y. y == x) office_leads) × HasAt b 30 x)) [
+      | inl show ↦ (0x70, (refl, occurs_first (codes "ppt/") b 30 (omega arith) show))
+      | inr xl ↦ (0x78, (refl, occurs_first (codes "xl/") b 30 (omega arith) xl))
+    ]
+  ]
+  | inr later ↦ elim later.1 as (λ _. (x : ℕ) × (IsTrue (list_any (λ y. y == x) office_leads) × HasAt b 30 x)) [
+    | inl types ↦ (0x5B, (refl, occurs_first (codes "[Content_Types].xml") b 30 (omega arith) types))
+    | inr other ↦ elim other as (λ _. (x : ℕ) × (IsTrue (list_any (λ y. y == x) office_leads) × HasAt b 30 x)) [
+      | inl rels ↦ (0x5F, (refl, occurs_first (codes "_rels/.rels") b 30 (omega arith) rels))
+      | inr props ↦ (0x64, (refl, occurs_first (codes "docProps") b 30 (omega arith) props))
+    ]
+  ]
+]
+
 module _ (by_place : (place : ℕ) (t b : List ℕ) → IsTrue (stands place t b) ↔ StandsByPlace place t b) (b : List ℕ) where
   part_is_bar : (part : Part) → IsTrue (has_part b part) → IsBar b (part_bars part)
   part_is_bar (text place t) has k x barred at =
@@ -119,8 +144,54 @@ module _ (by_place : (place : ℕ) (t b : List ℕ) → IsTrue (stands place t b
     alternative_barred (at_least least parts) h has =
         any_all (λ part. bars_part bar part) (λ part. has_part b part) part_barred parts h (and_parts _ _ has).1
 
-    boxed_barred : IsTrue (bar 4 0x66) → ¬ OccursAt b (codes "ftyp") 4
-    boxed_barred h box = is_bar 4 0x66 h (let fits = box.fits in let first = box.reads 0 (omega arith) in grind arith)
+    boxed_barred : IsTrue (bar 4 0x66 || bar 5 0x74) → ¬ OccursAt b (codes "ftyp") 4
+    boxed_barred h box = elim (or_split (bar 4 0x66) (bar 5 0x74) h) as (λ _. ⊥) [
+      | inl first ↦ is_bar 4 0x66 first (let fits = box.fits in let read = box.reads 0 (omega arith) in grind arith)
+      | inr second ↦ is_bar 5 0x74 second (let fits = box.fits in let read = box.reads 1 (omega arith) in grind arith)
+    ]
+
+    office_barred : (folder : List ℕ) → IsTrue (list_all (λ x. bar 30 x) office_leads) → ¬ IsOffice folder b
+    office_barred folder h is =
+        let found = office_lead folder b is in
+        all_any (λ x. bar 30 x) (λ x. x == found.0) (λ x barred same. is_bar 30 x barred (subst (HasAt b 30) (sym (eqb-true x found.0 same)) found.1.1)) office_leads h found.1.0
+
+    module _ (n : ℕ) (short : length b < n) where
+      compound_long : {root : ℕ} → IsRoot b root → ¬ (n ≤ 30)
+      compound_long root low = let fit = root.byte_order.fits in omega (arith, fit, low, short)
+
+      never : ¬ IsTrue (nat_le n 0)
+      never h = let low = leb-true n 0 h in omega (arith, low, short)
+
+      short_barred : (s : BuiltIn) → IsTrue (bars_short bar n s) → ¬ IsAccepted s b
+      short_barred pdf h accepted =
+          let p = accepted.0 in
+          let at = accepted.1.stands in
+          let fit = at.fits in
+          let inside : p < n - 4 = omega (arith, fit, short) in
+          let barred = AllPass-from_list_all (λ place. bars_text bar place (codes "%PDF")) (range_with_len 0 (n - 4)) h p 0 (grind (arith, length-range_with_len)) in
+          let same : get_or (range_with_len 0 (n - 4)) p 0 ≡ p = get_or-range_with_len 0 (n - 4) p 0 inside ∙ omega arith in
+          text_barred p (codes "%PDF") (subst (λ place. IsTrue (bars_text bar place (codes "%PDF"))) same barred) (λ k lt. (omega (arith, fit, lt), at.reads k lt))
+      short_barred doc h accepted = compound_long accepted.1 (leb-true n 30 h)
+      short_barred xls h accepted = elim accepted as (λ _. ⊥) [
+        | inl old ↦ compound_long old.1 (leb-true n 30 h)
+        | inr new ↦ compound_long new.1 (leb-true n 30 h)
+      ]
+      short_barred ppt h accepted = compound_long accepted.1 (leb-true n 30 h)
+      short_barred (office folder) h accepted =
+          let low = leb-true n 31 h in let here = (office_lead folder b accepted).1.1.0 in omega (arith, low, here, short)
+      short_barred (fixed alternatives) h accepted = never h
+      short_barred (matroska doc_type) h accepted = never h
+      short_barred (framed magic) h accepted = never h
+      short_barred heif h accepted = never h
+      short_barred avif h accepted = never h
+      short_barred html h accepted = never h
+      short_barred xml h accepted = never h
+
+      none_short : (left : List ℕ) → IsTrue (list_all (λ i. bars_short bar n (signature_of i)) left) → IsFirstAmong (RowHas (Accepts b)) left None
+      unfolding IsFirstAmong
+      none_short [] h = refl
+      none_short (i ∷ left) h =
+          let both = and_parts _ _ h in inr (λ has. short_barred (signature_of i) both.0 ((row_accepts b i).1 has), none_short left both.1)
 
     module _ (leads : (s : BuiltIn) → Leads s) (first : Option ℕ) (begins : (f : ℕ) → first ≡ Some f → (rest : List ℕ) × (b ≡ f ∷ rest)) where
       lead_barred : (s : BuiltIn) (o : Option ℕ) → first ≡ o → IsTrue (option_map_or (λ f. not (allows_first s f)) o false) → ¬ IsAccepted s b
@@ -135,7 +206,11 @@ module _ (by_place : (place : ℕ) (t b : List ℕ) → IsTrue (stands place t b
       signature_barred pdf h accepted = lead_barred pdf first refl h accepted
       signature_barred (matroska doc_type) h accepted = lead_barred (matroska doc_type) first refl h accepted
       signature_barred (framed magic) h accepted = lead_barred (framed magic) first refl h accepted
-      signature_barred (office folder) h accepted = lead_barred (office folder) first refl h accepted
+      signature_barred (office folder) h accepted =
+          elim (or_split (bars_first first (office folder)) (list_all (λ x. bar 30 x) office_leads) h) as (λ _. ⊥) [
+            | inl lead ↦ lead_barred (office folder) first refl lead accepted
+            | inr names ↦ office_barred folder names accepted
+          ]
       signature_barred doc h accepted = lead_barred doc first refl h accepted
       signature_barred xls h accepted = lead_barred xls first refl h accepted
       signature_barred ppt h accepted = lead_barred ppt first refl h accepted
@@ -181,11 +256,20 @@ guards_by_test by_place leads row (at_least least parts) g h b fit lacks i lt ha
     let all : IsTrue (list_all (λ part. has_part b part) parts) = (and_parts _ _ fit).1 in
     let few : Bool = nat_le (length parts + length g.probes.now + most_of_all g.left.now) (suc MOST_OF_CANDIDATES) && is_ascending g.probes.now in
     let test : Bool = bars_rows (bars parts g.probes.now) (first_asked parts) g.left.now 0 (take row table) in
-    let barred : IsTrue test = (and_parts few test h).1 in
+    let barred : IsTrue test = (and_parts few test (and_parts (few && test) (list_all (λ i. bars_short (bars parts []) g.alone (signature_of i)) g.left.now) h).0).1 in
     let held = rows_barred by_place b (bars parts g.probes.now) (bars_is_bar by_place b parts g.probes.now all lacks) leads (first_asked parts)
     (first_begins by_place b parts all) g.left.now (take row table) 0 i barred
     (subst (λ o. MatchOption o ⊥ (Accepts b)) (sym (slice_get_take table row i lt)) has) in
     subst (λ j. IsTrue (is_listed g.left.now j)) (zero_plus i) held
+
+pub alone_by_test : (by_place : (place : ℕ) (t b : List ℕ) → IsTrue (stands place t b) ↔ StandsByPlace place t b)
+    → (row : ℕ) (a : Alternative) (g : Guard) → IsTrue (is_guarded_by row a g) → IsAlone a g
+alone_by_test by_place row (at_least least parts) g h b fit short =
+    let all : IsTrue (list_all (λ part. has_part b part) parts) = (and_parts _ _ fit).1 in
+    let few : Bool = nat_le (length parts + length g.probes.now + most_of_all g.left.now) (suc MOST_OF_CANDIDATES) && is_ascending g.probes.now in
+    let test : Bool = bars_rows (bars parts g.probes.now) (first_asked parts) g.left.now 0 (take row table) in
+    none_short by_place b (bars parts []) (bars_is_bar by_place b parts [] all (λ k d lt. absurd (omega (arith, lt)))) g.alone short g.left.now
+    (and_parts (few && test) (list_all (λ i. bars_short (bars parts []) g.alone (signature_of i)) g.left.now) h).1
 
 ascending_by_test : (probes : List Probe) → IsTrue (is_ascending probes) → IsAscending probes
 unfolding is_ascending
@@ -203,7 +287,7 @@ few_by_test row (at_least least parts) g h =
     let ranges : Bool = nat_le (length parts + length g.probes.now + most_of_all g.left.now) (suc MOST_OF_CANDIDATES) in
     let order : Bool = is_ascending g.probes.now in
     let test : Bool = bars_rows (bars parts g.probes.now) (first_asked parts) g.left.now 0 (take row table) in
-    let all = and_parts ranges order (and_parts (ranges && order) test h).0 in
+    let all = and_parts ranges order (and_parts (ranges && order) test (and_parts (ranges && order && test) (list_all (λ i. bars_short (bars parts []) g.alone (signature_of i)) g.left.now) h).0).0 in
     (leb-true (length parts + length g.probes.now + most_of_all g.left.now) (suc MOST_OF_CANDIDATES) all.0, ascending_by_test g.probes.now all.1)
 
 -- and the guard of each alternative is one of it
@@ -219,18 +303,18 @@ guard_at row (own ∷ gs) (other ∷ alternatives) (suc k) g a h guard alternati
 
 -- the guards of a row stand in the list, at its place from the first on
 guards_from : (first k : ℕ) (rows : List (Option Known)) (known : Known) → IsTrue (guard_rows first rows) → slice_get rows k ≡ Some (Some known)
-    → IsTrue (are_guards (first + k) known.guards.now (alternatives_of (signature_of (first + k))))
+    → IsTrue (are_guards (first + k) (guards_of known) (alternatives_of (signature_of (first + k))))
 unfolding guard_rows
 guards_from first k [] known h found = absurd (cc)
 guards_from first zero (None ∷ rows) known h found = absurd (cc)
 guards_from first zero (Some own ∷ rows) known h found = grind (arith, and_parts)
 guards_from first (suc k) (own ∷ rows) known h found =
-    subst (λ i. IsTrue (are_guards i known.guards.now (alternatives_of (signature_of i)))) (omega arith) (guards_from (suc first) k rows known (and_parts _ _ h).1 found)
+    subst (λ i. IsTrue (are_guards i (guards_of known) (alternatives_of (signature_of i)))) (omega arith) (guards_from (suc first) k rows known (and_parts _ _ h).1 found)
 
 pub guards_at : (row first : ℕ) (rows : List (Option Known)) (known : Known) → first ≤ row → IsTrue (guard_rows first rows)
-    → slice_get rows (row - first) ≡ Some (Some known) → IsTrue (are_guards row known.guards.now (alternatives_of (signature_of row)))
+    → slice_get rows (row - first) ≡ Some (Some known) → IsTrue (are_guards row (guards_of known) (alternatives_of (signature_of row)))
 guards_at row first rows known le h found =
-    subst (λ i. IsTrue (are_guards i known.guards.now (alternatives_of (signature_of i)))) (omega (arith, le)) (guards_from first (row - first) rows known h found)
+    subst (λ i. IsTrue (are_guards i (guards_of known) (alternatives_of (signature_of i)))) (omega (arith, le)) (guards_from first (row - first) rows known h found)
 
 -- ---- alternatives as the code lists them
 
@@ -267,6 +351,11 @@ none_listed P (x ∷ xs) i (inr none) listed h =
       | inr rest ↦ none_listed P xs i none.1 rest h
     ]
 
+-- what has the alternative fits it
+pub fits_listed : (by_place : (place : ℕ) (t b : List ℕ) → IsTrue (stands place t b) ↔ StandsByPlace place t b)
+    → (a : listed.Alternative) (b : List ℕ) → HasAlternative b a → IsTrue (fits b (alternative_listed a))
+fits_listed by_place a b has = or_first (fits b (alternative_listed a)) ((signature_told by_place b (a ∷ [])).1 (0, a, omega arith, refl, has))
+
 -- the row is the first that accepts a buffer which has its alternative, lacks what the guard's probes look for, and is of none of
 -- the rows that are left
 pub first_by_guard : (by_place : (place : ℕ) (t b : List ℕ) → IsTrue (stands place t b) ↔ StandsByPlace place t b)
@@ -275,7 +364,7 @@ pub first_by_guard : (by_place : (place : ℕ) (t b : List ℕ) → IsTrue (stan
     → IsFirst (Accepts b) table row
 first_by_guard by_place row a g b guarded accepts has lacks none =
     let at = (read_has (Accepts b) table row).0 accepts in
-    let fit : IsTrue (fits b (alternative_listed a)) = or_first (fits b (alternative_listed a)) ((signature_told by_place b (a ∷ [])).1 (0, a, omega arith, refl, has)) in
+    let fit = fits_listed by_place a b has in
     record {
       within = at.0;
       here = at.1;

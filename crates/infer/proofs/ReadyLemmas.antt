@@ -1,5 +1,5 @@
 -- What the ranges that lie ready say.
-use Rattle.infer.proofs.Common.{ap, refl, ◌≢◌, ◌≡◌, ◌+◌, ◌<◌, ◌≤◌, ◌∙◌, ◌&&◌, ◌||◌, ◌==◌, ◌∷◌, ◌⊎◌, inl, inr, Bool, false, false≢true, not, ℕ, zero, suc, List, [], All, AllWithin, Option, None, Some, IsTrue, IsAscending, Lacks, length, get_or, take, sym, arith, and_parts, eqb-true, leb-true, list_all, list_any, slice_get, are_ready, begins_otherwise, cases_lt, get_or_default, is_led_otherwise, is_only, is_known_ready, is_probed, is_range_of, is_ready, names, says, subst, ready_rows, option_map_or, AllPass-from_list_all, true}
+use Rattle.infer.proofs.Common.{length-map, All-cons, Bor, and_from, map, ap, refl, ◌≢◌, ◌≡◌, ◌+◌, ◌<◌, ◌≤◌, ◌∙◌, ◌&&◌, ◌||◌, ◌==◌, ◌∷◌, ◌⊎◌, inl, inr, Bool, false, false≢true, not, ℕ, zero, suc, List, [], All, AllWithin, Option, None, Some, IsTrue, IsAscending, Lacks, length, get_or, take, sym, arith, and_parts, eqb-true, leb-true, list_all, list_any, slice_get, are_ready, are_written, guards_of, begins_otherwise, cases_lt, get_or_default, is_led_otherwise, is_only, is_known_ready, is_probed, is_range_of, is_ready, names, says, subst, ready_rows, option_map_or, AllPass-from_list_all, true}
 use Rattle.std.proofs.lemmas.Bool.{cases_Bool, eq-eqb, ltb-true}
 use Rattle.std.proofs.lemmas.List.Elements.{All-head}
 use Rattle.std.specs.List.{HoldsAt}
@@ -7,13 +7,16 @@ use Rattle.infer_sig.specs.Places.{StandsByPlace}
 use Rattle.infer.specs.declared.why.known.TheConstants.{NO_LEAD}
 use Rattle.std.proofs.lemmas.List.Folds.{Any-from_list_any}
 use Rattle.std.proofs.lemmas.Option.{get_or_from_slice_get, slice_get_within}
-use Rattle.std.specs.Prelude.{nat_le, nat_lt}
+use Rattle.std.specs.Prelude.{ℤ, nat_le, nat_lt, negsuc, pos}
+use Rattle.infer.specs.Guards.{is_row, is_written}
+use Rattle.infer.specs.declared.table.rows.TheConstants.{ROW_COUNT}
 use Rattle.infer_evidence.proofs.RangeLemmas.{in_a_row, inside_by_bytes}
-use Rattle.infer_evidence.specs.Evidence.{AgreesOn, IsInside, IsOf, IsSame, ranges_of}
+use Rattle.infer_evidence.specs.Evidence.{AgreesOn, IsInside, IsOf, IsSame, range_written, ranges_of, row_kept, row_written}
 use Rattle.infer_evidence.specs.Listed.{set_listed}
 use Rattle.infer_evidence.specs.Weighed.{HasAlternative, HasPart, HasSignature}
 use Rattle.infer_evidence.specs.declared.ranges.Evidence.{Evidence}
 use Rattle.infer_evidence.specs.declared.ranges.Range.{Range}
+use Rattle.infer_evidence.specs.declared.ranges.WrittenRange.{WrittenRange}
 use Rattle.infer_evidence.specs.declared.signature.Alternative.{Alternative}
 use Rattle.infer_evidence.specs.declared.signature.Part.{Part}
 use Rattle.infer_evidence.specs.declared.signature.Part.TheVariants.{AnyText, Byte, Text}
@@ -166,13 +169,17 @@ module _ (a : Alternative) (g : Guard) (h : IsTrue (is_ready a g)) where
   is_before : Probe → Bool
   is_before p = nat_le p.before (length g.ranges.now) && says (λ k. nat_lt k p.place) a.parts.now g.probes.now (take p.before g.ranges.now)
 
-  split : IsTrue is_least × IsTrue is_few × IsTrue is_whole × IsTrue (list_all is_before g.probes.now)
-  unfolding is_least is_few is_whole is_before
+  is_copied : Bool
+  is_copied = are_written g.ranges.now g.written.now
+
+  split : IsTrue is_least × IsTrue is_few × IsTrue is_whole × IsTrue (list_all is_before g.probes.now) × IsTrue is_copied
+  unfolding is_least is_few is_whole is_before is_copied
   split =
-      let last = and_parts (is_least && is_few && is_whole) (list_all is_before g.probes.now) h in
+      let copied = and_parts (is_least && is_few && is_whole && list_all is_before g.probes.now) is_copied h in
+      let last = and_parts (is_least && is_few && is_whole) (list_all is_before g.probes.now) copied.0 in
       let third = and_parts (is_least && is_few) is_whole last.0 in
       let first = and_parts is_least is_few third.0 in
-      (first.0, first.1, third.1, last.1)
+      (first.0, first.1, third.1, last.1, copied.1)
 
   pub ready_least : g.least ≡ a.least
   unfolding is_least
@@ -196,6 +203,64 @@ module _ (a : Alternative) (g : Guard) (h : IsTrue (is_ready a g)) where
       (AllPass-from_list_all is_before g.probes.now split.3 i d lt) in
       (leb-true _ _ here.0, here.1)
 
+  pub ready_written : IsTrue (are_written g.ranges.now g.written.now)
+  unfolding is_copied
+  ready_written = split.4
+
+-- ranges as they are handed to C
+row_as : (n : ℕ) (z : ℤ) → IsTrue (is_row n z) → z ≡ row_written (row_kept n)
+row_as zero z h = absurd (false≢true h)
+row_as (suc i) (pos j) h = ap pos (sym (eqb-true i j h))
+row_as (suc i) (negsuc j) h = absurd (false≢true h)
+
+made : ℕ → ℕ → ℕ → ℤ → WrittenRange
+made place len step row = record { place = place; len = len; step = step; row = row }
+
+written_as : (r : Range) (w : WrittenRange) → IsTrue (is_written r w) → (w ≡ range_written r) × (r.row ≤ ROW_COUNT)
+unfolding made
+written_as r w h =
+    let all = and_parts ((w.place == r.place) && (w.len == r.len) && (w.step == r.step) && is_row r.row w.row) (nat_le r.row ROW_COUNT) h in
+    let three = and_parts ((w.place == r.place) && (w.len == r.len) && (w.step == r.step)) (is_row r.row w.row) all.0 in
+    let two = and_parts ((w.place == r.place) && (w.len == r.len)) (w.step == r.step) three.0 in
+    let one = and_parts (w.place == r.place) (w.len == r.len) two.0 in
+    let by_place : w ≡ made r.place w.len w.step w.row = ap (λ n. made n w.len w.step w.row) (eqb-true w.place r.place one.0) in
+    let by_len : w ≡ made r.place r.len w.step w.row = by_place ∙ ap (λ n. made r.place n w.step w.row) (eqb-true w.len r.len one.1) in
+    let by_step : w ≡ made r.place r.len r.step w.row = by_len ∙ ap (λ n. made r.place r.len n w.row) (eqb-true w.step r.step two.1) in
+    (by_step ∙ ap (λ z. made r.place r.len r.step z) (row_as r.row w.row three.1), leb-true r.row ROW_COUNT all.1)
+
+pub written_all : (rs : List Range) (ws : List WrittenRange) → IsTrue (are_written rs ws) → ws ≡ map range_written rs
+unfolding are_written
+written_all [] [] h = refl
+written_all [] (w ∷ ws) h = absurd (false≢true h)
+written_all (r ∷ rs) [] h = absurd (false≢true h)
+written_all (r ∷ rs) (w ∷ ws) h =
+    let both = and_parts (is_written r w) (are_written rs ws) h in
+    ap (λ x. x ∷ ws) (written_as r w both.0).0 ∙ ap (λ xs. range_written r ∷ xs) (written_all rs ws both.1)
+
+pub written_long : (rs : List Range) (ws : List WrittenRange) → IsTrue (are_written rs ws) → length ws ≡ length rs
+written_long rs ws h = ap length (written_all rs ws h) ∙ length-map rs range_written
+
+pub rows_all : (rs : List Range) (ws : List WrittenRange) → IsTrue (are_written rs ws) → All (λ r. r.row ≤ ROW_COUNT) rs
+unfolding are_written
+rows_all [] ws h = λ k d lt. absurd (omega (arith, lt))
+rows_all (r ∷ rs) [] h = absurd (false≢true h)
+rows_all (r ∷ rs) (w ∷ ws) h =
+    let both = and_parts (is_written r w) (are_written rs ws) h in
+    All-cons (λ r. r.row ≤ ROW_COUNT) r rs (written_as r w both.0).1 (rows_all rs ws both.1)
+
+pub written_take : (n : ℕ) (rs : List Range) (ws : List WrittenRange) → IsTrue (are_written rs ws) → IsTrue (are_written (take n rs) (take n ws))
+unfolding are_written
+written_take zero [] [] h = refl
+written_take zero [] (w ∷ ws) h = refl
+written_take zero (r ∷ rs) [] h = refl
+written_take zero (r ∷ rs) (w ∷ ws) h = refl
+written_take (suc n) [] [] h = refl
+written_take (suc n) [] (w ∷ ws) h = absurd (false≢true h)
+written_take (suc n) (r ∷ rs) [] h = absurd (false≢true h)
+written_take (suc n) (r ∷ rs) (w ∷ ws) h =
+    let both = and_parts (is_written r w) (are_written rs ws) h in
+    and_from (is_written r w) (are_written (take n rs) (take n ws)) both.0 (written_take n rs ws both.1)
+
 -- a probe whose place is before that of another stands before it
 pub close_before : (b : List ℕ) (probes : List Probe) (i : ℕ) (e : Probe) → IsAscending probes → i < length probes → AllWithin (λ p. p.place < length b) probes 0 i
     → All (λ p. IsTrue (nat_lt p.place (get_or probes i e).place) → p.place < length b) probes
@@ -213,16 +278,23 @@ close_before b probes i e order inside before k d lt less = elim (cases_lt k i) 
 
 -- ---- the alternative that the first byte tells from the others
 
--- the guards of a row that is known are ready, and one that stands alone is that of the only alternative
-pub known_guards : (k : Known) → IsTrue (is_known_ready k) → IsTrue (are_ready 0 k.guards.now k.alternatives.now k.alternatives.now)
-known_guards k h = (and_parts ((length k.guards.now == 0) || (length k.guards.now == length k.alternatives.now)) (are_ready 0 k.guards.now k.alternatives.now k.alternatives.now) h).1
+-- which the guards of a row are, if it has one alternative and if it has several
+pub only_guards : (k : Known) (g : Bor Guard) → k.only ≡ Some g → guards_of k ≡ (Some g.now ∷ [])
+only_guards k g e = ap (λ o. option_map_or (λ g. Some g.now ∷ []) o k.guards.now) e
 
-pub known_alone : (k : Known) → IsTrue (is_known_ready k) → length k.guards.now ≡ 1 → length k.alternatives.now ≡ 1
+pub several_guards : (k : Known) → k.only ≡ None → guards_of k ≡ k.guards.now
+several_guards k e = ap (λ o. option_map_or (λ g. Some g.now ∷ []) o k.guards.now) e
+
+-- the guards of a row that is known are ready, and one that stands alone is that of the only alternative
+pub known_guards : (k : Known) → IsTrue (is_known_ready k) → IsTrue (are_ready 0 (guards_of k) k.alternatives.now k.alternatives.now)
+known_guards k h = (and_parts ((length (guards_of k) == 0) || (length (guards_of k) == length k.alternatives.now)) (are_ready 0 (guards_of k) k.alternatives.now k.alternatives.now) h).1
+
+pub known_alone : (k : Known) → IsTrue (is_known_ready k) → length (guards_of k) ≡ 1 → length k.alternatives.now ≡ 1
 known_alone k h one =
-    let many = (and_parts ((length k.guards.now == 0) || (length k.guards.now == length k.alternatives.now)) (are_ready 0 k.guards.now k.alternatives.now k.alternatives.now) h).0 in
-    elim (one_of (length k.guards.now == 0) (length k.guards.now == length k.alternatives.now) many) as (λ _. length k.alternatives.now ≡ 1) [
-      | inl none ↦ absurd (let no = eqb-true (length k.guards.now) 0 none in omega (arith, no, one))
-      | inr all ↦ let as_many = eqb-true (length k.guards.now) (length k.alternatives.now) all in omega (arith, as_many, one)
+    let many = (and_parts ((length (guards_of k) == 0) || (length (guards_of k) == length k.alternatives.now)) (are_ready 0 (guards_of k) k.alternatives.now k.alternatives.now) h).0 in
+    elim (one_of (length (guards_of k) == 0) (length (guards_of k) == length k.alternatives.now) many) as (λ _. length k.alternatives.now ≡ 1) [
+      | inl none ↦ absurd (let no = eqb-true (length (guards_of k)) 0 none in omega (arith, no, one))
+      | inr all ↦ let as_many = eqb-true (length (guards_of k)) (length k.alternatives.now) all in omega (arith, as_many, one)
     ]
 
 -- so the only alternative is that which a buffer has

@@ -1,13 +1,13 @@
 -- What an answer's own bytes, and one byte more at each of a few places, say of the rows before it.
-use Rattle.std.specs.Prelude.{◌≢◌, ◌+◌, ◌-◌, ◌<◌, ◌≤◌, ◌&&◌, ◌||◌, ◌==◌, ℕ, suc, Bool, true, false, not, List, [], ◌∷◌, Option, None, Some, All, IsTrue, length, nat_le, nat_lt, slice_index, take, zero}
+use Rattle.std.specs.Prelude.{◌≢◌, ◌+◌, ◌-◌, ◌<◌, ◌≤◌, ◌&&◌, ◌||◌, ◌==◌, ℕ, ℤ, pos, negsuc, suc, Bool, codes, true, false, not, List, [], ◌∷◌, Option, None, Some, All, IsTrue, length, nat_le, nat_lt, slice_index, take, zero}
 use Rattle.std.specs.List.{AllPairs, list_all, list_any, range_with_len}
 use Rattle.std.specs.Option.{option_map_or}
 use Rattle.infer_sig.specs.Signature.{Alternative, Part, allows, any_of, any_text, at_least, between, byte, fits, text}
-use Rattle.infer.specs.BuiltIn.{BuiltIn, avif, fixed, heif}
+use Rattle.infer.specs.BuiltIn.{BuiltIn, avif, doc, fixed, heif, office, pdf, ppt, xls}
 use Rattle.infer.specs.Leads.{allows_first}
 use Rattle.infer.specs.Row.{Accepts, Row}
 use Rattle.infer.specs.Table.{signature_of, table}
-use Rattle.infer.specs.Walks.{RowHas, is_listed}
+use Rattle.infer.specs.Walks.{IsFirstAmong, RowHas, is_listed}
 use Rattle.infer.specs.declared.why.known.Guard.{Guard}
 use Rattle.infer.specs.declared.why.known.Known.{Known}
 use Rattle.infer.specs.declared.why.known.Probe.{Probe}
@@ -17,9 +17,11 @@ use Rattle.infer.specs.declared.why.Way.{Way}
 use Rattle.infer_evidence.specs.Listed.{alternative_listed, set_listed}
 use Rattle.infer_evidence.specs.Weighed.{HasAlternative}
 use Rattle.infer_evidence.specs.declared.ranges.Range.{Range}
+use Rattle.infer_evidence.specs.declared.ranges.WrittenRange.{WrittenRange}
 use Rattle.infer_evidence.specs.declared.signature.Alternative as listed
 use Rattle.infer_evidence.specs.declared.signature.Part as asked
 use Rattle.infer_evidence.specs.declared.signature.Part.TheVariants.{AnyText, Byte, Text}
+use Rattle.infer.specs.declared.table.rows.TheConstants.{ROW_COUNT}
 use Rattle.infer.specs.declared.why.TheConstants.{MOST_OF_CANDIDATES}
 
 -- the buffer has at the place neither byte that the probe looks for
@@ -31,6 +33,10 @@ Lacks b p = p.place < length b → (slice_index b p.place ≢ p.one) × (slice_i
 abbrev pub IsGuardedBy : ℕ → Alternative → Guard → Type 0
 IsGuardedBy row a g =
     (b : List ℕ) → IsTrue (fits b a) → All (Lacks b) g.probes.now → (i : ℕ) → i < row → RowHas (Accepts b) i → IsTrue (is_listed g.left.now i)
+
+-- and none of those that are left accepts one that is shorter than the guard says
+abbrev pub IsAlone : Alternative → Guard → Type 0
+IsAlone a g = (b : List ℕ) → IsTrue (fits b a) → length b < g.alone → IsFirstAmong (RowHas (Accepts b)) g.left.now None
 
 -- the places of the probes come in order
 abbrev pub IsAscending : List Probe → Type 0
@@ -76,12 +82,32 @@ first_asked (text zero (x ∷ t) ∷ parts) = Some x
 first_asked (byte zero (any_of (x ∷ [])) ∷ parts) = Some x
 first_asked (part ∷ parts) = first_asked parts
 
--- the signature is barred: each alternative, the first letter of the box "ftyp" with which an image begins, or the first byte
+-- with which bytes a folder of Office begins, or a name that Office gives to a first entry, where that has its name
+abbrev pub office_leads : List ℕ
+office_leads = 0x77 ∷ 0x70 ∷ 0x78 ∷ 0x5B ∷ 0x5F ∷ 0x64 ∷ []
+
+-- the first byte is barred
+abbrev pub bars_first : Option ℕ → BuiltIn → Bool
+bars_first first s = option_map_or (λ f. not (allows_first s f)) first false
+
+-- the signature is barred: each alternative, one of the first two letters of the box "ftyp" with which an image begins, each first
+-- letter of a name in an archive of Office, or the first byte
 abbrev pub bars_signature : (ℕ → ℕ → Bool) → Option ℕ → BuiltIn → Bool
 bars_signature bar first (fixed alternatives) = list_all (λ a. bars_alternative bar a) alternatives
-bars_signature bar first heif = bar 4 0x66
-bars_signature bar first avif = bar 4 0x66
-bars_signature bar first s = option_map_or (λ f. not (allows_first s f)) first false
+bars_signature bar first heif = bar 4 0x66 || bar 5 0x74
+bars_signature bar first avif = bar 4 0x66 || bar 5 0x74
+bars_signature bar first (office folder) = bars_first first (office folder) || list_all (λ x. bar 30 x) office_leads
+bars_signature bar first s = bars_first first s
+
+-- no buffer shorter than n that has the signature has nothing that is barred: "%PDF" is barred wherever it would end before n,
+-- and others have byte 29 or 30
+abbrev pub bars_short : (ℕ → ℕ → Bool) → ℕ → BuiltIn → Bool
+bars_short bar n pdf = list_all (λ place. bars_text bar place (codes "%PDF")) (range_with_len 0 (n - 4))
+bars_short bar n doc = nat_le n 30
+bars_short bar n xls = nat_le n 30
+bars_short bar n ppt = nat_le n 30
+bars_short bar n (office folder) = nat_le n 31
+bars_short bar n other = nat_le n 0
 
 -- each of these rows, the first of which is row i, is barred or left to be weighed
 unfoldable pub bars_rows : (ℕ → ℕ → Bool) → Option ℕ → List ℕ → ℕ → List (Row BuiltIn) → Bool
@@ -97,6 +123,11 @@ abbrev pub is_guarded_by : ℕ → Alternative → Guard → Bool
 is_guarded_by row (at_least least parts) g =
     nat_le (length parts + length g.probes.now + most_of_all g.left.now) (suc MOST_OF_CANDIDATES) && is_ascending g.probes.now
     && bars_rows (bars parts g.probes.now) (first_asked parts) g.left.now zero (take row table)
+    && list_all (λ i. bars_short (bars parts []) g.alone (signature_of i)) g.left.now
+
+-- the guards of a row: that of its only alternative, or those of several
+abbrev pub guards_of : Known → List (Option Guard)
+guards_of k = option_map_or (λ g. Some g.now ∷ []) k.only k.guards.now
 
 -- the alternatives of a signature that asks for bytes at fixed places alone
 abbrev pub alternatives_of : BuiltIn → List Alternative
@@ -113,7 +144,7 @@ are_guards row (g ∷ gs) (a ∷ alternatives) = option_map_or (λ guard. is_gua
 unfoldable pub guard_rows : ℕ → List (Option Known) → Bool
 guard_rows row [] = true
 guard_rows row (k ∷ rest) =
-    option_map_or (λ known. are_guards row known.guards.now (alternatives_of (signature_of row))) k true && guard_rows (suc row) rest
+    option_map_or (λ known. are_guards row (guards_of known) (alternatives_of (signature_of row))) k true && guard_rows (suc row) rest
 
 -- ---- the ranges that lie ready
 
@@ -138,12 +169,29 @@ says near parts probes ranges =
     && list_all (λ p. not (near p.place) || names ranges p.place) probes
     && list_all (λ r. list_any (λ part. is_range_of part r) parts || is_probed near probes r) ranges
 
+-- the number of the row that a range keeps is this
+abbrev pub is_row : ℕ → ℤ → Bool
+is_row (suc i) (pos j) = i == j
+is_row i j = false
+
+-- the second range is the first as it is handed to C, and tells of a row
+abbrev pub is_written : Range → WrittenRange → Bool
+is_written r w = (w.place == r.place) && (w.len == r.len) && (w.step == r.step) && is_row r.row w.row && nat_le r.row ROW_COUNT
+
+-- and so the second ranges
+unfoldable pub are_written : List Range → List WrittenRange → Bool
+are_written [] [] = true
+are_written [] (w ∷ ws) = false
+are_written (r ∷ rs) [] = false
+are_written (r ∷ rs) (w ∷ ws) = is_written r w && are_written rs ws
+
 -- so do all ranges of a guard with each probe, and those before a probe with the probes at places before it
 abbrev pub is_ready : listed.Alternative → Guard → Bool
 is_ready a g =
     (g.least == a.least) && nat_le (length g.ranges.now) (length a.parts.now + length g.probes.now)
     && says (λ k. true) a.parts.now g.probes.now g.ranges.now
     && list_all (λ p. nat_le p.before (length g.ranges.now) && says (λ k. nat_lt k p.place) a.parts.now g.probes.now (take p.before g.ranges.now)) g.probes.now
+    && are_written g.ranges.now g.written.now
 
 -- the text begins with another byte than x
 abbrev pub is_led_otherwise : ℕ → List ℕ → Bool
@@ -174,7 +222,8 @@ are_ready k (g ∷ gs) (a ∷ rest) all =
 -- the alternatives of a row that is known have guards, each or none, which lie ready
 abbrev pub is_known_ready : Known → Bool
 is_known_ready k =
-    ((length k.guards.now == 0) || (length k.guards.now == length k.alternatives.now)) && are_ready 0 k.guards.now k.alternatives.now k.alternatives.now
+    ((length (guards_of k) == 0) || (length (guards_of k) == length k.alternatives.now))
+    && are_ready 0 (guards_of k) k.alternatives.now k.alternatives.now
 
 -- and so of each of these rows
 abbrev pub ready_rows : List (Option Known) → Bool
@@ -185,6 +234,7 @@ pub record IsWay (row : ℕ) (b : List ℕ) (w : Way) : Type 0 where
   pub has : HasAlternative b w.alternative.now
   pub accepts : (c : List ℕ) → HasAlternative c w.alternative.now → RowHas (Accepts c) row
   pub guarded : IsGuardedBy row (alternative_listed w.alternative.now) w.guard.now
+  pub alone : IsAlone (alternative_listed w.alternative.now) w.guard.now
   pub few : length w.alternative.now.parts.now + length w.guard.now.probes.now + most_of_all w.guard.now.left.now ≤ 1 + MOST_OF_CANDIDATES
   pub ascending : IsAscending w.guard.now.probes.now
   pub ready : IsTrue (is_ready w.alternative.now w.guard.now)

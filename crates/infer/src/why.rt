@@ -1,17 +1,17 @@
 //! The bytes of a buffer that decide its answer.
-ghost use Rattle.std.specs.Prelude.{◌≡◌, ◌↔◌, ◌+◌, ◌<◌, ◌≤◌, ℕ, List, All, IfSome, IsTrue, None, Some, length};
+ghost use Rattle.std.specs.Prelude.{◌≡◌, ◌↔◌, ◌+◌, ◌<◌, ◌≤◌, ℕ, List, All, IfSome, IsTrue, None, Some, length, map, slice_get};
 ghost use Rattle.std.specs.List.{HoldsAt};
-ghost use Rattle.infer.specs.Evidence.{Decides, IsSearch, IsTold, TellsFirst, TellsRow, most_of, most_of_all};
+ghost use Rattle.infer.specs.Evidence.{Decides, IsReadyFor, IsSearch, IsTold, TellsFirst, TellsRow, most_of, most_of_all};
 ghost use Rattle.infer.specs.First.{IsFirstOf};
 ghost use Rattle.infer.specs.BuiltIn.{fixed};
-ghost use Rattle.infer.specs.Guards.{IsAscending, IsWay, Lacks, alternatives_of, are_guards, is_known_ready, is_ready};
+ghost use Rattle.infer.specs.Guards.{IsAlone, IsAscending, IsWay, Lacks, alternatives_of, are_guards, guards_of, is_known_ready, is_ready};
 ghost use Rattle.infer.specs.Row.{Accepts};
 ghost use Rattle.infer.specs.Table.{signature_of, table};
 ghost use Rattle.infer.specs.declared.why.TheConstants.{MOST_OF_CANDIDATES};
 ghost use Rattle.infer_evidence.specs.declared.search.TheConstants.{MOST_OF_A_SEARCH};
 ghost use Rattle.infer.specs.Walks.{IsFirstAmong, RowHas};
-ghost use Rattle.infer_evidence.specs.Evidence.{AgreesOn, IsOf, IsReady};
-ghost use Rattle.infer_evidence.specs.Listed.{signature_listed};
+ghost use Rattle.infer_evidence.specs.Evidence.{AgreesOn, IsOf, IsReady, range_written};
+ghost use Rattle.infer_evidence.specs.Listed.{alternative_listed, signature_listed};
 ghost use Rattle.infer_evidence.specs.Weighed.{HasAlternative, HasSignature};
 
 use crate::answers::position;
@@ -160,11 +160,11 @@ struct Way {
 }
 
 /// The number of the alternative that the buffer's first byte tells from the others.
-#[inline(always)]
 fn led(own: &Known, buf: &[u8]) -> Option<usize>
+    requires several { own.now.only ≡ None }
     requires has { HasSignature buf.now own.now.alternatives.now }
     requires ready { IsTrue (is_known_ready own.now) }
-    ensures { IfSome result (λ k. (k < length own.now.alternatives.now)
+    ensures { IfSome result (λ k. (k < length own.now.guards.now) × (k < length own.now.alternatives.now)
         × HoldsAt (HasAlternative buf.now) own.now.alternatives.now k) }
 {
     let lead = buf.first()?;
@@ -191,28 +191,59 @@ fn first_fitting(signature: &[Alternative], buf: &[u8]) -> Option<usize>
     None
 }
 
-/// The way by the alternative with that number, which the buffer has, if it is one that has a guard.
+/// The way by the alternative with that number, which the buffer has, and its guard.
+#[inline(always)]
+fn way_by(row: usize, own: &'static Known, k: usize, guard: &'static Guard, buf: &[u8]) -> Way
+    requires signature { signature_of row ≡ fixed (signature_listed own.now.alternatives.now) }
+    requires guarded { IsTrue (are_guards row (guards_of own.now) (alternatives_of (signature_of row))) }
+    requires ready { IsTrue (is_known_ready own.now) }
+    requires within { k < length own.now.alternatives.now }
+    requires has { HoldsAt (HasAlternative buf.now) own.now.alternatives.now k }
+    requires guards { slice_get (guards_of own.now) k ≡ Some (Some guard.now) }
+    ensures { IsWay row buf.now result }
+{
+    leads();
+    infer_sig::laws::by_place();
+    Way {
+        alternative: &own.alternatives[k],
+        guard,
+    }
+}
+
+/// The same of one of several alternatives, if it is one that has a guard.
 #[inline(always)]
 fn way_at(row: usize, own: &'static Known, k: usize, buf: &[u8]) -> Option<Way>
+    requires several { own.now.only ≡ None }
+    requires inside { k < length own.now.guards.now }
     requires signature { signature_of row ≡ fixed (signature_listed own.now.alternatives.now) }
-    requires guarded { IsTrue (are_guards row own.now.guards.now (alternatives_of (signature_of row))) }
+    requires guarded { IsTrue (are_guards row (guards_of own.now) (alternatives_of (signature_of row))) }
     requires ready { IsTrue (is_known_ready own.now) }
     requires within { k < length own.now.alternatives.now }
     requires has { HoldsAt (HasAlternative buf.now) own.now.alternatives.now k }
     ensures { IfSome result (IsWay row buf.now) }
 {
-    leads();
-    infer_sig::laws::by_place();
-    match own.guards.get(k)? {
-        Some(guard) => Some(Way {
-            alternative: &own.alternatives[k],
-            guard,
-        }),
+    match &own.guards[k] {
+        Some(guard) => Some(way_by(row, own, k, guard, buf)),
         None => None,
     }
 }
 
-/// The way by which the row accepts the buffer, if its only alternative has a guard, or that which the first byte tells.
+/// The way by which the row accepts the buffer, if its only alternative has a guard.
+#[inline(always)]
+fn only_way(row: usize, buf: &[u8]) -> Option<Way>
+    requires accepts { RowHas (Accepts buf.now) row }
+    requires bound { row < ROW_COUNT }
+    ensures { IfSome result (IsWay row buf.now) }
+{
+    infer_sig::laws::by_place();
+    let own = known_at(row)?;
+    match own.only {
+        Some(guard) => Some(way_by(row, own, 0, guard, buf)),
+        None => None,
+    }
+}
+
+/// The same, if that one of several has a guard which the buffer's first byte tells from the others.
 #[inline(always)]
 fn led_way(row: usize, buf: &[u8]) -> Option<Way>
     requires accepts { RowHas (Accepts buf.now) row }
@@ -221,41 +252,67 @@ fn led_way(row: usize, buf: &[u8]) -> Option<Way>
 {
     infer_sig::laws::by_place();
     let own = known_at(row)?;
-    if own.guards.len() == 1 {
-        return way_at(row, own, 0, buf);
+    if own.only.is_some() {
+        return None;
     }
     let k = led(own, buf)?;
     way_at(row, own, k, buf)
 }
 
-/// The way by which the row accepts the buffer, if the first alternative that fits has a guard.
+/// The way by which the row accepts the buffer, if the first of several alternatives that fits has a guard.
 fn fitting_way(row: usize, buf: &[u8]) -> Option<Way>
     requires { row < ROW_COUNT }
     ensures { IfSome result (IsWay row buf.now) }
 {
     let own = known_at(row)?;
+    if own.only.is_some() {
+        return None;
+    }
     let k = first_fitting(own.alternatives, buf)?;
+    if k >= own.guards.len() {
+        return None;
+    }
     way_at(row, own, k, buf)
 }
 
-/// What lies ready for the way, if the buffer lacks what the probes look for. One that ends before a probe's place has no byte
-/// at any later one.
+/// Whether no row is left that could accept a buffer with the way's alternative, and of this length if just that is needed.
 #[inline(always)]
-fn ready_of(way: &Way, buf: &[u8]) -> Option<Ready>
+fn is_alone(way: &Way, exact: bool, buf: &[u8]) -> bool
+    requires { IsAlone (alternative_listed way.now.alternative.now) way.now.guard.now }
+    ensures { IsTrue result → (b : List ℕ) → HasAlternative b way.now.alternative.now
+        → (IsTrue exact → length b ≡ length buf.now) → IsFirstAmong (RowHas (Accepts b)) way.now.guard.now.left.now None }
+{
+    infer_sig::laws::by_place();
+    way.guard.left.is_empty() || (exact && buf.len() < way.guard.alone)
+}
+
+/// What lies ready for the way, if the buffer lacks what the probes look for; and if it is to be `alone`, if no row is left that
+/// could accept. A buffer that ends before a probe's place has no byte at any later one.
+#[inline(always)]
+fn ready_of(way: &Way, alone: bool, buf: &[u8]) -> Option<Ready>
     requires has { HasAlternative buf.now way.now.alternative.now }
+    requires alone { IsAlone (alternative_listed way.now.alternative.now) way.now.guard.now }
     requires ascending { IsAscending way.now.guard.now.probes.now }
     requires ready { IsTrue (is_ready way.now.alternative.now way.now.guard.now) }
     ensures tells { IfSome result (λ r. (e : Evidence) → IsReady e r → (b : List ℕ) → AgreesOn e buf.now b
         → HasAlternative b way.now.alternative.now × All (Lacks b) way.now.guard.now.probes.now) }
+    ensures alone { IsTrue alone → IfSome result (λ r. (b : List ℕ) → HasAlternative b way.now.alternative.now
+        → (IsTrue r.exact → length b ≡ length buf.now) → IsFirstAmong (RowHas (Accepts b)) way.now.guard.now.left.now None) }
     ensures inside { IfSome result (λ r. (e : Evidence) → IsReady e r → IsOf e buf.now) }
     ensures few { IfSome result (λ r. length r.ranges.now
         ≤ length way.now.alternative.now.parts.now + length way.now.guard.now.probes.now) }
+    ensures written { IfSome result (λ r. r.written.now ≡ map range_written r.ranges.now) }
+    ensures rows { IfSome result (λ r. All (λ range. range.row ≤ ROW_COUNT) r.ranges.now) }
 {
     let guard = way.guard;
     for probe in guard.probes {
         if probe.place >= buf.len() {
+            if alone && !is_alone(way, true, buf) {
+                return None;
+            }
             return Some(Ready {
                 ranges: &guard.ranges[..probe.before],
+                written: &guard.written[..probe.before],
                 least: guard.least,
                 exact: true,
             });
@@ -265,8 +322,12 @@ fn ready_of(way: &Way, buf: &[u8]) -> Option<Ready>
             return None;
         }
     }
+    if alone && !is_alone(way, false, buf) {
+        return None;
+    }
     Some(Ready {
         ranges: guard.ranges,
+        written: guard.written,
         least: guard.least,
         exact: false,
     })
@@ -339,19 +400,19 @@ fn tell(row: usize, way: &Way, buf: &[u8], evidence: &mut Evidence) -> Option<us
     ensures few { evidence.new.count ≤ 1 + MOST_OF_CANDIDATES }
 {
     infer_sig::laws::by_place();
-    let Some(ready) = ready_of(way, buf) else {
+    let Some(ready) = ready_of(way, false, buf) else {
         return weigh_anew(buf, evidence);
     };
     evidence.take_ready(ready);
-    if way.guard.left.is_empty() {
+    if is_alone(way, ready.exact, buf) {
         return Some(row);
     }
     tell_before(row, way.guard.left, buf, evidence)
 }
 
-/// The same, by the first alternative that fits.
+/// The same, by the one of several alternatives that the first byte tells from the others, or the first that fits.
 #[inline(never)]
-fn tell_by_fitting(row: usize, buf: &[u8], evidence: &mut Evidence) -> Option<usize>
+fn tell_of_several(row: usize, buf: &[u8], evidence: &mut Evidence) -> Option<usize>
     requires accepts { IsFirstOf (Accepts buf.now) table (Some row) }
     requires within { row < ROW_COUNT }
     ensures first { IsFirstOf (Accepts buf.now) table result }
@@ -360,29 +421,48 @@ fn tell_by_fitting(row: usize, buf: &[u8], evidence: &mut Evidence) -> Option<us
     ensures inside { IsOf evidence.new buf.now }
     ensures few { evidence.new.count ≤ 1 + MOST_OF_CANDIDATES }
 {
+    if let Some(way) = led_way(row, buf) {
+        return tell(row, &way, buf, evidence);
+    }
     match fitting_way(row, buf) {
         Some(way) => tell(row, &way, buf, evidence),
         None => weigh_anew(buf, evidence),
     }
 }
 
-/// The number of the first built-in row that accepts `buf`, and what decides it, if this lies ready, as it does for most: then
-/// [`evidence`] asks for just this.
-pub fn ready(buf: &[u8]) -> Option<(usize, Ready)>
-    ensures first { IfSome result (λ r. IsFirstOf (Accepts buf.now) table (Some r.0)) }
-    ensures bound { IfSome result (λ r. r.0 < ROW_COUNT) }
-    ensures decides { IfSome result (λ r. (e : Evidence) → IsReady e r.1 → Decides e buf.now (Some r.0)) }
-    ensures inside { IfSome result (λ r. (e : Evidence) → IsReady e r.1 → IsOf e buf.now) }
-    ensures few { IfSome result (λ r. length r.1.ranges.now ≤ 1 + MOST_OF_CANDIDATES) }
+/// What lies ready for the way, if this decides that the row is the first.
+#[inline(always)]
+fn ready_by(row: usize, way: &Way, buf: &[u8]) -> Option<Ready>
+    requires first { IsFirstOf (Accepts buf.now) table (Some row) }
+    requires way { IsWay row buf.now way.now }
+    ensures { IfSome result (IsReadyFor buf.now row) }
 {
     infer_sig::laws::by_place();
-    let row = position(buf)?;
+    let ready = ready_of(way, true, buf)?;
+    Some(ready)
+}
+
+/// What decides that the row is the first built-in one that accepts `buf`, as [`position`] has found, if this lies ready and
+/// the row's signature has one alternative: then [`evidence`] asks for just this.
+#[inline(always)]
+pub fn ready(row: usize, buf: &[u8]) -> Option<Ready>
+    requires first { IsFirstOf (Accepts buf.now) table (Some row) }
+    requires bound { row < ROW_COUNT }
+    ensures { IfSome result (IsReadyFor buf.now row) }
+{
+    let way = only_way(row, buf)?;
+    ready_by(row, &way, buf)
+}
+
+/// The same, if the row's signature has several alternatives. It is apart, so that those of one pay nothing for it.
+#[inline(always)]
+pub fn ready_of_several(row: usize, buf: &[u8]) -> Option<Ready>
+    requires first { IsFirstOf (Accepts buf.now) table (Some row) }
+    requires bound { row < ROW_COUNT }
+    ensures { IfSome result (IsReadyFor buf.now row) }
+{
     let way = led_way(row, buf)?;
-    if !way.guard.left.is_empty() {
-        return None;
-    }
-    let ready = ready_of(&way, buf)?;
-    Some((row, ready))
+    ready_by(row, &way, buf)
 }
 
 /// The number of the first built-in row that accepts `buf`, as [`position`](crate::position) answers, and what decides it: the
@@ -403,8 +483,8 @@ pub fn evidence(buf: &[u8], evidence: &mut Evidence) -> Option<usize>
     let Some(row) = position(buf) else {
         return weigh_anew(buf, evidence);
     };
-    match led_way(row, buf) {
+    match only_way(row, buf) {
         Some(way) => tell(row, &way, buf, evidence),
-        None => tell_by_fitting(row, buf, evidence),
+        None => tell_of_several(row, buf, evidence),
     }
 }

@@ -1,2 +1,3 @@
 mod MimeLemmas
 mod RangeLemmas
+mod ReadyLemmas

@@ -10,7 +10,7 @@ module _ {B : Type 0} (xs old : List B) where
   abbrev pub written : ℕ → List B
   written k = take k xs ++ drop k old
 
-  more : (k : ℕ) (e : B) → k < length xs → k < length old → set (written k) k (get_or xs k e) ≡ written (k + 1)
+  pub more : (k : ℕ) (e : B) → k < length xs → k < length old → set (written k) k (get_or xs k e) ≡ written (k + 1)
   more k e lt room =
       grind (arith, drop-cons old k e room, set-append_seam (take k xs) (get_or old k e) (drop (k + 1) old) (get_or xs k e), take-suc xs k e lt, length-take-le, append_assoc)
 

@@ -7,7 +7,7 @@ use Rattle.infer_evidence.specs.declared.ranges.Ready.{Ready}
 use Rattle.infer_more.specs.Wider.{shown}
 use Rattle.infer_c.specs.Codes.{row_code}
 use Rattle.infer_c.specs.declared.why.Needs.{Needs}
-use Rattle.infer_c.specs.declared.why.WrittenRange.{WrittenRange}
+use Rattle.infer_evidence.specs.declared.ranges.WrittenRange.{WrittenRange}
 
 -- the number, if a row has it
 abbrev pub among_rows : Option ℕ → Option ℕ

@@ -14,7 +14,7 @@ ghost use Rattle.infer.specs.Questions.{HasClass, HasExtension, HasMimeType, Som
 ghost use Rattle.infer.specs.Row.{Accepts};
 ghost use Rattle.infer.specs.Table.{table};
 ghost use Rattle.infer.specs.Walks.{count_asked};
-ghost use Rattle.infer.specs.declared.table.rows.TheConstants.{MOST_CANDIDATES};
+ghost use Rattle.infer.specs.declared.table.rows.TheConstants.{MOST_CANDIDATES, ROW_COUNT};
 ghost use Rattle.infer_sniff.specs.Verdicts.{IsSettled, RowStaysFinal};
 ghost use Rattle.infer_c.specs.Codes.{AcceptsAt, IsClassOf, IsSampleOf, MayBecomeAt, class_code, class_name, row_code, triple_at};
 ghost use Rattle.infer_formats.specs.Text.{IsEncodingOf, encoding_name};
@@ -50,12 +50,12 @@ mod why;
 mod written;
 
 use infer::MatcherType;
-use infer_evidence::Evidence;
+use infer_evidence::{Evidence, WrittenRange};
 use infer_more::laws;
 use mime_sniff::Context;
 use mime_types::Destination;
 use named::NamedAnswer;
-use why::{Needs, WrittenRange};
+use why::Needs;
 
 const VERSION: &str = "0.1.0";
 
@@ -177,8 +177,36 @@ pub extern "C" fn infer_evidence(buf: &[u8], ranges: &mut [WrittenRange], needs:
         × TellsWhy (λ e. Decides e buf.now first) buf.now ranges.old ranges.new needs.new }
     ensures few { needs.new.wanted ≤ 68 }
 {
-    match infer::ready(buf) {
-        Some((row, ready)) => {
+    let Some(row) = infer::position(buf) else {
+        return evidence_in_full(buf, ranges, needs);
+    };
+    match infer::ready(row, buf) {
+        Some(ready) => {
+            why::store_ready(&ready, ranges, needs);
+            row as i32
+        }
+        None => evidence_of_several(row, buf, ranges, needs),
+    }
+}
+
+/// The same of a row whose signature has several alternatives. Like the way behind it, it is a function of its own, so that the
+/// rows of one alternative pay nothing for it.
+#[inline(never)]
+fn evidence_of_several(
+    row: usize,
+    buf: &[u8],
+    ranges: &mut [WrittenRange],
+    needs: &mut Needs,
+) -> i32
+    requires first { IsFirstOf (Accepts buf.now) table (Some row) }
+    requires bound { row < ROW_COUNT }
+    ensures first { (first : Option ℕ) × IsFirstOf (Accepts buf.now) table first
+        × (result ≡ row_code first)
+        × TellsWhy (λ e. Decides e buf.now first) buf.now ranges.old ranges.new needs.new }
+    ensures few { needs.new.wanted ≤ 68 }
+{
+    match infer::ready_of_several(row, buf) {
+        Some(ready) => {
             why::store_ready(&ready, ranges, needs);
             row as i32
         }

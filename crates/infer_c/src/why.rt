@@ -1,23 +1,14 @@
 //! What decides an answer, as C has it.
-ghost use Rattle.std.specs.Prelude.{◌≡◌};
+ghost use Rattle.std.specs.Prelude.{◌≡◌, ◌≤◌, All, map};
+ghost use Rattle.infer.specs.declared.table.rows.TheConstants.{ROW_COUNT};
+ghost use Rattle.infer_evidence.specs.Evidence as handed;
 ghost use Rattle.infer_evidence.specs.Evidence.{ranges_of};
 ghost use Rattle.infer_c.specs.Codes.{row_code};
 ghost use Rattle.infer_c.specs.Why.{WritesRanges, among_rows, evidence_of, needs_of, range_written};
 
 use infer::rows::ROW_COUNT;
-use infer_evidence::{Evidence, Range, Ready};
+use infer_evidence::{Evidence, Range, Ready, WrittenRange};
 use infer_more::{FURTHER_COUNT, laws};
-
-/// Bytes of a buffer: `len` of them, the first at `place` and each other `step` behind the one before, and the number of the
-/// row of which they tell, or -1.
-#[repr(C)]
-#[derive(Clone, Copy)]
-pub struct WrittenRange {
-    pub place: usize,
-    pub len: usize,
-    pub step: usize,
-    pub row: i32,
-}
 
 /// How many ranges are wanted, the least length that is needed, and whether just that of the buffer is.
 #[repr(C)]
@@ -41,16 +32,40 @@ pub fn store(evidence: &Evidence, room: &mut [WrittenRange], needs: &mut Needs)
     };
 }
 
-/// The same of what lies ready.
+/// The same of what lies ready, and has its ranges as they are written.
+#[inline(always)]
 pub fn store_ready(ready: &Ready, room: &mut [WrittenRange], needs: &mut Needs)
+    requires written { ready.now.written.now ≡ map handed.range_written ready.now.ranges.now }
+    requires rows { All (λ range. range.row ≤ ROW_COUNT) ready.now.ranges.now }
     ensures ranges { WritesRanges ready.now.ranges.now room.old room.new }
     ensures needs { needs.new ≡ needs_of (evidence_of ready.now) }
 {
-    write_ranges(ready.ranges, room);
+    laws::numbers();
+    let wanted = ready.written.len();
+    for k in 0..wanted {
+        if k >= room.len() {
+            return store_needs(wanted, ready.least, ready.exact, needs);
+        }
+        room[k] = ready.written[k];
+    }
+    needs.wanted = wanted;
+    needs.least = ready.least;
+    needs.is_exact = ready.exact;
+}
+
+/// Stores what is needed. Room is seldom too small, so that what then stores it is apart: else the loop that copies is unrolled,
+/// which costs the few ranges more than it saves.
+#[cold]
+#[inline(never)]
+fn store_needs(wanted: usize, least: usize, is_exact: bool, needs: &mut Needs)
+    ensures wanted { needs.new.wanted ≡ wanted }
+    ensures least { needs.new.least ≡ least }
+    ensures exact { needs.new.is_exact ≡ is_exact }
+{
     *needs = Needs {
-        wanted: ready.ranges.len(),
-        least: ready.least,
-        is_exact: ready.exact,
+        wanted,
+        least,
+        is_exact,
     };
 }
 

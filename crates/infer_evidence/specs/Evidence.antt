@@ -1,10 +1,11 @@
 -- Which bytes of a buffer decide.
-use Rattle.std.specs.Prelude.{◌≡◌, ◌+◌, ◌*◌, ◌<◌, ◌≤◌, ℕ, zero, suc, List, Option, None, Some, All, IsTrue, get_or, length, slice_index, take}
+use Rattle.std.specs.Prelude.{◌≡◌, ◌+◌, ◌*◌, ◌<◌, ◌≤◌, ℕ, ℤ, pos, negsuc, zero, suc, List, Option, None, Some, All, IsTrue, get_or, length, slice_index, take}
 use Rattle.std.specs.Option.{option_map_or}
 use Rattle.infer_evidence.specs.declared.ranges.Evidence.{Evidence}
 use Rattle.infer_evidence.specs.declared.ranges.Range.{Range}
 use Rattle.infer_evidence.specs.declared.ranges.Ready.{Ready}
 use Rattle.infer_evidence.specs.declared.ranges.TheConstants.{MOST_RANGES}
+use Rattle.infer_evidence.specs.declared.ranges.WrittenRange.{WrittenRange}
 
 -- the ranges that the evidence keeps: those that lie ready, if it has such, and else its own
 abbrev pub ranges_kept : Evidence → List Range
@@ -51,6 +52,15 @@ row_kept (suc i) = Some i
 
 abbrev pub row_of : Range → Option ℕ
 row_of r = row_kept r.row
+
+-- the number of a row as it is handed to C, and -1 for none
+abbrev pub row_written : Option ℕ → ℤ
+row_written (Some i) = pos i
+row_written None = negsuc 0
+
+-- and the range
+abbrev pub range_written : Range → WrittenRange
+range_written r = record { place = r.place; len = r.len; step = r.step; row = row_written (row_of r) }
 
 -- c agrees with b on the evidence, which has room for all its ranges: it has the same bytes in each of them, the length that
 -- is needed at least, and that of b if this is

@@ -114,11 +114,23 @@ fn number(row: Option<usize>) -> u32
     }
 }
 
-/// What decides, where it lies ready: all ranges of a list, the least length that is needed, and whether another length is not
-/// enough.
+/// A range as it is handed to C: bytes of a buffer, `len` of them, the first at `place` and each other `step` behind the one
+/// before, and the number of the row of which they tell, or -1.
+#[repr(C)]
+#[derive(Clone, Copy)]
+pub struct WrittenRange {
+    pub place: usize,
+    pub len: usize,
+    pub step: usize,
+    pub row: i32,
+}
+
+/// What decides, where it lies ready: all ranges of a list, the same as they are handed to C, so that they need only be copied;
+/// the least length that is needed, and whether another length is not enough.
 #[derive(Clone, Copy)]
 pub struct Ready {
     pub ranges: &'static [Range],
+    pub written: &'static [WrittenRange],
     pub least: usize,
     pub exact: bool,
 }

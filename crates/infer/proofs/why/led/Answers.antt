@@ -1,6 +1,6 @@
-use Rattle.infer.proofs.Common.{◌≡◌, ◌<◌, ◌∙◌, Some, arith, get_or, get_or_default, length, refl, slice_get, sym}
+use Rattle.infer.proofs.Common.{IsTrue, are_ready, subst, ◌≡◌, ◌<◌, ◌∙◌, Some, arith, get_or, get_or_default, length, refl, slice_get, sym}
 use Rattle.std.proofs.lemmas.Option.{slice_get_read}
-use Rattle.infer.proofs.ReadyLemmas.{known_guards, led_by}
+use Rattle.infer.proofs.ReadyLemmas.{known_guards, led_by, several_guards}
 use Rattle.infer.proofs.why.led.Goals as goal
 
 pub returns-in-loop-k : goal.returns-in-loop-k
@@ -13,4 +13,7 @@ returns-in-loop-k c =
     let some : 0 < length c.args.buf.now = grind arith in
     let first : get_or c.args.buf.now 0 0 ≡ c.in_ok-lead.lead.now = grind arith in
     let low : c.in_ok-lead.lead.now < 256 = let byte = c.type_inv.buf 0 in omega (arith, byte, first) in
-    led_by c.args.buf.now c.in_ok-lead.lead.now (some, first) gs c.args.own.now.alternatives.now k c.in-Some.guard (known_guards c.args.own.now c.requires.ready) found lead low c.requires.has
+    let own = c.args.own.now in
+    let xs = own.alternatives.now in
+    let ready = subst (λ gs. IsTrue (are_ready 0 gs xs xs)) (several_guards own c.requires.several) (known_guards own c.requires.ready) in
+    let told = led_by c.args.buf.now c.in_ok-lead.lead.now (some, first) gs xs k c.in-Some.guard ready found lead low c.requires.has in (lt, told.0, told.1)

@@ -1,8 +1,8 @@
-use Rattle.infer.proofs.Common.{◌<◌, ◌∙◌, AllWithin-more, arith, false≢true, get_or_default, length, length-take-le, nat_tests, refl, subst, sym, true}
+use Rattle.infer.proofs.Common.{◌<◌, ◌∙◌, AllWithin-more, arith, false≢true, get_or_default, length, length-take-le, nat_tests, refl, subst, sym, take, true}
 use Rattle.std.proofs.Common.{get_or}
 use Rattle.std.specs.Prelude.{nat_lt}
 use Rattle.infer.proofs.GuardLemmas.{lacks_behind, lacks_more}
-use Rattle.infer.proofs.ReadyLemmas.{close_before, ready_before, ready_inside, ready_least, ready_tells, ready_whole}
+use Rattle.infer.proofs.ReadyLemmas.{close_before, ready_before, ready_inside, ready_least, ready_tells, ready_whole, ready_written, rows_all, written_all, written_long, written_take}
 use Rattle.infer.specs.declared.why.known.Probe.{Probe}
 use Rattle.infer.proofs.why.ready_of.Goals as goal
 
@@ -77,3 +77,39 @@ slice_bounds-result-end c =
     let g = c.args.way.now.guard.now in
     let within = (ready_before a g c.requires.ready c.loop-probe.probe-index nothing c.loop-probe-test.true).0 in
     sym (length-take-le (get_or g.probes.now c.loop-probe.probe-index nothing).before g.ranges.now within)
+
+pub returns-then-probe-buf-clause-written : goal.returns-then-probe-buf-clause-written
+unfolding nothing
+returns-then-probe-buf-clause-written c =
+    let a = c.args.way.now.alternative.now in
+    let g = c.args.way.now.guard.now in
+    let n = (get_or g.probes.now c.loop-probe.probe-index nothing).before in
+    written_all (take n g.ranges.now) (take n g.written.now) (written_take n g.ranges.now g.written.now (ready_written a g c.requires.ready))
+
+pub returns-then-probe-buf-clause-rows : goal.returns-then-probe-buf-clause-rows
+unfolding nothing
+returns-then-probe-buf-clause-rows c =
+    let a = c.args.way.now.alternative.now in
+    let g = c.args.way.now.guard.now in
+    let n = (get_or g.probes.now c.loop-probe.probe-index nothing).before in
+    rows_all (take n g.ranges.now) (take n g.written.now) (written_take n g.ranges.now g.written.now (ready_written a g c.requires.ready))
+
+pub returns-clause-written : goal.returns-clause-written
+returns-clause-written c =
+    let a = c.args.way.now.alternative.now in
+    let g = c.args.way.now.guard.now in written_all g.ranges.now g.written.now (ready_written a g c.requires.ready)
+
+pub returns-clause-rows : goal.returns-clause-rows
+returns-clause-rows c =
+    let a = c.args.way.now.alternative.now in
+    let g = c.args.way.now.guard.now in rows_all g.ranges.now g.written.now (ready_written a g c.requires.ready)
+
+pub slice_bounds-result-end-then-probe-buf : goal.slice_bounds-result-end-then-probe-buf
+unfolding nothing
+slice_bounds-result-end-then-probe-buf c =
+    let a = c.args.way.now.alternative.now in
+    let g = c.args.way.now.guard.now in
+    let n = (get_or g.probes.now c.loop-probe.probe-index nothing).before in
+    let within = (ready_before a g c.requires.ready c.loop-probe.probe-index nothing c.loop-probe-test.true).0 in
+    let long = written_long g.ranges.now g.written.now (ready_written a g c.requires.ready) in
+    sym (length-take-le n g.written.now (omega (arith, within, long)))
