@@ -394,11 +394,19 @@ def lines_of_rows(named):
 
 @kept
 def names_lines():
-    """The lines of names.txt, and at their places those of rows that no line names."""
+    """The lines of names.txt, and at their places those of rows that no line names: of an extension that has a line the first
+    reading of this."""
     lines = text_of(NAMES).splitlines()
     sets = [it for line in lines for it in re.findall("; (?:agrees|begins|finer) ([^;|]*)", line)]
     for line in lines_of_rows({row for it in sets for row in rows_of(it)} | set(nameless())):
-        lines.insert(bisect.bisect(lines, text_named(line), key=text_named), line)
+        place = bisect.bisect(lines, text_named(line), key=text_named)
+        known = LINE.fullmatch(lines[place - 1])
+        if known and (known["part"], known["text"]) == ("extension", text_named(line)):
+            # The extension has another type already, which it may still mean where the row refuses the bytes.
+            head, _, readings = lines[place - 1].partition(": ")
+            lines[place - 1] = f"{head}: {line.partition(': ')[2]} | {readings}"
+        else:
+            lines.insert(place, line)
     return lines
 
 
