@@ -1,12 +1,11 @@
 -- Ranges that lie ready as they are handed to C are those that are written.
-use Rattle.std.proofs.Common.{◌≡◌, ◌+◌, ◌<◌, ◌≤◌, ◌∷◌, ◌∙◌, ℕ, zero, suc, List, [], All, Some, None, Option, IsTrue, Bool, true, ap, arith, get_or, if◌then◌else◌, length, map, refl, sym}
+use Rattle.std.proofs.Common.{◌≡◌, ◌≤◌, ◌∷◌, ◌∙◌, ℕ, zero, suc, List, [], All, Some, None, Bool, true, ap, arith, if◌then◌else◌, length, map, refl, sym}
 use Rattle.std.specs.Prelude.{nat_lt}
 use Rattle.std.proofs.lemmas.Bool.{lt-ltb}
 use Rattle.infer.specs.declared.table.rows.TheConstants.{ROW_COUNT}
 use Rattle.infer_evidence.specs.Evidence as handed
 use Rattle.infer_evidence.specs.Evidence.{row_kept, row_written}
 use Rattle.infer_evidence.specs.declared.ranges.Range.{Range}
-use Rattle.infer_evidence.specs.declared.ranges.WrittenRange.{WrittenRange}
 use Rattle.infer_more.specs.Wider.{shown}
 use Rattle.infer_c.specs.Codes.{row_code}
 use Rattle.infer_c.specs.Why.{among_rows, range_written}

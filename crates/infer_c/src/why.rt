@@ -32,7 +32,8 @@ pub fn store(evidence: &Evidence, room: &mut [WrittenRange], needs: &mut Needs)
     };
 }
 
-/// The same of what lies ready, and has its ranges as they are written.
+/// The same of what lies ready, and has its ranges as they are written. The first is copied ahead of the loop, since a short
+/// buffer most often has no other.
 #[inline(always)]
 pub fn store_ready(ready: &Ready, room: &mut [WrittenRange], needs: &mut Needs)
     requires written { ready.now.written.now ≡ map handed.range_written ready.now.ranges.now }
@@ -42,7 +43,11 @@ pub fn store_ready(ready: &Ready, room: &mut [WrittenRange], needs: &mut Needs)
 {
     laws::numbers();
     let wanted = ready.written.len();
-    for k in 0..wanted {
+    if wanted == 0 || room.is_empty() {
+        return store_needs(wanted, ready.least, ready.exact, needs);
+    }
+    room[0] = ready.written[0];
+    for k in 1..wanted {
         if k >= room.len() {
             return store_needs(wanted, ready.least, ready.exact, needs);
         }
@@ -53,8 +58,8 @@ pub fn store_ready(ready: &Ready, room: &mut [WrittenRange], needs: &mut Needs)
     needs.is_exact = ready.exact;
 }
 
-/// Stores what is needed. Room is seldom too small, so that what then stores it is apart: else the loop that copies is unrolled,
-/// which costs the few ranges more than it saves.
+/// Stores what is needed. Seldom is no range wanted or the room too small, so that what then stores it is apart: else the loop
+/// that copies is unrolled, which costs the few ranges more than it saves.
 #[cold]
 #[inline(never)]
 fn store_needs(wanted: usize, least: usize, is_exact: bool, needs: &mut Needs)

@@ -1,10 +1,18 @@
-use Rattle.std.proofs.Common.{◌≡◌, ◌+◌, ◌<◌, ◌≤◌, ◌∙◌, List, ap, arith, get_or, length, map, min, set, subst}
+use Rattle.std.proofs.Common.{◌≡◌, ◌<◌, ◌∙◌, ap, arith, get_or, length, min, set, subst}
 use Rattle.std.proofs.lemmas.List.{length-map, length-set}
-use Rattle.infer_evidence.specs.declared.ranges.WrittenRange.{WrittenRange}
 use Rattle.infer_c.specs.Why.{range_written}
 use Rattle.infer_c.proofs.RangeLemmas.{more, written, written_all}
 use Rattle.infer_c.proofs.ReadyLemmas.{same_written}
 use Rattle.infer_c.proofs.why.store_ready.Goals as goal
+
+pub loop-k-init : goal.loop-k-init
+loop-k-init c =
+    let xs = c.args.ready.now.written.now in
+    let old = c.args.room.now in record {
+      room = more xs old 0 _ (grind arith) (grind arith);
+      long = length-set old 0 _;
+      fits = grind arith;
+    }
 
 pub loop-k-preserved : goal.loop-k-preserved
 loop-k-preserved c =

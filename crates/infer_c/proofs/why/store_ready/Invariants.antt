@@ -5,7 +5,7 @@ use Rattle.infer_c.proofs.why.store_ready.Given as goal
 
 abbrev pub invariant-loop-k : goal.invariant-loop-k
 invariant-loop-k l = record {
-  room : l.room ≡ written l.ready.written.now l.initial.room l.k;
-  long : length l.room ≡ length l.initial.room;
-  fits : l.k ≤ length l.initial.room;
+  room : l.room ≡ written l.ready.written.now l.fn.room l.k;
+  long : length l.room ≡ length l.fn.room;
+  fits : l.k ≤ length l.fn.room;
 }
