@@ -1,5 +1,5 @@
 -- What an answer's own bytes, and one byte more at each of a few places, say of the rows before it.
-use Rattle.std.specs.Prelude.{◌≢◌, ◌+◌, ◌-◌, ◌<◌, ◌≤◌, ◌&&◌, ◌||◌, ◌==◌, ℕ, ℤ, pos, negsuc, suc, Bool, codes, true, false, not, List, [], ◌∷◌, Option, None, Some, All, IsTrue, length, nat_le, nat_lt, slice_index, take, zero}
+use Rattle.std.specs.Prelude.{◌≢◌, ◌+◌, ◌-◌, ◌<◌, ◌≤◌, ◌&&◌, ◌||◌, ◌==◌, ℕ, ℤ, pos, suc, Bool, codes, true, false, not, List, [], ◌∷◌, Option, None, Some, All, IsTrue, length, nat_le, nat_lt, slice_index, take, zero}
 use Rattle.std.specs.List.{AllPairs, list_all, list_any, range_with_len}
 use Rattle.std.specs.Option.{option_map_or}
 use Rattle.infer_sig.specs.Signature.{Alternative, Part, allows, any_of, any_text, at_least, between, byte, fits, text}
