@@ -847,60 +847,6 @@ def named_proof():
     )
 
 
-VECTORS, SHORT = "vectors/named.tsv", 80
-TEST_HEAD = """//! Made by `tools/tables` from vectors/named.tsv: names and first bytes whose standings and types a program computed that
-//! shares no code with this one.
-use crate::{Standing, named};
-use std::test::Fail;
-
-/// A name, bytes, the standing, and the MIME type or no text.
-type Case<'a> = (&'a [u8], &'a [u8], Standing, &'a str);
-
-macro_rules! cases {
-    ($($name:literal $buf:literal $standing:ident $mime_type:literal;)*) => {
-        [$(($name, $buf, Standing::$standing, $mime_type)),*]
-    };
-}
-"""
-TEST = """
-#[test]
-fn part_{number}(rt: HostRuntime) -> Result<(), Fail> {{
-    let cases: [Case<'_>; {count}] = cases![
-{cases}
-    ];
-    for (i, (name, buf, standing, mime_type)) in cases.iter().enumerate() {{
-        let found = named(*name, *buf);
-        let told = found.told.map_or("", |told| told.mime_type());
-        assert_eq!(rt; (found.standing, told), (*standing, *mime_type), "case {{i}}");
-    }}
-    Ok(())
-}}
-"""
-
-
-def literal(data):
-    """Bytes as the code writes them."""
-    known = {0x22: '\\"', 0x5C: "\\\\", 0x0A: "\\n", 0x0D: "\\r", 0x09: "\\t", 0x00: "\\0"}
-    return 'b"' + "".join(known.get(it) or (chr(it) if 0x20 <= it < 0x7F else f"\\x{it:02X}") for it in data) + '"'
-
-
-def cases():
-    """The vectors with few bytes: of the others C asks."""
-    for line in text_of(VECTORS).splitlines():
-        name, words, standing, mime_type = line.split("\t")
-        name = re.sub(rb"\\x([0-9A-Fa-f]{2})", lambda it: bytes([int(it[1], 16)]), name.encode())
-        data = b"".join(bytes.fromhex(digits) * int(count or 1) for digits, _, count in (it.partition("*") for it in words.replace("-", "").split()))
-        if max(len(name), len(data)) <= SHORT:
-            yield f'        {literal(name)} {literal(data)} {standing.title().replace(" ", "")} "{mime_type.removeprefix("-")}";'
-
-
-def tests():
-    """The tests of the vectors, of which so many are asked by one function."""
-    listed, size = list(cases()), 100
-    parts = [listed[at : at + size] for at in range(0, len(listed), size)]
-    return TEST_HEAD + "".join(TEST.format(number=number, count=len(part), cases="\n".join(part)) for number, part in enumerate(parts))
-
-
 def texts_term():
     """The definition of sets with the rows of texts, eight a line."""
     codes = [f'codes "{it}"' for it in TEXTS]
@@ -911,7 +857,6 @@ def texts_term():
 
 def made():
     yield NAMES, "".join(f"{it}\n" for it in names_lines())
-    yield f"{CRATE}/src/tests/generated.rt", tests()
     for name, code in (("keys", keys_code), ("texts", texts_code), ("types", types_code), ("sets", sets_code)):
         yield f"{CRATE}/src/table/generated/{name}.rt", code()
     yield f"{CRATE}/specs/Types.antt", types_term()

@@ -7,7 +7,8 @@
 
 static struct tally texts = {.asks = "MIME types"}, cut = {.asks = "the same with less room"}, headers = {.asks = "headers"},
                     computed = {.asks = "computed types"}, decided = {.asks = "decided types"}, scripts = {.asks = "what may run scripts"};
-static long due, told;
+/* How many yes of the decided types and no of what may run scripts are due, and how many came. */
+static long due, told, harmless, told_harmless;
 
 /* Bytes that JSON writes: a code point is a byte. One beyond a byte is in no token and no value, as 7F. */
 static const char *read_byte(const char *at, struct buffer *to) {
@@ -115,6 +116,8 @@ static void compare_groups(const char *inputs, const char *wanted) {
         for (size_t i = 0; i < sizeof names / sizeof *names; i++)
             if (name.len == strlen(names[i]) && memcmp(name.bytes, names[i], name.len) == 0) sum |= (uint32_t)1 << i;
     }
+    char out[INFER_MIME_SIZE];
+    WANTS(&texts, infer_mime_essence((char *)text.bytes, text.len, out, sizeof out) != 0, "%s is no MIME type", inputs);
     WANTS(&texts, infer_mime_groups((char *)text.bytes, text.len) == sum, "the groups of %s", inputs);
 }
 
@@ -209,12 +212,20 @@ static void compare_archive(const struct buffer *data, const char *wanted) {
         WANTS(&computed, strcmp(out, archives[i]) != 0, "no archive, but %s", out);
 }
 
-/* A yes is never wrong, and most that are due come. */
+/* A yes is never wrong, and three of four that are due come. */
 static void compare_decided(const struct buffer *type, uint32_t flags, const struct buffer *data, bool wanted, const char *name) {
     bool is = infer_mime_is_decided((char *)type->bytes, type->len, flags, data->bytes, data->len);
     due += wanted;
     told += is;
     WANTS(&decided, wanted || !is, "%s", name);
+}
+
+/* A no is never wrong, and three of four that are due come. */
+static void compare_scriptable(const struct buffer *data, bool wanted, const char *name) {
+    bool may_be = infer_mime_may_be_scriptable(data->bytes, data->len);
+    harmless += !wanted;
+    told_harmless += !may_be;
+    WANTS(&scripts, may_be || !wanted, "%s", name);
 }
 
 static int32_t context_named(const struct buffer *name) {
@@ -236,11 +247,7 @@ static void compare_sniffed(const char *function, const char *inputs, const stru
     if (strcmp(function, "audio_video") == 0) return compare_computed(&none, 0, INFER_MIME_IN_AUDIO_VIDEO, data, wanted, function);
     if (strcmp(function, "font") == 0) return compare_computed(&none, 0, INFER_MIME_IN_FONT, data, wanted, function);
     if (strcmp(function, "archive") == 0) return compare_archive(data, wanted);
-    if (strcmp(function, "may_be_scriptable") == 0) {
-        bool may_be = infer_mime_may_be_scriptable(data->bytes, data->len);
-        WANTS(&scripts, may_be || *wanted == 'f', "%s", inputs);
-        return;
-    }
+    if (strcmp(function, "may_be_scriptable") == 0) return compare_scriptable(data, *wanted == 't', inputs);
     const char *at = read_text(inputs + 1, &name, &word);
     if (strcmp(function, "apache_bug") == 0) {
         WANTS(&headers, infer_mime_is_old_server((char *)name.bytes, name.len) == (*wanted == 't'), "%s", inputs);
@@ -282,6 +289,7 @@ int main(int argc, char **argv) {
         compare_sniffed(at[0], at[1], &data, at[3]);
     }
     WANTS(&decided, told >= due - due / 4, "%ld yes of %ld", told, due);
+    WANTS(&scripts, told_harmless >= harmless - harmless / 4, "%ld no of %ld", told_harmless, harmless);
     const struct tally tallies[] = {texts, cut, headers, computed, decided, scripts};
     return report(tallies, sizeof tallies / sizeof *tallies) != 0;
 }

@@ -1,94 +1,66 @@
-//! What browsers' tests and other programs say of texts.
+//! What browsers' tests and other programs say of texts: a row of each kind of vectors/mime_types.tsv, which c/vectors/mime.c asks whole.
 use crate::{
-    Destination, Extracted, MimeType, Minimal, Pieces, WriteError, extract, is_blocked, is_nosniff,
-    parse,
+    Destination, MimeType, Minimal, Pieces, WriteError, extract, is_blocked, is_nosniff, parse,
 };
 use std::test::Fail;
 
-mod generated;
+/// A text, and that of the MIME type that it says, which is empty if it says none.
+const PARSED: &[(&[u8], &[u8])] = &[
+    (b"text/html;charset=gbk", b"text/html;charset=gbk"),
+    (b" A/B ; =+xml \xE9\t,", b"a/b"),
+    (b"text/html;charset=\"gbk \"", b"text/html;charset=\"gbk \""),
+    (b"x/x;x=\x85;bonus=x", b"x/x;x=\"\x85\";bonus=x"),
+    (b"x/x;x=\x02;bonus=x", b"x/x;bonus=x"),
+    (b"x/x;\xA1=x;bonus=x", b"x/x;bonus=x"),
+    (b"a/b;; charset=\"g\\\"btext{;\x0B\xE9", b"a/b"),
+    (
+        b"image/svg+xml;\0; charset=\"g\\\"b+xml=\\B\\/\"x\" y utf-8; charset=\"g\\\"b",
+        b"image/svg+xml;charset=\"g\\\"b+xml=B/\"",
+    ),
+    (b"*/*", b"*/*"),
+    (b"\x0Bx/x", b""),
+    (b"text/ html", b""),
+    (b"a", b""),
+];
 
 #[test]
-fn as_others_parse_the_first(rt: HostRuntime) -> Result<(), Fail> {
-    for (i, (text, wanted)) in generated::PARSED_1.iter().enumerate() {
-        assert!(rt; is_said(*text, *wanted), "text {i}");
+fn as_others_parse(rt: HostRuntime) -> Result<(), Fail> {
+    for (i, (text, wanted)) in PARSED.iter().enumerate() {
+        match parse(*text) {
+            Some(found) => assert!(rt; is_written(&found, *wanted), "text {i}"),
+            None => assert!(rt; wanted.is_empty(), "text {i}"),
+        }
     }
     Ok(())
-}
-
-#[test]
-fn as_others_parse_the_second(rt: HostRuntime) -> Result<(), Fail> {
-    for (i, (text, wanted)) in generated::PARSED_2.iter().enumerate() {
-        assert!(rt; is_said(*text, *wanted), "text {i}");
-    }
-    Ok(())
-}
-
-#[test]
-fn as_others_parse_the_third(rt: HostRuntime) -> Result<(), Fail> {
-    for (i, (text, wanted)) in generated::PARSED_3.iter().enumerate() {
-        assert!(rt; is_said(*text, *wanted), "text {i}");
-    }
-    Ok(())
-}
-
-#[test]
-fn as_others_parse_the_fourth(rt: HostRuntime) -> Result<(), Fail> {
-    for (i, (text, wanted)) in generated::PARSED_4.iter().enumerate() {
-        assert!(rt; is_said(*text, *wanted), "text {i}");
-    }
-    Ok(())
-}
-
-#[test]
-fn as_others_parse_the_fifth(rt: HostRuntime) -> Result<(), Fail> {
-    for (i, (text, wanted)) in generated::PARSED_5.iter().enumerate() {
-        assert!(rt; is_said(*text, *wanted), "text {i}");
-    }
-    Ok(())
-}
-
-#[test]
-fn as_others_parse_the_sixth(rt: HostRuntime) -> Result<(), Fail> {
-    for (i, (text, wanted)) in generated::PARSED_6.iter().enumerate() {
-        assert!(rt; is_said(*text, *wanted), "text {i}");
-    }
-    Ok(())
-}
-
-#[test]
-fn as_others_parse_the_seventh(rt: HostRuntime) -> Result<(), Fail> {
-    for (i, (text, wanted)) in generated::PARSED_7.iter().enumerate() {
-        assert!(rt; is_said(*text, *wanted), "text {i}");
-    }
-    Ok(())
-}
-
-#[test]
-fn as_others_parse_the_eighth(rt: HostRuntime) -> Result<(), Fail> {
-    for (i, (text, wanted)) in generated::PARSED_8.iter().enumerate() {
-        assert!(rt; is_said(*text, *wanted), "text {i}");
-    }
-    Ok(())
-}
-
-fn is_said(text: &[u8], wanted: &[u8]) -> bool {
-    match parse(text) {
-        Some(found) => is_written(&found, wanted),
-        None => wanted.is_empty(),
-    }
 }
 
 fn is_written(found: &MimeType<'_>, wanted: &[u8]) -> bool {
-    let mut out = [0; 1024];
+    let mut out = [0; 64];
     match found.write(&mut out) {
         Ok(end) => end <= out.len() && &out[..end] == wanted,
         Err(_) => false,
     }
 }
 
+/// A text, and a bit for each of its groups.
+const GROUPED: &[(&[u8], u16)] = &[
+    (b"imagex/x", 0b00_0000_0000),
+    (b"x/x;x=\"application/json\"", 0b00_0000_0000),
+    (b"image/svg+xml", 0b00_1010_0001),
+    (b"video/x", 0b00_0000_0010),
+    (b"application/font-ttf;x=x", 0b00_0000_0100),
+    (b"x/+zip;x=x", 0b00_0000_1000),
+    (b"application/x-rar-compressed;x=x", 0b00_0001_0000),
+    (b"x/x+xml", 0b00_1010_0000),
+    (b"TEXT/HTML", 0b00_1100_0000),
+    (b"APPLICATION/pdf;a=b", 0b00_1000_0000),
+    (b"text/javascript1.4", 0b01_0000_0000),
+    (b"application/json;x=x", 0b10_0000_0000),
+];
+
 #[test]
 fn as_others_group(rt: HostRuntime) -> Result<(), Fail> {
-    for (i, (text, wanted)) in generated::GROUPED.iter().enumerate() {
+    for (i, (text, wanted)) in GROUPED.iter().enumerate() {
         let found = parse(*text).ok_or("no MIME type")?;
         assert_eq!(rt; groups(&found), *wanted, "text {i}");
     }
@@ -115,51 +87,97 @@ fn groups(found: &MimeType<'_>) -> u16 {
     bits
 }
 
+/// A text, whether its essence is supported, and what it is taken for.
+const MINIMIZED: &[(&[u8], bool, &str)] = &[
+    (b"text/javascript1.2", false, "text/javascript"),
+    (b"application/ld+json", false, "application/json"),
+    (b"image/svg+xml;charset=utf-8", false, "image/svg+xml"),
+    (b"application/xhtml+xml", false, "application/xml"),
+    (b"image/png", true, "its essence"),
+    (b"random/png", false, ""),
+];
+
 #[test]
 fn as_others_minimize(rt: HostRuntime) -> Result<(), Fail> {
-    for (i, (text, (is_supported, wanted))) in generated::MINIMIZED.iter().enumerate() {
+    for (i, (text, is_supported, wanted)) in MINIMIZED.iter().enumerate() {
         let found = parse(*text).ok_or("no MIME type")?;
-        assert_eq!(rt; place(found.minimize(*is_supported)), *wanted, "text {i}");
+        assert_eq!(rt; text_of(found.minimize(*is_supported)), *wanted, "text {i}");
     }
     Ok(())
 }
 
-fn place(minimal: Minimal) -> u8 {
+fn text_of(minimal: Minimal) -> &'static str {
     match minimal {
-        Minimal::JavaScript => 0,
-        Minimal::Json => 1,
-        Minimal::Svg => 2,
-        Minimal::Xml => 3,
-        Minimal::Essence => 4,
-        Minimal::Nothing => 5,
+        Minimal::JavaScript => "text/javascript",
+        Minimal::Json => "application/json",
+        Minimal::Svg => "image/svg+xml",
+        Minimal::Xml => "application/xml",
+        Minimal::Essence => "its essence",
+        Minimal::Nothing => "",
     }
 }
 
+/// The value of `X-Content-Type-Options`, and whether it forbids to sniff.
+const FORBIDDEN: &[(&[u8], bool)] = &[
+    (b"NOSNIFF", true),
+    (b" nosniff", true),
+    (b", nosniff", false),
+    (b"nosniff\x0B,nosniff", false),
+    (b"sniff, nosniff", false),
+];
+
 #[test]
 fn as_others_forbid(rt: HostRuntime) -> Result<(), Fail> {
-    for (i, (value, wanted)) in generated::NOSNIFF.iter().enumerate() {
+    for (i, (value, wanted)) in FORBIDDEN.iter().enumerate() {
         assert_eq!(rt; is_nosniff(*value), *wanted, "value {i}");
     }
     Ok(())
 }
 
+/// The values of `Content-Type`, as one, and whether `nosniff` blocks it as a script, as a style and as something else.
+const BLOCKED: &[(&[u8], [bool; 3])] = &[
+    (
+        b"text/javascript;charset=windows-1252;\", \\\", x/x",
+        [false, true, false],
+    ),
+    (b"text/css;charset=utf-8", [true, false, false]),
+    (b"text/html", [true, true, false]),
+    (b"x", [true, true, false]),
+];
+
 #[test]
 fn as_others_block(rt: HostRuntime) -> Result<(), Fail> {
-    for (i, (text, (place, wanted))) in generated::BLOCKED.iter().enumerate() {
-        let destination = match *place {
-            0 => Destination::Script,
-            1 => Destination::Style,
-            _ => Destination::Other,
-        };
-        let told = extract(*text).map(|found| found.mime_type);
-        assert_eq!(rt; is_blocked(told, destination), *wanted, "text {i}");
+    for (i, (text, wanted)) in BLOCKED.iter().enumerate() {
+        let found = extract(*text).map(|found| found.mime_type);
+        let told = [
+            is_blocked(found, Destination::Script),
+            is_blocked(found, Destination::Style),
+            is_blocked(found, Destination::Other),
+        ];
+        assert_eq!(rt; told, *wanted, "text {i}");
     }
     Ok(())
 }
 
+/// The value of a header, and its pieces.
+const SPLIT: &[(&[u8], &[&[u8]])] = &[
+    (b"", &[b""]),
+    (b"nosniff,", &[b"nosniff", b""]),
+    (b" a\t,\tb ", &[b"a", b"b"]),
+    (b"\x0Ba,b\x0C", &[b"\x0Ba", b"b\x0C"]),
+    (b" ,\t,", &[b"", b"", b""]),
+    (b"a,\"b,c\",d", &[b"a", b"\"b,c\"", b"d"]),
+    (b"\"a\"b\"c,d\"", &[b"\"a\"b\"c,d\""]),
+    (b"\"a\\\",b\",c", &[b"\"a\\\",b\"", b"c"]),
+    (b"a\\\",b,c", &[b"a\\\",b,c"]),
+    (b"\"b\t,", &[b"\"b\t,"]),
+    (b"\"a\\", &[b"\"a\\"]),
+    (b"x/x;test=\"hi\",y/y", &[b"x/x;test=\"hi\"", b"y/y"]),
+];
+
 #[test]
 fn as_others_split(rt: HostRuntime) -> Result<(), Fail> {
-    for (i, (value, wanted)) in generated::SPLIT.iter().enumerate() {
+    for (i, (value, wanted)) in SPLIT.iter().enumerate() {
         let mut pieces = Pieces::new(*value);
         for piece in *wanted {
             assert!(rt; pieces.next() == Some(*piece), "value {i}");
@@ -169,23 +187,44 @@ fn as_others_split(rt: HostRuntime) -> Result<(), Fail> {
     Ok(())
 }
 
+/// The values of `Content-Type`, as one, and the text of the MIME type that they say, which is empty if they say none.
+const EXTRACTED: &[(&[u8], &[u8])] = &[
+    (
+        b"text/plain;charset=gbk, text/plain;charset=windows-1252",
+        b"text/plain;charset=windows-1252",
+    ),
+    (
+        b"text/html;x=\", text/plain",
+        b"text/html;x=\", text/plain\"",
+    ),
+    (
+        b"text/html;charset=gbk, x, */*, text/html",
+        b"text/html;charset=gbk",
+    ),
+    (b"a/b, a/b;charset=v, a/b", b"a/b"),
+    (
+        b"image/svg+xml;charset=u, image/svg+xml, image/svg+xml;charset=v;x=y, image/svg+xml",
+        b"image/svg+xml;charset=u",
+    ),
+    (
+        b"text/html;charset=, text/plain;charset=x",
+        b"text/plain;charset=x",
+    ),
+    (b"*/*, text/html", b"text/html"),
+    (b"y\", x, text/plain;charset=x", b""),
+];
+
 #[test]
 fn as_others_extract(rt: HostRuntime) -> Result<(), Fail> {
-    for (i, (value, wanted)) in generated::EXTRACTED.iter().enumerate() {
-        match extract(*value) {
-            Some(found) => assert!(rt; is_extracted(&found, *wanted), "value {i}"),
-            None => assert!(rt; wanted.is_empty(), "value {i}"),
-        }
+    for (i, (value, wanted)) in EXTRACTED.iter().enumerate() {
+        let mut out = [0; 64];
+        let end = match extract(*value) {
+            Some(found) => found.write(&mut out).map_err(|_| "no text")?,
+            None => 0,
+        };
+        assert!(rt; end <= out.len() && &out[..end] == *wanted, "value {i}");
     }
     Ok(())
-}
-
-fn is_extracted(found: &Extracted<'_>, wanted: &[u8]) -> bool {
-    let mut out = [0; 1024];
-    match found.write(&mut out) {
-        Ok(end) => end <= out.len() && &out[..end] == wanted,
-        Err(_) => false,
-    }
 }
 
 #[test]
