@@ -2,7 +2,7 @@
 """Compares what mime_types and mime_sniff say of generated texts and buffers with a model of the MIME Sniffing Standard, which
 was written from its rules and shares no code with them.
 
-usage: sniffed.py PROGRAM [COUNT] [SEED]. PROGRAM is crates/bench_types as it was built. COUNT texts and COUNT buffers for
+usage: sniffed.py PROGRAM [COUNT] [SEED]. PROGRAM is crates/example as it was built. COUNT texts and COUNT buffers for
 each type that is told, 20,000 if left out, are made from a seed: near the rows, in boxes, elements and frames, or of any
 bytes."""
 import collections
@@ -208,7 +208,7 @@ def asked(program, words, buffers):
         pack.writelines(struct.pack("<I", len(buf)) + buf for buf in buffers)
         pack.flush()
         with open(pack.name, "rb") as it:
-            return subprocess.run([program, *words], stdin=it, capture_output=True, check=True).stdout.decode().split("\n")[:-1]
+            return subprocess.run([program, "types", *words], stdin=it, capture_output=True, check=True).stdout.decode().split("\n")[:-1]
 
 
 def main(program, count="20000", seed=SEED):

@@ -1,10 +1,10 @@
 //! Prints the type of each file that it is given, and knows drawings of its own.
-#![tactic(auto)]
 
 ghost use Rattle.std.specs.Prelude.{◌↔◌, IsTrue, codes, nat_eq};
 ghost use Rattle.std.specs.List.{starts_with};
 
 use infer::Infer;
+use std::rt::{Env, Files};
 use std::{env, io};
 
 fn is_drawing(buf: &[u8]) -> bool
@@ -13,11 +13,11 @@ fn is_drawing(buf: &[u8]) -> bool
     buf.starts_with(b"DRAW")
 }
 
-fn main(rt: HostRuntime) -> io::Result<()> {
+pub fn run<R: AllocGlobal + Env + Files + Print>(rt: &R) -> io::Result<()> {
     let mut infer = Infer::new();
     infer.add(rt.alloc(), "image/x-drawing", "draw", is_drawing)?;
-    for path in env::args(&rt)?.skip(1) {
-        match infer.get_from_path(&rt, rt.alloc(), path.as_str()) {
+    for path in env::args(rt)?.skip(2) {
+        match infer.get_from_path(rt, rt.alloc(), path.as_str()) {
             Ok(Some(found)) => println!(rt; "{path}: {found}")?,
             Ok(None) => println!(rt; "{path}: unknown")?,
             Err(fault) => println!(rt; "{path}: {fault}")?,

@@ -2,7 +2,6 @@
 //! first. With the word "parse" each is the text of a MIME type, which is printed as the standard writes it, or nothing if it
 //! says none. With another word, as "image/png", it prints what a browser computes of each that was told that type; with
 //! "nosniff" behind it where sniffing is forbidden, and with "old" where the header is one of old servers.
-#![tactic(auto)]
 
 use anyhow::Result;
 use mime_sniff::go::detect_content_type;
@@ -87,8 +86,8 @@ fn lines_of<R: Print>(
     Ok(())
 }
 
-fn run<R: AllocGlobal + Env + Print, I: Read + Drop>(rt: &R, mut input: I) -> Result<()> {
-    let (told, flag) = (env::args(rt)?.nth(1), env::args(rt)?.nth(2));
+pub fn run<R: AllocGlobal + Env + Print, I: Read + Drop>(rt: &R, mut input: I) -> Result<()> {
+    let (told, flag) = (env::args(rt)?.nth(2), env::args(rt)?.nth(3));
     let mut bytes = Vec::new(rt.alloc());
     input.read_to_end(&mut bytes)?;
     lines_of(
@@ -97,8 +96,4 @@ fn run<R: AllocGlobal + Env + Print, I: Read + Drop>(rt: &R, mut input: I) -> Re
         flag.as_ref().map(|it| it.as_str()),
         bytes.as_slice(),
     )
-}
-
-fn main(rt: HostRuntime) -> Result<()> {
-    run(&rt, rt.stdin())
 }

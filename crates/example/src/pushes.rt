@@ -1,5 +1,4 @@
 //! Pushes standard input into a sniffer in pieces of a stated length, and prints the verdict.
-#![tactic(auto)]
 
 use anyhow::{Context, Result};
 use infer_sniff::{Sniffer, Verdict};
@@ -17,9 +16,9 @@ fn verdict_of<A: Allocator>(alloc: A, input: &[u8], length: usize) -> Result<Ver
     Ok(sniffer.verdict())
 }
 
-fn run<R: Env + AllocGlobal + Print, I: Read + Drop>(rt: &R, mut input: I) -> Result<()> {
+pub fn run<R: Env + AllocGlobal + Print, I: Read + Drop>(rt: &R, mut input: I) -> Result<()> {
     let length = env::args(rt)?
-        .nth(1)
+        .nth(2)
         .context("the length of a piece is missing")?;
     let length = length
         .as_str()
@@ -30,8 +29,4 @@ fn run<R: Env + AllocGlobal + Print, I: Read + Drop>(rt: &R, mut input: I) -> Re
     let verdict = verdict_of(rt.alloc(), bytes.as_slice(), length)?;
     println!(rt; "{verdict:?}")?;
     Ok(())
-}
-
-fn main(rt: HostRuntime) -> Result<()> {
-    run(&rt, rt.stdin())
 }
