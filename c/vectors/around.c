@@ -90,9 +90,10 @@ static void ask_sample(const struct asker *asker) {
     ask_byte(asker, 0xFF);
 }
 
-void ask_around_samples(struct tally *tally, const int32_t *parents) {
+void ask_around_samples(struct tally *tally, const int32_t *parents, const bool *answered) {
     struct asker asker = {.tally = tally, .parents = parents};
     for (asker.row = (int32_t)infer_row_count(); asker.row < (int32_t)infer_more_row_count(); asker.row++) {
+        if (!answered[asker.row - (int32_t)infer_row_count()]) continue;
         asker.len = infer_sample(asker.row, asker.sample, sizeof asker.sample);
         ask_sample(&asker);
     }

@@ -1,5 +1,5 @@
 /* Compares the further rows, their samples and the wider answers with data from outside, and asks about hostile buffers
- * around the samples.
+ * around the samples of the rows that these answer.
  * usage: further ROWS VECTORS */
 #include "further.h"
 #include "infer.h"
@@ -80,38 +80,43 @@ static const char *shown_of(int32_t row) {
     return shown;
 }
 
-/* Whether the wider answer is that further row, or the built-in answer for `-`, and shows that. */
-static bool is_wider(const struct buffer *it, const struct table *told, const char *name, const char *shown) {
-    int32_t row = strcmp(name, "-") == 0 ? infer_position(it->bytes, it->len) : further_named(told, name);
+/* Whether the wider answer is that further row, or the built-in answer for none, and shows that. */
+static bool is_wider(const struct buffer *it, int32_t further_row, const char *shown) {
+    int32_t row = further_row < 0 ? infer_position(it->bytes, it->len) : further_row;
     return infer_more_position(it->bytes, it->len) == row && infer_accepts(it->bytes, it->len, row) == (row >= 0)
         && strcmp(shown_of(row), shown) == 0;
 }
 
-static void compare_buffers(const struct table *table, const struct table *told) {
+/* Notes in `answered` which rows the lines have as an answer. */
+static void compare_buffers(const struct table *table, const struct table *told, bool *answered) {
     static struct buffer buf;
-    int32_t row = -1;
+    int32_t last = -1;
     for (size_t i = 0; i < table->count; i++) {
         char **fields = table->lines[i].fields;
+        const int32_t row = strcmp(fields[2], "-") == 0 ? -1 : further_named(told, fields[2]);
         decode(&buf, fields[1]);
-        WANTS(&answers, is_wider(&buf, told, fields[2], fields[3]), "%s", fields[0]);
-        if (!is_shortest(fields[0]) || strcmp(fields[2], "-") == 0) continue;
-        int32_t of = further_named(told, fields[2]);
+        WANTS(&answers, is_wider(&buf, row, fields[3]), "%s", fields[0]);
+        if (row < 0) continue;
+        answered[row - further(0)] = true;
+        if (!is_shortest(fields[0])) continue;
         /* The first alternative stands first, and the sample is of that. */
-        if (of != row) WANTS(&samples, has_sample(of, buf.len), "%s", fields[0]);
-        row = of;
+        if (row != last) WANTS(&samples, has_sample(row, buf.len), "%s", fields[0]);
+        last = row;
     }
 }
 
 int main(int argc, char **argv) {
     static struct table told, vectors;
     static int32_t *parents;
+    static bool *answered;
     if (argc != 3) return fputs("usage: further ROWS VECTORS\n", stderr), 2;
     told = read_table(argv[1], 5);
     vectors = read_table(argv[2], 4);
     parents = resized(NULL, told.count, sizeof *parents);
     compare_rows(&told, parents);
-    compare_buffers(&vectors, &told);
-    if (rows.differing == 0) ask_around_samples(&around, parents);
+    answered = memset(resized(NULL, told.count, sizeof *answered), 0, told.count);
+    compare_buffers(&vectors, &told, answered);
+    if (rows.differing == 0) ask_around_samples(&around, parents, answered);
     const struct tally tallies[] = {rows, parents_of_samples, samples, answers, around};
     return report(tallies, sizeof tallies / sizeof *tallies) != 0;
 }

@@ -4,8 +4,8 @@
 
 #include "data.h"
 
-/* Asks about hostile buffers made of the sample of each further row, of which `parents` has the built-in row that it
- * stands below, or -1. */
-void ask_around_samples(struct tally *tally, const int32_t *parents);
+/* Asks about hostile buffers made of the sample of each further row that is `answered`. Of each `parents` has the built-in
+ * row that it stands below, or -1. */
+void ask_around_samples(struct tally *tally, const int32_t *parents, const bool *answered);
 
 #endif
