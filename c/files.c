@@ -142,7 +142,7 @@ static void faults(void) {
 static void forbidden(void) {
     bool is_superuser = geteuid() == 0;
     if (is_superuser && (seteuid(65534) != 0 || seteuid(0) != 0)) {
-        puts("left out: files that may not be read, since no other user can be taken here");
+        puts("left out, since there is no other user to take: files that may not be read");
         return;
     }
     write_file("secret", "\xFF\xD8\xFF", 3, 3);

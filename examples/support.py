@@ -48,7 +48,7 @@ def has_sanitizers(by: str = "") -> bool:
 def sanitized(source: str, by: str) -> str:
     """The program as that compiler makes it with its sanitizers. Without them the tests that ask are left out."""
     if not has_sanitizers(by):
-        raise unittest.SkipTest(f"no {by} with its sanitizers is here")
+        raise unittest.SkipTest(f"no {by} with its sanitizers")
     return build(source, *SANITIZERS, by=by)
 
 
@@ -72,7 +72,7 @@ def of_debian(package: str, path: str) -> str:
         for archive in glob.glob(f"{place}/{package}_*.deb"):
             subprocess.run(["dpkg-deb", "-x", archive, place], check=True)
             return place + path
-    raise unittest.SkipTest(f"no {path} is here, and apt-get brings no {package}")
+    raise unittest.SkipTest(f"no {path} of Debian's package {package}")
 
 
 @functools.cache
@@ -89,7 +89,7 @@ def old_rust() -> str:
         wanted = re.findall(r'^rust-version = "(\d+)\.(\d+)"', manifest.read(), re.MULTILINE)[0]
     says = subprocess.run(["rustc", "--version"], text=True, capture_output=True, check=True).stdout.strip()
     has = re.findall(r"(\d+)\.(\d+)", says)[0]
-    return f"{says} is older than {'.'.join(wanted)}" if tuple(map(int, has)) < tuple(map(int, wanted)) else ""
+    return f"no rustc {'.'.join(wanted)} or later (it is {says})" if tuple(map(int, has)) < tuple(map(int, wanted)) else ""
 
 
 def shared_library() -> str:
@@ -275,6 +275,17 @@ def commands_in(readme: str) -> list[str]:
         return [line.strip() for line in lines if line.startswith("    ")]
 
 
+def left_out(lacks: str, what: str) -> None:
+    """Says what was not tested, and for want of what."""
+    print(f"left out, since there is no {lacks}: {what}")
+
+
+def tell_skipped(result: unittest.TestResult) -> None:
+    """The same of tests that were skipped, whose reasons begin with "no"."""
+    for test, why in result.skipped:
+        print(f"left out, since there is {why}: {test.id()}")
+
+
 def _refuse_to_wait(number: int, frame: object) -> None:
     raise AssertionError("a test waits for what does not come")
 
@@ -286,8 +297,7 @@ def main() -> None:
     program = unittest.main(module="__main__", exit=False, verbosity=1)
     result = program.result
     failed = len(result.failures) + len(result.errors)
-    for test, why in result.skipped:
-        print(f"left out: {test.id()}: {why}")
+    tell_skipped(result)
     # Of a class that is left out as a whole no test is run.
     passed = max(0, result.testsRun - failed - sum(isinstance(test, unittest.TestCase) for test, _ in result.skipped))
     print(f"{passed} passed, {failed} failed", flush=True)

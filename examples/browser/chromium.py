@@ -18,7 +18,7 @@ from window import Window, free_port, support
 
 def missing() -> str:
     """Which program is not here, or nothing."""
-    return next((f"no {name} is here" for name in ("chromium", "chromedriver") if not shutil.which(name)), "")
+    return next((f"no {name}" for name in ("chromium", "chromedriver") if not shutil.which(name)), "")
 
 
 class Chromium(Window):
@@ -36,7 +36,7 @@ class Chromium(Window):
             self.session = "/session/" + self.ask("/session", {"capabilities": {"alwaysMatch": wanted}})["sessionId"]
         except AssertionError as fault:
             why = json.loads(str(fault))["value"]["message"]
-            raise unittest.SkipTest(f"the chromium that is here cannot start: {why.splitlines()[0]}") from None
+            raise unittest.SkipTest(f"no chromium that can start ({why.splitlines()[0]})") from None
 
     def ask(self, command: str, body: dict[str, Any] | None = None, method: str = "POST") -> Any:
         data = None if method == "DELETE" else json.dumps(body or {}).encode()

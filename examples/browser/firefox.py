@@ -19,7 +19,7 @@ SETTINGS = {"browser.shell.checkDefaultBrowser": False, "datareporting.policy.da
 
 def missing() -> str:
     """Which program is not here, or nothing."""
-    return "" if any(map(shutil.which, NAMES)) else "no firefox is here"
+    return "" if any(map(shutil.which, NAMES)) else "no firefox"
 
 
 class Firefox(Window):

@@ -18,7 +18,7 @@ MODULE = f"{support.ROOT}/c/out/wasm64-unknown-unknown/infer.wasm"
 
 def missing() -> str:
     """Why there is no page, or nothing."""
-    return "" if os.path.exists(MODULE) else "no c/out/wasm64-unknown-unknown/infer.wasm: c/build --target wasm64-unknown-unknown makes it"
+    return "" if os.path.exists(MODULE) else "no module of c/build --target wasm64-unknown-unknown"
 
 
 def free_port() -> int:

@@ -213,7 +213,7 @@ def asked(program, words, buffers):
 
 def main(program, count="20000", seed=SEED):
     if not os.path.exists(program):
-        print(f"left out: the model of MIME types, since {program} is not built")
+        print(f"left out, since there is no {program}: the model of MIME types")
         print("0 passed, 0 failed, 1 left out")
         return 0
     rng, counted, wrong = random.Random(int(seed)), collections.Counter(), []

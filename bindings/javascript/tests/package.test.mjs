@@ -35,7 +35,7 @@ const folderWith = (name, change = () => {}) => {
     return folder;
 };
 
-test("npm packs all that is needed, and an empty folder takes it", { skip: isThere("npm") ? false : "no npm that runs is here" }, () => {
+test("npm packs all that is needed, and an empty folder takes it", { skip: isThere("npm") ? false : "no npm that runs" }, () => {
     const packed = run(here, "npm", "pack", "--pack-destination", work);
     assert.equal(packed.status, 0, packed.stderr);
     const archive = join(work, packed.stdout.trim().split("\n").at(-1));
@@ -63,7 +63,7 @@ test("the page's program stores an image, and nothing else", () => {
 });
 
 const [major, minor] = process.versions.node.split(".").map(Number);
-const withoutRequire = major > 22 || (major === 22 && minor >= 12) || (major === 20 && minor >= 19) ? false : `node ${process.version} requires no ES module`;
+const withoutRequire = major > 22 || (major === 22 && minor >= 12) || (major === 20 && minor >= 19) ? false : `no node that requires ES modules (it is ${process.version})`;
 
 test("the package is required as it is imported", { skip: withoutRequire }, () => {
     const folder = folderWith("required");
@@ -153,10 +153,10 @@ const compile = (name, program, options) => {
     const ended = run(folder, "tsc", "-p", ".");
     assert.equal(ended.status, 0, ended.stdout);
 };
-const withoutTsc = isThere("tsc") ? false : "no tsc that runs is here";
+const withoutTsc = isThere("tsc") ? false : "no tsc that runs";
 /** Where Debian's package node-types-node has the declarations of Node. */
 const NODE_TYPES = "/usr/share/nodejs/@types";
-const withoutNodeTypes = withoutTsc || (existsSync(join(NODE_TYPES, "node")) ? false : "no declarations of Node are here, as in Debian's node-types-node");
+const withoutNodeTypes = withoutTsc || (existsSync(join(NODE_TYPES, "node")) ? false : "no package node-types-node");
 
 test("the declarations fit a program for browsers, by tsc", { skip: withoutTsc }, () => {
     // Where no condition is that of Node.

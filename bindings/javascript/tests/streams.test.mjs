@@ -179,7 +179,7 @@ test("of a Blob of 5 GB the first bytes are read, and no more", async () => {
 
 /** How many bytes this process has read of files and the like. */
 const read = () => Number(/^rchar: (\d+)$/m.exec(readFileSync("/proc/self/io", "latin1"))[1]);
-const cannotCount = openAsBlob && existsSync("/proc/self/io") ? false : "this system does not tell how much was read";
+const cannotCount = openAsBlob && existsSync("/proc/self/io") ? false : "no count of what was read on this system";
 
 test("a file of 5 GB is told as a Blob, and is not read past what is needed", { skip: cannotCount }, async () => {
     const folder = mkdtempSync(join(tmpdir(), "infer-test-"));
