@@ -288,7 +288,7 @@ static void descriptors(void) {
 int main(int argc, char **argv) {
     if (argc != 2 || chdir(argv[1]) != 0) return perror("usage: files FOLDER"), 2;
     /* A call that waits ends the program by a signal. */
-    alarm(60);
+    alarm(600);
     int first = dup(0);
     close(first);
     regular_files();

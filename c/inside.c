@@ -1,16 +1,13 @@
 /* Hands the wider answer what is meant to lead it astray inside containers and texts: brackets and comments without end,
  * and lengths, counts and offsets of every size. Each buffer ends at a page that may not be touched, and each answer is
- * the one that the definition says by hand. One that takes more than a minute ends the program by a signal. */
+ * the one that the definition says by hand. One that takes more than a minute of a processor ends the program by a signal. */
 #define _DEFAULT_SOURCE
 #include "guarded.h"
 #include "infer.h"
 #include <stdio.h>
 #include <string.h>
-#ifdef _WIN32
-/* There the test as a whole has a limit of time. */
-#define alarm(seconds) (void)(seconds)
-#else
-#include <unistd.h>
+#ifndef _WIN32
+#include <sys/time.h>
 #endif
 
 enum { MILLION = 1000000, ROOM = 10 * MILLION + 4096 };
@@ -20,8 +17,15 @@ static long asked, wrong;
 /* The buffer of that length that ends with the room, zeros. */
 static unsigned char *zeros(size_t len) { return memset(end - len, 0, len); }
 
+static void have_a_minute(void) {
+    /* On Windows the test as a whole has a limit of time. */
+#ifndef _WIN32
+    setitimer(ITIMER_VIRTUAL, &(const struct itimerval){.it_value.tv_sec = 60}, NULL);
+#endif
+}
+
 static void wants(const char *what, const unsigned char *buf, size_t len, const char *extension) {
-    alarm(60);
+    have_a_minute();
     const char *found = infer_extension_text(infer_more_position(buf, len));
     char name[16];
     asked++;

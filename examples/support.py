@@ -290,11 +290,20 @@ def _refuse_to_wait(number: int, frame: object) -> None:
     raise AssertionError("a test waits for what does not come")
 
 
+class _Result(unittest.TextTestResult):
+    def startTest(self, test: unittest.TestCase) -> None:
+        signal.setitimer(signal.ITIMER_REAL, 8 * PATIENCE, 8 * PATIENCE)
+        super().startTest(test)
+
+
+class _Runner(unittest.TextTestRunner):
+    resultclass = _Result
+
+
 def main() -> None:
     """Runs the tests of the program, with their counts in the last line. One that waits for ever has failed."""
     signal.signal(signal.SIGALRM, _refuse_to_wait)
-    signal.setitimer(signal.ITIMER_REAL, 8 * PATIENCE, 8 * PATIENCE)
-    program = unittest.main(module="__main__", exit=False, verbosity=1)
+    program = unittest.main(module="__main__", exit=False, testRunner=_Runner)
     result = program.result
     failed = len(result.failures) + len(result.errors)
     tell_skipped(result)

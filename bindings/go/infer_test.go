@@ -627,7 +627,7 @@ func TestFilesOfOtherKinds(t *testing.T) {
 			if !errors.Is(err, want) || !strings.Contains(err.Error(), path) {
 				t.Error(path, err)
 			}
-		case <-time.After(10 * time.Second):
+		case <-time.After(2 * time.Minute):
 			t.Error(path, "holds the call")
 		}
 	}

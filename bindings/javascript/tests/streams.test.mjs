@@ -231,7 +231,7 @@ test("a file is told by its path, and faults are those of Node", async () => {
     }
 });
 
-test("what is no regular file is a fault at once, and holds no thread of Node", { timeout: 30_000 }, async () => {
+test("what is no regular file is a fault at once, and holds no thread of Node", { timeout: 120_000 }, async () => {
     const folder = mkdtempSync(join(tmpdir(), "infer-test-"));
     try {
         const fifos = [1, 2, 3, 4, 5].map((number) => join(folder, `fifo ${number}`));

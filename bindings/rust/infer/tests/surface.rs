@@ -334,7 +334,7 @@ fn files_of_other_kinds_are_faults() {
     for path in [fifo.clone(), "/dev/null".into()] {
         let (ended, answer) = std::sync::mpsc::channel();
         std::thread::spawn(move || ended.send(infer::get_from_path(path).map_err(|fault| fault.kind())));
-        let told = answer.recv_timeout(std::time::Duration::from_secs(10)).expect("the call returns");
+        let told = answer.recv_timeout(std::time::Duration::from_secs(120)).expect("the call returns");
         assert_eq!(told, Err(ErrorKind::Unsupported));
     }
     fs::remove_file(fifo).unwrap();
