@@ -6,6 +6,7 @@ import glob
 import os
 import re
 import shutil
+import subprocess
 import textwrap
 from typing import Iterator, NamedTuple
 
@@ -21,7 +22,7 @@ CRATES = {
 }
 WORD = re.compile(r"[^\W\d][\w']*(?:\.[^\W\d][\w']*)*")
 # The kit has definitions of its own below the folder in which `rt` is.
-KIT = os.path.normpath(os.path.join(os.path.dirname(os.path.realpath(shutil.which("rt") or "/none/bin/rt")), "..", "rattle"))
+KIT = os.path.join(subprocess.check_output(["rt", "doc"], text=True).strip().rpartition("/")[0] if shutil.which("rt") else "/none", "rattle")
 DECLARED = re.compile(r" {,2}(?:(?:unfoldable|abbrev|opaque|pub) )*(?:record |data )?([^\W\d][\w']*)(?= [:({]|$)")
 
 
