@@ -1,15 +1,13 @@
 """What pages repeat of measurements and of versions.
 
 `bench/run --pages` writes the tables of docs/PERFORMANCE.md, each between marks that name it, the picture, and the
-figures of those tables that other pages repeat; here both are read. What a command takes stands in docs/seconds.tsv,
-where `bench/commands --pages` and `.ci/run --pages` write it, and `tools/tables` writes it into README.md. The version
-is that of c/infer.h."""
+figures of those tables that other pages repeat; here both are read. What each step of `.ci/run` takes stands in
+docs/seconds.tsv, where `.ci/run --anew` writes it, and `tools/tables` writes it into README.md. The version is that of
+c/infer.h."""
 import json
 import math
 import os
 import re
-import shutil
-import subprocess
 
 from texts import kept, text_of
 
@@ -41,12 +39,10 @@ REPEATED = [
 
 
 SECONDS = "docs/seconds.tsv"
-# Each command that is timed: as README.md writes it, and what it does.
+# Each command that README.md shows with its time, by the step: as it is written there, and what it does.
 COMMANDS = {
-    "rt try": ("cd crates/infer_label && rt try -- /tmp/photo.jpg", "prints `/tmp/photo.jpg: image/jpeg jpg`, proves nothing"),
-    ".ci/check --try": (".ci/check --try", "runs the tests, proves nothing"),
-    "rt check": ("cd crates/infer && rt check", "proves the table of built-in types"),
-    ".ci/run": (".ci/run", "proves and tests everything"),
+    "first": ("cd crates/infer_tool && rt try --data picture=../../docs/browser.png -- picture", "prints `picture: image/png png`, proves nothing"),
+    "all": (".ci/run", "proves and tests everything"),
 }
 
 
@@ -56,16 +52,19 @@ def span(seconds):
 
 
 def seconds_of():
-    """What each command took: processor seconds, seconds, and on how many processors."""
-    return {command: its for command, *its in (line.split("\t") for line in text_of(SECONDS).splitlines())}
+    """What each step took: processor seconds, seconds, and on how many processors."""
+    return {step: its for step, *its in (line.split("\t") for line in text_of(SECONDS).splitlines())}
 
 
 def commands():
     """The table of README.md: each command with what it takes."""
     known = seconds_of()
     yield from ["| At the top | It | Processor time | Time |", "|---|---|---|---|"]
-    for command, (written, does) in COMMANDS.items():
-        processor_seconds, seconds, cores = known[command]
+    for step, (written, does) in COMMANDS.items():
+        if step not in known:
+            # It was not timed by a run that made every proof anew.
+            continue
+        processor_seconds, seconds, cores = known[step]
         yield f"| `{written}` | {does} | {span(int(processor_seconds))} | {span(int(seconds))} on {cores} cores |"
 
 
@@ -226,12 +225,6 @@ def versions():
     yield "bindings/javascript/package.json", json.loads(text_of("bindings/javascript/package.json"))["version"]
 
 
-@kept
-def toolchain():
-    """What `rt version` prints, and nothing without an `rt`."""
-    return shutil.which("rt") and subprocess.run(["rt", "version"], cwd="/", capture_output=True, text=True, check=False).stdout.strip()
-
-
 def check_versions(pages):
     """The version stands in one place, and those of other things are told as they are asked for."""
     version = re.search(r'^#define INFER_VERSION "(.*)"$', text_of("c/infer.h"), re.M)[1]
@@ -257,8 +250,5 @@ def check_versions(pages):
     ]:
         source = os.path.dirname(page) + {"Python": "/pyproject.toml", "Go": "/go.mod", "Rust": "/Cargo.toml", "Node": "/package.json", "Java": "/fill"}[name]
         yield f"{name} {asked} or later" in text_of(page).replace("\n", " "), f"{page} does not ask for {name} {asked} or later, as {source} does"
-    kit = toolchain()
-    # Kits of one number differ by a letter. What they prove by is told by the logic's own number.
-    named = set(re.findall(r"rattle-kit-\d+\b|\blogic \w+", text_of("README.md")))
-    wanted = set(re.findall(r"rattle-kit-\d+|logic \w+", kit or ""))
-    yield not kit or named == wanted, f"README.md names {sorted(named)}, and `rt version` says {kit}"
+    named = [sorted(set(re.findall(r"rattle-kit-\w+", text_of(it)))) for it in ("README.md", "tools/toolchain")]
+    yield named[0] == named[1] and len(named[0]) == 1, f"README.md names the toolchain {named[0]}, and tools/toolchain {named[1]}"
