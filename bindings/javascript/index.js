@@ -32,7 +32,6 @@ export {
     mayBeScriptable,
     mayBecome,
     mayBecomeWider,
-    line,
     named,
     sample,
     supportedExtensions,

@@ -31,7 +31,6 @@ export {
     mayBeScriptable,
     mayBecome,
     mayBecomeWider,
-    line,
     named,
     sample,
     supportedExtensions,

@@ -3,4 +3,3 @@ pub mod Why
 pub mod Written
 pub mod Named
 pub mod Mime
-pub mod Label

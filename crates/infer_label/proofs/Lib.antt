@@ -1,5 +1,6 @@
 pub mod NamesLemmas
-pub mod RoomLemmas
+pub mod ReportLemmas
+pub mod RunLemmas
 pub mod SeenLemmas
 pub mod WhyLemmas
 pub mod WritesLemmas

@@ -1,4 +1,5 @@
 pub mod Options
+pub mod Words
 pub mod Writes
 pub mod Names
 pub mod Label
@@ -6,4 +7,5 @@ pub mod Why
 pub mod WhyText
 pub mod WhyJson
 pub mod Line
-pub mod Lines
+pub mod Report
+pub mod Run
