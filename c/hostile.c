@@ -48,6 +48,27 @@ static void ask_types(const void *buf, size_t len) {
     wants(infer_types_line(text, strlen(text), buf, len) == (size_t)(row < 0));
 }
 
+/* The buffer as a name, as a type that was told and as a note, in rooms of some sizes. */
+static void ask_line(const void *buf, size_t len) {
+    static char whole[8 * ROOM];
+    int32_t standing = 99;
+    bool is_known;
+    const size_t part = len < 300 ? len : 300;
+    for (uint32_t form = 0; form < 4; form++) {
+        const uint32_t look = (uint32_t)next() % 6, flags = (uint32_t)next() % 8;
+        const size_t size = infer_label_write(buf, part, buf, len, look, form, flags, NULL, 0, buf, part, len, &standing, &is_known, whole, sizeof whole);
+        wants(size < sizeof whole && strlen(whole) == size && whole[size - 1] == '\n' && memchr(whole, '\n', size) == whole + size - 1);
+        wants(standing >= -1 && standing <= INFER_NOTHING && (standing >= 0) == (look == 0 || look == 5));
+        const size_t room = (size_t)next() % 200;
+        char out[201];
+        memset(out, '.', sizeof out);
+        wants(infer_label_write(buf, part, buf, len, look, form, flags, NULL, 0, buf, part, len, &standing, &is_known, out, room) == size && out[room] == '.');
+        wants(room == 0 || (memcmp(out, whole, room - 1 < size ? room - 1 : size) == 0 && out[room - 1 < size ? room - 1 : size] == 0));
+        const size_t noted = infer_label_note(buf, part, form & 1, buf, part, form, flags, whole, sizeof whole);
+        wants(noted < sizeof whole && strlen(whole) == noted && memchr(whole, '\n', noted) == whole + noted - 1);
+    }
+}
+
 /* The buffer as a name, of itself and of no bytes. The answer ends at such a page too. */
 static void ask_named(const void *buf, size_t len) {
     const uint32_t odd = infer_oddities(buf, len);
@@ -184,6 +205,7 @@ static void ask(const void *buf, size_t len) {
     ask_mime(buf, len);
     ask_types(buf, len);
     ask_named(buf, len);
+    ask_line(buf, len);
     ask_evidence(infer_evidence, infer_position, buf, len);
     ask_evidence(infer_more_evidence, infer_more_position, buf, len);
     infer_is(buf, len, buf, len);

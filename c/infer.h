@@ -312,6 +312,60 @@ enum infer_oddity {
 };
 uint32_t infer_oddities(const void *name, size_t name_len);
 
+/* THE LINE of a file, as the program infer_label prints it: what its name and its first bytes tell, with a line end.
+ *
+ *     infer_label_options options = {0};
+ *     char line[512];
+ *     infer_label_line("main.py", 7, "import os\n", 10, &options, NULL, line, sizeof line);
+ *
+ * writes "main.py: text/x-python py, us-ascii, name refines\n". Nothing of a name moves a cursor or is hidden, whatever bytes
+ * it has: a control, an end of a line, a mark of direction or a character of which nothing is seen is \u and four digits. */
+enum infer_label_look {
+    INFER_LABEL_NAME_AND_BYTES = 0,
+    INFER_LABEL_BYTES = 1,             /* the bytes alone */
+    INFER_LABEL_BUILT_IN = 2,          /* the built-in types alone */
+    INFER_LABEL_BROWSER = 3,           /* what a browser makes of the bytes */
+    INFER_LABEL_BROWSER_NO_SNIFF = 4   /* the same where sniffing is forbidden */
+};
+enum infer_label_form {
+    INFER_LABEL_TEXT = 0,
+    INFER_LABEL_MIME = 1, /* the MIME type and the encoding: "text/x-python; charset=us-ascii" */
+    INFER_LABEL_JSON = 2, /* an object */
+    INFER_LABEL_CSV = 3   /* name, MIME type, extension, class, encoding, standing, type of the name, its extension, size, fault, why */
+};
+enum infer_label_flag {
+    INFER_LABEL_WHY = 1,     /* why it is so too, but of a browser and of types of your own */
+    INFER_LABEL_NO_NAME = 2, /* the name is left out */
+    INFER_LABEL_SIZE = 4     /* a row of CSV has the size */
+};
+
+/* What a line is asked for. All zeros are the usual. `types` is a text for which infer_types_check gives 0, whose types come
+ * first, or has length 0, and so has `content_type`, which is what a browser was told. */
+typedef struct infer_label_options {
+    uint32_t look, form, flags;
+    const void *types;
+    size_t types_len;
+    const char *content_type;
+    size_t content_type_len, size;
+} infer_label_options;
+
+/* What it tells: what the name did, one of `enum infer_standing`, or -1 if it was not asked, and whether a type is known. */
+typedef struct infer_label_told {
+    int32_t standing;
+    bool is_known;
+} infer_label_told;
+
+/* The length of the line, which is written to `out` as infer_mime_type writes its text, and ends in a line end. `told` may be
+ * null. */
+static inline size_t infer_label_line(const void *name, size_t name_len, const void *buf, size_t len, const infer_label_options *options, infer_label_told *told, char *out, size_t size);
+
+/* The same for languages that have no inline functions. Neither `standing` nor `is_known` may be null. */
+size_t infer_label_write(const void *name, size_t name_len, const void *buf, size_t len, uint32_t look, uint32_t form, uint32_t flags, const void *types, size_t types_len, const char *content_type, size_t content_type_len, size_t file_size, int32_t *standing, bool *is_known, char *out, size_t size);
+
+/* The line of a file of which only a text is told: why it could not be read, or what it is if it has no bytes. */
+enum infer_label_noted { INFER_LABEL_FAULT = 0, INFER_LABEL_KIND = 1 };
+size_t infer_label_note(const void *name, size_t name_len, uint32_t note, const char *text, size_t text_len, uint32_t form, uint32_t flags, char *out, size_t size);
+
 /* Whether some built-in row with this extension or MIME type accepts the buffer. It need not be the answer. */
 bool infer_is(const void *buf, size_t len, const char *extension, size_t extension_len);
 bool infer_is_mime(const void *buf, size_t len, const char *mime_type, size_t mime_type_len);
@@ -337,6 +391,12 @@ bool infer_is_mime_supported(const char *mime_type, size_t mime_type_len);
 
 /* The library's version, which is INFER_VERSION of its own header. */
 size_t infer_version(char *out, size_t size);
+
+static inline size_t infer_label_line(const void *name, size_t name_len, const void *buf, size_t len, const infer_label_options *options, infer_label_told *told, char *out, size_t size) {
+    infer_label_told unused;
+    infer_label_told *it = told ? told : &unused;
+    return infer_label_write(name, name_len, buf, len, options->look, options->form, options->flags, options->types, options->types_len, options->content_type, options->content_type_len, options->size, &it->standing, &it->is_known, out, size);
+}
 
 static inline const char *infer_mime_type_text(int32_t row) {
     struct infer_text found = {"", 1};

@@ -520,6 +520,46 @@ static void odd_names(void) {
     same("all but an end", infer_oddities("\x7F\xE2\x81\xA6.php.jpg", 12), INFER_ODD_CONTROL | INFER_ODD_DIRECTION | INFER_ODD_TWO);
 }
 
+/* A line that is written, and what it tells. */
+static void line_is(const infer_label_options *options, const char *name, const char *buf, size_t len, int32_t standing, bool is_known, const char *wanted) {
+    char line[256], cut[8];
+    infer_label_told told = {99, !is_known};
+    size_t size = infer_label_line(name, strlen(name), buf, len, options, &told, line, sizeof line);
+    same(wanted, (long)size, (long)strlen(wanted));
+    same(wanted, strcmp(line, wanted), 0);
+    same(wanted, told.standing, standing);
+    same(wanted, told.is_known, is_known);
+    same(wanted, infer_label_line(name, strlen(name), buf, len, options, NULL, cut, sizeof cut) == size, true);
+    same(wanted, strlen(cut) == 7 && strncmp(cut, wanted, 7) == 0, true);
+    same(wanted, infer_label_line(name, strlen(name), buf, len, options, NULL, NULL, 0) == size, true);
+}
+
+static void lines(void) {
+    infer_label_options options = {0};
+    char line[64];
+    int32_t standing;
+    bool is_known;
+    line_is(&options, "main.py", "import os\n", 10, INFER_NAME_REFINES, true, "main.py: text/x-python py, us-ascii, name refines\n");
+    line_is(&options, "a.pdf", JPEG, INFER_CONTRADICTS, true, "a.pdf: image/jpeg jpg, contradicts: named application/pdf\n");
+    line_is(&options, "a\xE2\x80\x8B", "\0\1", 2, INFER_NOTHING, false, "a\\u200b: unknown\n");
+    options.form = INFER_LABEL_MIME;
+    line_is(&options, "a", "import os\n", 10, INFER_BYTES_ALONE, true, "a: text/plain; charset=us-ascii\n");
+    options = (infer_label_options){.form = INFER_LABEL_JSON, .flags = INFER_LABEL_NO_NAME, .look = INFER_LABEL_BYTES};
+    line_is(&options, "a.pdf", JPEG, -1, true, "{\"mime_type\":\"image/jpeg\",\"extension\":\"jpg\"}\n");
+    options = (infer_label_options){.form = INFER_LABEL_CSV, .flags = INFER_LABEL_SIZE, .size = 4};
+    line_is(&options, "=a", JPEG, INFER_BYTES_ALONE, true, "\"./=a\",image/jpeg,jpg,image,,bytes alone,,,4,,\n");
+    options = (infer_label_options){.look = INFER_LABEL_BUILT_IN, .flags = INFER_LABEL_WHY};
+    line_is(&options, "a", "\xFF\xD8\xFF", 3, -1, true, "a: image/jpeg jpg: FF D8 FF at 0; just 3 bytes\n");
+    options = (infer_label_options){.look = INFER_LABEL_BROWSER, .content_type = "image/png", .content_type_len = 9};
+    line_is(&options, "a.html", "GIF89a", 6, -1, true, "a.html: image/gif\n");
+    options = (infer_label_options){.types = "own x/own app - 1: @0 6f", .types_len = 24};
+    line_is(&options, "a", "o", 1, -1, true, "a: x/own own, us-ascii\n");
+    same("a line by a call of its own", (long)infer_label_write("a", 1, "", 0, 0, 0, 0, NULL, 0, NULL, 0, 0, &standing, &is_known, line, sizeof line), 9);
+    same("a line by a call of its own", strcmp(line, "a: empty\n"), 0);
+    same("a note", (long)infer_label_note("a", 1, INFER_LABEL_KIND, "fifo", 4, INFER_LABEL_JSON, 0, line, sizeof line), 27);
+    same("a note", strcmp(line, "{\"name\":\"a\",\"kind\":\"fifo\"}\n") , 0);
+}
+
 static void questions(void) {
     same("is jpg", infer_is(JPEG, "jpg", 3), true);
     same("is JPG", infer_is(JPEG, "JPG", 3), false);
@@ -586,6 +626,7 @@ int main(void) {
     types();
     names();
     odd_names();
+    lines();
     questions();
     tests();
     warnings();

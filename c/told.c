@@ -101,6 +101,20 @@ static void ask_named(const unsigned char *buf, size_t len) {
     note(found.told.is_own_name + 2 * found.name.is_own_name);
 }
 
+/* A line of the buffer, by any of its forms. */
+static void ask_line(const unsigned char *buf, size_t len) {
+    char line[2048];
+    infer_label_told told;
+    infer_label_options options = {.look = (uint32_t)next(5), .form = (uint32_t)next(4), .flags = (uint32_t)next(8), .size = len};
+    note((int64_t)infer_label_line(buf, len < 16 ? len : 16, buf, len, &options, &told, line, sizeof line));
+    note_text(line);
+    note(told.standing);
+    note(told.is_known);
+    note((int64_t)infer_label_write(buf, len < 16 ? len : 16, buf, len, options.look, options.form, options.flags, NULL, 0, NULL, 0, len, &told.standing, &told.is_known, NULL, 0));
+    note((int64_t)infer_label_note(buf, len < 16 ? len : 16, (uint32_t)next(2), (const char *)buf, len < 16 ? len : 16, options.form, options.flags, line, sizeof line));
+    note_text(line);
+}
+
 /* The buffer as MIME types, and what they make of it. */
 static void ask_mime(const char *buf, size_t len) {
     static const char *const types[] = {"", "text/plain", "image/png", "audio/ogg", "text/html", "a/b;c=d", "*/*"};
@@ -167,6 +181,7 @@ static void ask(const void *buf, size_t len, int32_t first) {
     ask_types(types, strlen(types), buf, len);
     ask_types(buf, len, buf, len);
     ask_named(buf, len);
+    ask_line(buf, len);
     ask_evidence(infer_evidence, buf, len);
     ask_evidence(infer_more_evidence, buf, len);
     note(infer_is(buf, len, infer_extension_text(row), strlen(infer_extension_text(row))));

@@ -15,7 +15,7 @@ from texts import TOP, kept, text_of
 # The crates whose contracts callers rely on, those first that callers begin with, each with what it is for.
 CRATES = {
     "infer": "rows and answers", "infer_more": "further rows, and types of a text", "infer_named": "a name and its bytes",
-    "infer_sniff": "growing input", "infer_tool": "the program", "infer_label": "the program that knows names", "infer_lines": "what both programs share",
+    "infer_sniff": "growing input", "infer_tool": "the program", "infer_label": "lines of names and bytes", "infer_lines": "what the program is made of",
     "infer_c": "the library for C", "infer_uses": "callers with contracts of their own", "infer_sig": "fixed signatures", "infer_deep": "relations on whole buffers",
     "infer_formats": "inside containers and texts", "infer_notation": "the notation of signatures", "mime_types": "MIME types of headers",
     "mime_sniff": "content types by the MIME Sniffing Standard",

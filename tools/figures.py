@@ -134,7 +134,7 @@ def check_performance():
 
 # Where the time of a question stands that another program was asked too: the page, the rows of both, and what is counted.
 TIMED_AGAINST = {
-    "`file`": ("examples/directory_report/README.md", "xargs -0 infer_tool", "xargs -0 file", "seconds, 20,000 files"),
+    "`file`": ("docs/PROGRAM.md", "xargs -0 infer_tool", "xargs -0 file", "seconds, 20,000 files"),
     "mimetype": ("bindings/go/README.md", "infer.Detect", "mimetype.Detect", "nanoseconds"),
     "python-magic": ("bindings/python/README.md", "infer.magic", "python-magic", "microseconds"),
     "filetype.py": ("bindings/python/README.md", "infer.guess", "filetype.guess", "microseconds"),

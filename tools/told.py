@@ -123,7 +123,7 @@ def check_command(page, command):
         yield os.path.isdir(rest[0]), f"{page}: there is no folder {rest[0]} to `cd` to"
     if head == "cc":
         yield from check_compiling(page, rest)
-    program = {"infer_tool": "crates/infer_tool/src/run.rt", "./infer_tool": "crates/infer_tool/src/run.rt", "./directory_report": "examples/directory_report/directory_report.c"}.get(head, head)
+    program = {"infer_tool": "crates/infer_tool/src/run.rt", "./infer_tool": "crates/infer_tool/src/run.rt", "infer_label": "program/help.c"}.get(head, head)
     # (what was built is no text)
     if os.path.isfile(program) and "/out/" not in program:
         told = text_of(program)
@@ -156,7 +156,7 @@ def check_compiling(page, rest):
 
 def check_commands(page):
     lines = [it for it in blocks_of(page)] + [it for it in spans(page) if " " in it or "/" in it]
-    heads = ("cd ", "rt ", "cc ", "c/", "tools/", "bench/", ".ci/", "bindings/", "examples/", "infer_tool ", "./infer_tool ", "./directory_report ", "PYTHONPATH=", "export ", "find ")
+    heads = ("cd ", "rt ", "cc ", "c/", "tools/", "bench/", ".ci/", "bindings/", "examples/", "infer_tool ", "./infer_tool ", "infer_label ", "PYTHONPATH=", "export ", "find ")
     for line in lines:
         if line.startswith(heads):
             for command in simple_commands(line):
@@ -172,7 +172,8 @@ def fault_texts():
 def said():
     """What the programs say of an input, after its name, but for types."""
     written = re.findall(r'writeln!\(\w+, "\{\w+\}: ([a-z ]+)"\)', text_of("crates/infer_tool/src/report.rt") + text_of("crates/infer_tool/src/sample.rt"))
-    return fault_texts() | set(written) | set(re.findall(r'write_all\(b"([a-z]+)"\)', text_of("crates/infer_label/src/line.rt")))
+    without_type = re.findall(r'\{ b"([a-z]+)" \}', text_of("crates/infer_label/src/line.rt"))
+    return fault_texts() | set(written) | set(without_type)
 
 
 def is_told(mime_type, extension, more, named):

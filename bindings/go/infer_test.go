@@ -474,6 +474,9 @@ func TestNames(t *testing.T) {
 	if len(all) < 900 {
 		t.Error(len(all))
 	}
+	if got := Line("main\n.py", []byte("import os\n")); got != `main\u000a.py: text/x-python py, us-ascii, name refines` {
+		t.Error(got)
+	}
 	if got := DetectNamed("a.dz", []byte("\x1F\x8B\x08")); got.Type != (NamedType{"application/x-dictzip", "", true}) {
 		t.Error(got)
 	}

@@ -8,6 +8,11 @@ static struct infer_named_answer named(_GoString_ name, const uint8_t *buf, size
 	infer_named(_GoStringPtr(name), _GoStringLen(name), buf, len, &found);
 	return found;
 }
+
+static size_t line(_GoString_ name, const uint8_t *buf, size_t len, char *out, size_t size) {
+	infer_label_options options = {0};
+	return infer_label_line(_GoStringPtr(name), _GoStringLen(name), buf, len, &options, NULL, out, size);
+}
 */
 import "C"
 
@@ -74,6 +79,15 @@ func DetectNamed(name string, b []byte) Named {
 	found := C.named(name, first(b), C.size_t(len(b)))
 	ofBytes, _ := typeOf(int(found.row))
 	return Named{Standing(found.standing), namedType(&found.told), namedType(&found.name), ofBytes}
+}
+
+// Line is the line that infer_label prints of a file's name and its first bytes, without its end. Nothing of a name moves a
+// cursor or is hidden.
+func Line(name string, b []byte) string {
+	size := C.line(name, first(b), C.size_t(len(b)), nil, 0)
+	out := make([]C.char, size+1)
+	C.line(name, first(b), C.size_t(len(b)), &out[0], size+1)
+	return C.GoStringN(&out[0], C.int(size-1))
 }
 
 // DetectNamedFile tells the same of the first 8192 bytes of a regular file, whose name the path is.

@@ -2,6 +2,7 @@
  * never waits, so the collector is kept from it no longer than an answer takes. Bytes.java has checked which bytes are meant. */
 #include "infer.h"
 #include <jni.h>
+#include <stdlib.h>
 
 #define NAME(name) JNICALL Java_dev_hoarvelt_infer_Library_##name
 
@@ -83,6 +84,25 @@ JNIEXPORT void NAME(named)(JNIEnv *env, jclass self, jbyteArray name, jbyteArray
         return;
     }
     (*env)->SetByteArrayRegion(env, told, 0, sizeof answer, (const jbyte *)&answer);
+}
+
+JNIEXPORT jint NAME(line)(JNIEnv *env, jclass self, jbyteArray name, jbyteArray array, jobject direct, jint from, jint size, jbyteArray room) {
+    infer_label_options options = {0};
+    size_t name_size = (size_t)(*env)->GetArrayLength(env, name), room_size = (size_t)(*env)->GetArrayLength(env, room), length = 0;
+    char *at = array ? NULL : held(env, NULL, direct), *text = held(env, name, NULL), *out = malloc(room_size);
+    (void)self;
+    if (array) at = held(env, array, NULL);
+    if (text && out && (at || !array)) length = infer_label_line(text, name_size, array ? at + from : at, (size_t)size, &options, NULL, out, room_size);
+    release(env, array, at);
+    release(env, name, text);
+    if (length == 0) {
+        free(out);
+        refuse(env);
+        return 0;
+    }
+    (*env)->SetByteArrayRegion(env, room, 0, (jsize)room_size, (const jbyte *)out);
+    free(out);
+    return (jint)length;
 }
 
 JNIEXPORT jstring NAME(typesMistake)(JNIEnv *env, jclass self, jbyteArray text, jlongArray place) {

@@ -151,6 +151,12 @@ export interface Named {
 export function named(name: string | Bytes, bytes: Bytes): Named;
 
 /**
+ * The line that infer_label prints of a file's name and its first 8192 bytes, without its end. Nothing of a name moves a
+ * cursor or is hidden.
+ */
+export function line(name: string | Bytes, bytes: Bytes): string;
+
+/**
  * A MIME type, by the MIME Sniffing Standard. A code point of a text is one of the standard's, and each of bytes counts as the
  * code point with its number.
  */

@@ -231,6 +231,18 @@ export const named = (name, input) => {
     };
 };
 
+export const line = (name, input) => {
+    const text = typeof name === "string" ? new TextEncoder().encode(name) : frontOf(name, Infinity).slice();
+    const size = hand(input);
+    const none = hold(new Uint8Array());
+    const given = hold(text);
+    const distance = TYPES + text.length;
+    const most = 6 * text.length + 512;
+    makeRoom(distance + most);
+    const length = infer.infer_label_write(...given, place, size, 0, 0, 0, ...none, ...none, 0n, at(NUMBERS), at(NUMBERS + 8), at(distance), BigInt(most));
+    return new TextDecoder().decode(room.subarray(distance, distance + Number(length) - 1));
+};
+
 export class Types {
     #text;
 

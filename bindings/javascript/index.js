@@ -32,6 +32,7 @@ export {
     mayBeScriptable,
     mayBecome,
     mayBecomeWider,
+    line,
     named,
     sample,
     supportedExtensions,

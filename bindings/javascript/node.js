@@ -31,6 +31,7 @@ export {
     mayBeScriptable,
     mayBecome,
     mayBecomeWider,
+    line,
     named,
     sample,
     supportedExtensions,

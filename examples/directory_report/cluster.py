@@ -1,6 +1,5 @@
 #!/usr/bin/python3
-"""Tells the types of all files in folders by processes of this machine, or on many machines by Dask. MANY_MACHINES.md
-says how.
+"""Tells the types of all files in folders by processes of this machine, or on many machines by Dask. README.md says how.
 
 With --scheduler it needs Debian's packages python3-dask and python3-distributed, and python3-matplotlib for the picture."""
 from __future__ import annotations

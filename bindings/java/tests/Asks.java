@@ -41,6 +41,7 @@ final class Asks {
             case "paths" -> rest.forEach(path -> say(path, () -> shown(Infer.get(Path.of(path)))));
             case "probe" -> rest.forEach(path -> say(path, () -> String.valueOf(Files.probeContentType(Path.of(path)))));
             case "named" -> named();
+            case "line" -> System.out.println(Infer.line("main\n.py", "import os\n".getBytes(StandardCharsets.UTF_8)));
             case "namedPaths" -> rest.forEach(path -> say(path, () -> shown(Infer.named(Path.of(path)))));
             case "streams" -> streams();
             case "nulls" -> nulls();

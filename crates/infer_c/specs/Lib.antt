@@ -3,3 +3,4 @@ pub mod Why
 pub mod Written
 pub mod Named
 pub mod Mime
+pub mod Label

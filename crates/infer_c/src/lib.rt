@@ -36,12 +36,16 @@ ghost use Rattle.mime_types.specs.declared.extraction.Extracted.{Extracted};
 ghost use Rattle.mime_sniff.specs.Computed.{IsComputedIn, apache_bugs};
 ghost use Rattle.mime_sniff.specs.Growth as growth;
 ghost use Rattle.mime_sniff.specs.Growth.{NeverScripts};
+ghost use Rattle.infer_label.specs.Line.{note_line};
+ghost use Rattle.infer_label.specs.Writes.{saturated};
+ghost use Rattle.infer_c.specs.Label.{TellsLine, note_of, options_by};
 ghost use Rattle.infer_c.specs.Mime.{IsContextOf, IsDestinationOf, IsEssenceText, IsGroupCodeSaid, IsMimeText, IsMinimalText, IsToldText, IsTogetherText, IsValueText, SayTogether, Says, kind_said, mime_extracted, supply_told, value_said};
 ghost use Rattle.infer_c.specs.Named.{IsOddityCode, StoresNamed};
 ghost use Rattle.infer_c.specs.Why.{TellsWhy};
 ghost use Rattle.infer_c.specs.Written.{WritesText, WritesWhole};
 
 mod class;
+mod label;
 mod mime;
 mod named;
 mod row;
@@ -52,6 +56,7 @@ mod written;
 use infer::MatcherType;
 use infer_evidence::{Evidence, WrittenRange};
 use infer_more::laws;
+use label::Asked;
 use mime_sniff::Context;
 use mime_types::Destination;
 use named::NamedAnswer;
@@ -609,6 +614,60 @@ pub extern "C" fn infer_oddities(name: &[u8]) -> u32
     ensures { IsOddityCode name.now result }
 {
     named::oddities(name)
+}
+
+/// The length of the line of a file with this name and these first bytes, which is written to `out`. What the name did is stored,
+/// or -1 if it was not asked, and whether a type is known. Types of one's own are to be a text that describes some, or none.
+#[unsafe(no_mangle)]
+pub extern "C" fn infer_label_write(
+    name: &[u8],
+    buf: &[u8],
+    look: u32,
+    form: u32,
+    flags: u32,
+    types: &[u8],
+    content_type: &[u8],
+    size: usize,
+    standing: &mut i32,
+    is_known: &mut bool,
+    out: &mut [u8],
+) -> usize
+    ensures { TellsLine (options_by look form flags types.now content_type.now size) name.now buf.now result standing.new is_known.new out.old out.new }
+{
+    let asked = Asked {
+        look,
+        form,
+        flags,
+        types,
+        content_type,
+        size,
+    };
+    label::write_line(asked, name, buf, standing, is_known, out)
+}
+
+/// The length of the line of a file with this name of which only a text is told, which is written to `out`: the fault that it
+/// had, if `note` is 0, and its kind if it is 1.
+#[unsafe(no_mangle)]
+pub extern "C" fn infer_label_note(
+    name: &[u8],
+    note: u32,
+    text: &[u8],
+    form: u32,
+    flags: u32,
+    out: &mut [u8],
+) -> usize
+    ensures length { result ≡ saturated (length (note_line (options_by 0 form flags [] [] 0) (note_of note) name.now text.now)) }
+    ensures written { WritesText (note_line (options_by 0 form flags [] [] 0) (note_of note) name.now text.now) out.old out.new }
+{
+    let asked = Asked {
+        look: 0,
+        form,
+        flags,
+        types: &[],
+        content_type: &[],
+        size: 0,
+    };
+    label::write_note(asked, note, name, text, out)
 }
 
 /// Whether some row with this extension accepts `buf`.

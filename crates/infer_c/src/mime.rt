@@ -259,7 +259,7 @@ fn supplied(content_type: &[u8], flags: u32) -> Supplied<'_>
     }
 }
 
-fn has_bit(flags: u32, bit: u32) -> bool
+pub fn has_bit(flags: u32, bit: u32) -> bool
     ensures { result ≡ has_bit flags bit }
 {
     flags & bit == bit

@@ -84,7 +84,7 @@ fn write_type(found: Option<Told>, texts: &mut TypeTexts)
 }
 
 /// The number of a standing.
-fn code(standing: Standing) -> i32
+pub fn code(standing: Standing) -> i32
     ensures { result ≡ standing_code standing }
 {
     match standing {

@@ -1,6 +1,5 @@
 pub mod NamesLemmas
-pub mod ReportLemmas
-pub mod RunLemmas
+pub mod RoomLemmas
 pub mod SeenLemmas
 pub mod WhyLemmas
 pub mod WritesLemmas

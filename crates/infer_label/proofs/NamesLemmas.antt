@@ -7,9 +7,9 @@ use Rattle.std.specs.Str.{IsAscii, IsUtf8, chars, is_utf8}
 use Rattle.std.proofs.lemmas.Str.{IsUtf8-from_ascii, IsUtf8-from_is_utf8, chars-IsAscii, encode_ascii, is_utf8-from_IsUtf8}
 use Rattle.std.proofs.lemmas.Str.Ascii.{IsAscii-cons, IsAscii-nil}
 use Rattle.infer_label.specs.Line.{hex_member, name_member, utf8_member}
-use Rattle.infer_label.specs.Names.{byte_shown, char_shown, code_shown, is_mark, is_obeyed, is_plain, name_shown}
+use Rattle.infer_label.specs.Names.{before_mark, byte_shown, char_shown, is_escaped, is_mark, is_plain, name_shown, unseen_shown}
 use Rattle.infer_label.specs.declared.options.Form.{Form}
-use Rattle.infer_label.specs.declared.options.Form.TheVariants.{Json, Text}
+use Rattle.infer_label.specs.declared.options.Form.TheVariants.{Csv, Json, Mime, Text}
 
 pub map-id : (xs : List ℕ) → map (λ x. x) xs ≡ xs
 map-id [] = refl
@@ -57,24 +57,26 @@ denied false is = refl
 
 no_mark : (form : Form) (x : ℕ) → is_mark Json x ≡ false → is_mark form x ≡ false
 no_mark Text x is = neither (x == 0x5C) (x == 0x22) is
+no_mark Mime x is = neither (x == 0x5C) (x == 0x22) is
+no_mark Csv x is = is
 no_mark Json x is = is
 
-char_itself : (obeyed mark : Bool) (x : ℕ) → obeyed ≡ false → mark ≡ false → x < 128
-    → (if obeyed then code_shown x else (if mark then 0x5C ∷ encode_utf8 x else encode_utf8 x)) ≡ x ∷ []
-char_itself true mark x e f low = absurd (cc)
-char_itself false true x e f low = absurd (cc)
-char_itself false false x e f low = encode_ascii x low
+char_itself : (escaped mark : Bool) (form : Form) (x : ℕ) → escaped ≡ false → mark ≡ false → x < 128
+    → (if escaped then unseen_shown x else (if mark then before_mark form x ∷ encode_utf8 x else encode_utf8 x)) ≡ x ∷ []
+char_itself true mark form x e f low = absurd (cc)
+char_itself false true form x e f low = absurd (cc)
+char_itself false false form x e f low = encode_ascii x low
 
 -- plain bytes are of ASCII and stand for themselves
 plain_bytes : (form : Form) (name : List ℕ) → list_all is_plain name ≡ true → (flat_map (char_shown form) name ≡ name) × IsAscii name
 plain_bytes form [] is = (refl, IsAscii-nil)
 plain_bytes form (x ∷ name) is =
     let (plain, others) = both (is_plain x) (list_all is_plain name) is in
-    let (low, shown) = both (nat_lt x 0x80) (not (is_obeyed x) && not (is_mark Json x)) plain in
-    let (not_obeyed, not_mark) = both (not (is_obeyed x)) (not (is_mark Json x)) shown in
+    let (low, shown) = both (nat_lt x 0x80) (not (is_escaped x) && not (is_mark Json x)) plain in
+    let (not_escaped, not_mark) = both (not (is_escaped x)) (not (is_mark Json x)) shown in
     let (same, ascii) = plain_bytes form name others in
     let below : x < 128 = ltb-true x 128 low in (
-      ap₂ (λ a b. a ++ b) (char_itself (is_obeyed x) (is_mark form x) x (denied (is_obeyed x) not_obeyed) (no_mark form x (denied (is_mark Json x) not_mark)) below) same,
+      ap₂ (λ a b. a ++ b) (char_itself (is_escaped x) (is_mark form x) form x (denied (is_escaped x) not_escaped) (no_mark form x (denied (is_mark Json x) not_mark)) below) same,
       IsAscii-cons x name below ascii,
     )
 

@@ -6,9 +6,9 @@ use Rattle.std.specs.Int.{is_in_range}
 use Rattle.std.specs.List.{AllByRecursion, flat_map}
 use Rattle.std.specs.Prelude.{nat_le, nat_lt}
 use Rattle.std.specs.Str.{chars, is_utf8}
-use Rattle.infer_label.specs.Names.{IsSeen, byte_shown, char_shown, code_shown, hex_digit, high_shown, is_mark, is_obeyed, name_shown}
+use Rattle.infer_label.specs.Names.{IsSeen, before_mark, byte_shown, char_shown, code_shown, hex_digit, high_shown, is_escaped, is_mark, is_obeyed, is_tag, is_unseen, name_shown, unseen_shown}
 use Rattle.infer_label.specs.declared.options.Form.{Form}
-use Rattle.infer_label.specs.declared.options.Form.TheVariants.{Json, Text}
+use Rattle.infer_label.specs.declared.options.Form.TheVariants.{Csv, Json, Mime, Text}
 
 abbrev AreSeen : List ℕ → Type 0
 AreSeen xs = AllByRecursion IsSeen xs
@@ -40,7 +40,13 @@ code_seen c = (slash_seen, ((omega arith, λ e. absurd (omega arith)), (digit_se
 
 high_seen : (form : Form) (x : ℕ) → AreSeen (high_shown form x)
 high_seen Text x = (slash_seen, ((omega arith, λ e. absurd (omega arith)), (digit_seen (x / 16), (digit_seen x, tt))))
+high_seen Mime x = (slash_seen, ((omega arith, λ e. absurd (omega arith)), (digit_seen (x / 16), (digit_seen x, tt))))
+high_seen Csv x = (slash_seen, ((omega arith, λ e. absurd (omega arith)), (digit_seen (x / 16), (digit_seen x, tt))))
 high_seen Json x = code_seen x
+
+unseen_seen : (c : ℕ) → AreSeen (unseen_shown c)
+unseen_seen c = one_of (is_tag c) (code_shown 0xDB40 ++ code_shown (0xDC00 + c % 1024)) (code_shown c)
+    (both_seen (code_shown 0xDB40) (code_shown (0xDC00 + c % 1024)) (code_seen 0xDB40) (code_seen (0xDC00 + c % 1024))) (code_seen c)
 
 large : (n : ℕ) → 128 ≤ n → IsSeen n
 large n high = (omega arith, λ e. absurd (omega arith))
@@ -68,13 +74,23 @@ not_obeyed c is =
     let low : 0x20 ≤ c = ltb-false c 0x20 not_low in
     (low, λ e. let wrong : true ≡ false = subst (λ x. is_in_range 0x7F 0x9F x ≡ false) e not_high in absurd (cc))
 
-char_by : (obeyed mark : Bool) (c : ℕ) → (obeyed ≡ false → IsSeen c) → AreSeen (if obeyed then code_shown c else (if mark then 0x5C ∷ encode c else encode c))
-char_by true mark c seen = code_seen c
-char_by false true c seen = (slash_seen, encoded_seen c (seen refl))
-char_by false false c seen = encoded_seen c (seen refl)
+not_escaped : (c : ℕ) → is_escaped c ≡ false → IsSeen c
+not_escaped c is = not_obeyed c (neither (is_obeyed c) (is_unseen c) is).0
+
+before_seen : (form : Form) (c : ℕ) → IsSeen c → IsSeen (before_mark form c)
+before_seen Text c seen = slash_seen
+before_seen Mime c seen = slash_seen
+before_seen Json c seen = slash_seen
+before_seen Csv c seen = seen
+
+char_by : (form : Form) (escaped mark : Bool) (c : ℕ) → (escaped ≡ false → IsSeen c)
+    → AreSeen (if escaped then unseen_shown c else (if mark then before_mark form c ∷ encode c else encode c))
+char_by form true mark c seen = unseen_seen c
+char_by form false true c seen = (before_seen form c (seen refl), encoded_seen c (seen refl))
+char_by form false false c seen = encoded_seen c (seen refl)
 
 char_seen : (form : Form) (c : ℕ) → AreSeen (char_shown form c)
-char_seen form c = char_by (is_obeyed c) (is_mark form c) c (not_obeyed c)
+char_seen form c = char_by form (is_escaped c) (is_mark form c) c (not_escaped c)
 
 byte_seen : (form : Form) (x : ℕ) → AreSeen (byte_shown form x)
 byte_seen form x = one_of (nat_le 0x80 x) (high_shown form x) (char_shown form x) (high_seen form x) (char_seen form x)

@@ -5,7 +5,7 @@ use Rattle.std.proofs.lemmas.Grind.{flat_map-append}
 use Rattle.std.proofs.lemmas.List.{take_all, take_more}
 use Rattle.std.proofs.lemmas.List.Folds.{flat_map-map}
 use Rattle.infer_evidence.specs.declared.ranges.Range.{Range}
-use Rattle.infer_lines.specs.declared.writer.WatchedWriter.{WatchedWriter}
+use Rattle.infer_label.specs.declared.room.Room.{Room}
 use Rattle.infer_label.specs.Why.{Reason, reason_of}
 use Rattle.infer_label.specs.WhyText.{in_row, mark_if, stands_before}
 use Rattle.infer_label.specs.Writes.{Writes}
@@ -62,35 +62,35 @@ more : {X A : Type 0} (f : X → List A) (xs : List X) (i : ℕ) (d : X) → i <
 more f xs i d lt =
     ap (flat_map f) (take_more xs i d lt) ∙ flat_map-append f (take i xs) (get_or xs i d ∷ []) ∙ ap (λ l. flat_map f (take i xs) ++ l) (append-nil (f (get_or xs i d)))
 
-module _ {W : Type 0} (contents : W → Option (List ℕ)) (mark : List ℕ) (first : Bool) where
+module _ (mark : List ℕ) (first : Bool) where
   -- these texts were written, and it is known whether something stands before what follows
-  abbrev pub Continues : (old new : WatchedWriter W) → Bool → List (List ℕ) → Type 0
-  Continues old new before texts = Writes contents old new (in_row mark first texts) × (before ≡ stands_before first texts)
+  abbrev pub Continues : (old new : Room) → Bool → List (List ℕ) → Type 0
+  Continues old new before texts = Writes old new (in_row mark first texts) × (before ≡ stands_before first texts)
 
-  pub nothing_yet : (w : WatchedWriter W) → Continues w w first []
-  nothing_yet w = (writes_nothing contents w, refl)
+  pub nothing_yet : (w : Room) → Continues w w first []
+  nothing_yet w = (writes_nothing w, refl)
 
-  pub continued : (xs ys : List (List ℕ)) {old between new : WatchedWriter W} {before after : Bool}
-      → Continues old between before xs → Writes contents between new (in_row mark before ys) → after ≡ stands_before before ys → Continues old new after (xs ++ ys)
+  pub continued : (xs ys : List (List ℕ)) {old between new : Room} {before after : Bool}
+      → Continues old between before xs → Writes between new (in_row mark before ys) → after ≡ stands_before before ys → Continues old new after (xs ++ ys)
   continued xs ys {old = old} {between = between} {new = new} (written, is) then so = (
-    subst (Writes contents old new) (sym (row_both mark first xs ys))
-        (writes_both contents written (subst (λ b. Writes contents between new (in_row mark b ys)) is then)),
+    subst (Writes old new) (sym (row_both mark first xs ys))
+        (writes_both written (subst (λ b. Writes between new (in_row mark b ys)) is then)),
     so ∙ ap (λ b. stands_before b ys) is ∙ sym (stands_both first xs ys),
   )
 
   -- the texts of one more range
-  pub one_more : (w : code.Why) (h : Reason → List (List ℕ)) {old between new : WatchedWriter W} {before after : Bool}
+  pub one_more : (w : code.Why) (h : Reason → List (List ℕ)) {old between new : Room} {before after : Bool}
       (items : List Range) (i : ℕ) (d : Range) (reason : Reason) → i < length items
       → Continues old between before (flat_map (λ r. h (reason_in w r)) (take i items)) → reason ≡ reason_in w (get_or items i d)
-      → Writes contents between new (in_row mark before (h reason)) → after ≡ stands_before before (h reason)
+      → Writes between new (in_row mark before (h reason)) → after ≡ stands_before before (h reason)
       → Continues old new after (flat_map (λ r. h (reason_in w r)) (take (i + 1) items))
   one_more w h {old = old} {between = between} {new = new} {before = before} {after = after} items i d reason lt so_far is written so =
       subst (Continues old new after) (sym (more (λ r. h (reason_in w r)) items i d lt))
       (continued (flat_map (λ r. h (reason_in w r)) (take i items)) (h (reason_in w (get_or items i d))) so_far
-      (subst (λ r. Writes contents between new (in_row mark before (h r))) is written) (so ∙ ap (λ r. stands_before before (h r)) is))
+      (subst (λ r. Writes between new (in_row mark before (h r))) is written) (so ∙ ap (λ r. stands_before before (h r)) is))
 
   -- and of all
-  pub all_told : (w : code.Why) (h : Reason → List (List ℕ)) {old new : WatchedWriter W} {before : Bool}
+  pub all_told : (w : code.Why) (h : Reason → List (List ℕ)) {old new : Room} {before : Bool}
       (items : List Range) (i : ℕ) (reasons : List Reason) → length items ≤ i → map (reason_in w) items ≡ reasons
       → Continues old new before (flat_map (λ r. h (reason_in w r)) (take i items)) → Continues old new before (flat_map h reasons)
   all_told w h {old = old} {new = new} {before = before} items i reasons end are told =

@@ -5,6 +5,7 @@ use Rattle.infer.specs.First.{IsAnswer}
 use Rattle.infer.specs.Row.{Accepts}
 use Rattle.infer.specs.Table.{table}
 use Rattle.infer.specs.Triple.{Triple}
+use Rattle.infer.specs.declared.table.file_type.MatcherType.{MatcherType}
 use Rattle.infer_formats.specs.Text.{IsEncodingOf}
 use Rattle.infer_formats.specs.declared.text.Encoding.{Encoding}
 use Rattle.infer_more.specs.Line.{Row}
@@ -18,20 +19,22 @@ use Rattle.infer_named.specs.declared.join.Standing.TheVariants.{Agree, BytesAlo
 use Rattle.mime_sniff.specs.Computed.{IsComputed, Supply, apache_bugs}
 use Rattle.mime_types.specs.Mime.{Mime}
 use Rattle.mime_types.specs.Parse.{Parsed}
-use Rattle.infer_label.specs.Options.{Options, OwnTypes, no_types, types_at, types_of}
+use Rattle.infer_label.specs.Options.{Options}
 use Rattle.infer_label.specs.declared.label.Label as code
 use Rattle.infer_label.specs.declared.options.Look.{Look}
 use Rattle.infer_label.specs.declared.options.Look.TheVariants as looks
 
--- the MIME type and the extension, if they are known, how the text is encoded, whether there are no bytes, what the name
--- did, if it was asked, and the MIME type that it has, if the bytes contradict it
+-- the MIME type and the extension, if they are known, the class of what the bytes are, how the text is encoded, whether there
+-- are no bytes, what the name did, if it was asked, and the MIME type and the extension that it has, if the bytes contradict it
 pub record Label : Type 0 where
   pub mime_type : Option (List ℕ)
   pub extension : Option (List ℕ)
+  pub class : Option MatcherType
   pub encoding : Option Encoding
   pub is_empty : Bool
   pub standing : Option Standing
   pub named : Option (List ℕ)
+  pub named_extension : Option (List ℕ)
 
 abbrev pub is_empty : List ℕ → Bool
 is_empty b = length b == 0
@@ -42,9 +45,12 @@ mime_type_in t = option_map (λ it. it.mime_type) t
 abbrev pub extension_in : Option Triple → Option (List ℕ)
 extension_in t = option_map (λ it. it.extension) t
 
--- of a name whose type is this what is told beside a standing: the MIME type, if the bytes contradict it
-abbrev pub contradicted : Standing → Option Told → Option (List ℕ)
-contradicted Contradicts told = option_map mime_type_of told
+abbrev pub class_in : Option Triple → Option MatcherType
+class_in t = option_map (λ it. it.class) t
+
+-- of a name whose type is this what is told beside a standing: that type, if the bytes contradict it
+abbrev pub contradicted : Standing → Option Told → Option Told
+contradicted Contradicts told = told
 contradicted Agree told = None
 contradicted NameRefines told = None
 contradicted BytesRefine told = None
@@ -52,34 +58,38 @@ contradicted BytesAlone told = None
 contradicted NameAlone told = None
 contradicted Nothing told = None
 
--- the label by an answer to a name and bytes, where this is the type of the name; by a type of bytes alone; and by a built-in
--- type
-abbrev pub by_both : Answer → Option Told → Option Encoding → Bool → Label
-by_both a name_type encoding empty = record {
+-- the label by an answer to a name and bytes, where these are the types of both; by a type of bytes alone; and by a built-in type
+abbrev pub by_both : Answer → Option Told → Option Triple → Option Encoding → Bool → Label
+by_both a name_type t encoding empty = record {
   mime_type = option_map mime_type_of a.told;
   extension = option_and_then extension_of a.told;
+  class = class_in t;
   encoding = encoding;
   is_empty = empty;
   standing = Some a.standing;
-  named = contradicted a.standing name_type;
+  named = option_map mime_type_of (contradicted a.standing name_type);
+  named_extension = option_and_then extension_of (contradicted a.standing name_type);
 }
 
 abbrev pub by_bytes : Option Triple → Option Encoding → Bool → Label
 by_bytes t encoding empty = record {
   mime_type = mime_type_in t;
   extension = extension_in t;
+  class = class_in t;
   encoding = encoding;
   is_empty = empty;
   standing = None;
   named = None;
+  named_extension = None;
 }
 
 abbrev pub by_built_in : Option Triple → Label
 by_built_in t = by_bytes t None false
 
--- the label of an input by what its name and b tell, with the encoding of b
-abbrev pub IsLabelOf : Named → List ℕ → Label → Type 0
-IsLabelOf n b label = (encoding : Option Encoding) × IsEncodingOf b encoding × (label ≡ by_both (answer_of n) (type_of_name (key_of n)) encoding (is_empty b))
+-- the label of an input by what its name and b tell, whose type is this, with the encoding of b
+abbrev pub IsLabelOf : Named → Option Triple → List ℕ → Label → Type 0
+IsLabelOf n t b label =
+    (encoding : Option Encoding) × IsEncodingOf b encoding × (label ≡ by_both (answer_of n) (type_of_name (key_of n)) t encoding (is_empty b))
 
 -- what a browser knows that was told a content type, or none: the MIME type that it says, if it says one, and whether it is
 -- one that old servers send of every file
@@ -99,7 +109,16 @@ pub record IsSupply (no_sniff : Bool) (content_type : Option (List ℕ)) (s : Su
 
 -- the label by what it computes of b. Where the type stays it is told as it was given
 abbrev pub by_browser : Option (List ℕ) → Label
-by_browser told = record { mime_type = told; extension = None; encoding = None; is_empty = false; standing = None; named = None }
+by_browser told = record {
+  mime_type = told;
+  extension = None;
+  class = None;
+  encoding = None;
+  is_empty = false;
+  standing = None;
+  named = None;
+  named_extension = None;
+}
 
 abbrev pub IsLabelOfBrowser : Bool → Option (List ℕ) → List ℕ → Label → Type 0
 IsLabelOfBrowser no_sniff content_type b label =
@@ -108,7 +127,7 @@ IsLabelOfBrowser no_sniff content_type b label =
 -- the label of an input with this name, of which b is looked at: by what the name and b tell; by the wider answer of b; by
 -- its first built-in row; or by what a browser makes of b, with the content type that it was told
 abbrev pub IsLabelBy : Look → Option (List ℕ) → List ℕ → List ℕ → Label → Type 0
-IsLabelBy looks.NameAndBytes told name b label = (n : Named) × IsNamed name b n × IsLabelOf n b label
+IsLabelBy looks.NameAndBytes told name b label = (n : Named) × (t : Option Triple) × IsNamed name b n × IsWiderAnswer b t × IsLabelOf n t b label
 IsLabelBy looks.Bytes told name b label =
     (t : Option Triple) × (encoding : Option Encoding) × IsWiderAnswer b t × IsEncodingOf b encoding × (label ≡ by_bytes t encoding (is_empty b))
 IsLabelBy looks.BuiltIn told name b label = (t : Option Triple) × IsAnswer (Accepts b) table t × (label ≡ by_built_in t)
@@ -124,11 +143,10 @@ abbrev pub IsOwnLabel : List Row → Look → Option (List ℕ) → List ℕ →
 IsOwnLabel rows look told name b label =
     (own : Option Triple) × IsOwnAnswer rows b own × MatchOption own (IsLabelBy look told name b label) (λ t. IsLabelOfType t b label)
 
--- the label by some options: types of one's own are asked first, if they are read
-abbrev pub IsLabelWith : OwnTypes → Look → Option (List ℕ) → List ℕ → List ℕ → Label → Type 0
-IsLabelWith no_types look told name b label = IsLabelBy look told name b label
-IsLabelWith (types_at path) look told name b label = IsLabelBy look told name b label
-IsLabelWith (types_of text) look told name b label = (rows : List Row) → rows_of text ≡ Some rows → IsOwnLabel rows look told name b label
+-- the label by some options: types of one's own are asked first, if they are some
+abbrev pub IsLabelWith : Option (List ℕ) → Look → Option (List ℕ) → List ℕ → List ℕ → Label → Type 0
+IsLabelWith None look told name b label = IsLabelBy look told name b label
+IsLabelWith (Some text) look told name b label = (rows : List Row) → rows_of text ≡ Some rows → IsOwnLabel rows look told name b label
 
 abbrev pub IsLabel : Options → List ℕ → List ℕ → Label → Type 0
 IsLabel options name b label = IsLabelWith options.own options.look options.content_type name b label
@@ -138,8 +156,10 @@ abbrev pub label_listed : code.Label → Label
 label_listed l = record {
   mime_type = option_map (λ m. m.now) l.mime_type;
   extension = option_map (λ e. e.now) l.extension;
+  class = l.class;
   encoding = l.encoding;
   is_empty = l.is_empty;
   standing = l.standing;
   named = option_map (λ m. m.now) l.named;
+  named_extension = option_map (λ e. e.now) l.named_extension;
 }

@@ -1,5 +1,4 @@
 pub mod Options
-pub mod Words
 pub mod Writes
 pub mod Names
 pub mod Label
@@ -7,5 +6,4 @@ pub mod Why
 pub mod WhyText
 pub mod WhyJson
 pub mod Line
-pub mod Report
-pub mod Run
+pub mod Lines

@@ -109,8 +109,8 @@ room_texts false = codes "and more than there is room for" ∷ []
 
 abbrev pub reasons_text : Why → List ℕ
 reasons_text why =
-    codes ": " ++ in_row (codes "; ") false (own_texts why.reasons ++ other_texts why.reasons ++ length_texts why ++ room_texts why.is_whole)
+    in_row (codes "; ") false (own_texts why.reasons ++ other_texts why.reasons ++ length_texts why ++ room_texts why.is_whole)
 
 abbrev pub why_text : Option Why → List ℕ
 why_text None = []
-why_text (Some why) = reasons_text why
+why_text (Some why) = codes ": " ++ reasons_text why

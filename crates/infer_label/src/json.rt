@@ -1,50 +1,63 @@
 //! The line of an input as an object of JSON.
-ghost use Rattle.std.specs.Prelude.{◌≡◌, None, Some, option_map};
+ghost use Rattle.std.specs.Prelude.{◌≡◌, ◌++◌, None, Some, codes, option_map};
 ghost use Rattle.infer_label.specs.Label.{label_listed};
-ghost use Rattle.infer_label.specs.Line.{empty_member, encoding_member, extension_member, fault_line, hex_member, label_members, line, name_member, named_member, standing_member, standing_name, type_members, utf8_member};
+ghost use Rattle.infer_label.specs.Line.{empty_member, encoding_member, extension_member, hex_member, label_members, name_member, named_member, note_member, standing_member, standing_name, start, type_members, utf8_member};
+ghost use Rattle.infer_label.specs.Names.{name_shown};
 ghost use Rattle.infer_label.specs.Why.{why_listed};
+ghost use Rattle.infer_label.specs.WhyJson.{why_member};
 ghost use Rattle.infer_label.specs.Writes.{Writes};
 
 use crate::label::Label;
 use crate::names::{write_hex, write_name};
-use crate::options::Form;
+use crate::options::{Form, Note};
+use crate::room::Room;
 use crate::why::Why;
 use crate::why_json::write_why_member;
-use infer::Fault;
-use infer_lines::{WatchedWriter, text_of};
 use infer_more::text::Encoding;
 use infer_named::Standing;
-use std::io::Write;
 
-/// Writes the line of an input with this name and label, and why it is so, if that is told.
-pub fn write_json<W: Write>(
-    name: &[u8],
-    label: &Label<'_>,
-    why: Option<&Why<'_>>,
-    out: &mut WatchedWriter<'_, W>,
-)
-    ensures { Writes W.contents out.old out.new
-        (line Form.Json name.now (label_listed label.now) (option_map (λ w. why_listed w.now) why.entry)) }
+/// Begins an object, with the name, unless it is left out.
+pub fn write_object_start(is_unnamed: bool, name: &[u8], out: &mut Room<'_>)
+    ensures { Writes out.old out.new (start Form.Json is_unnamed name.now) }
 {
-    write_name_member(name, out);
-    write_members(label, out);
-    write_why_member(why, out);
-    out.write_all(b"}\n");
+    if is_unnamed {
+        out.write(b"{");
+    } else {
+        write_name_member(name, out);
+    }
 }
 
-/// Writes the line of an input with this name that had a fault.
-pub fn write_json_fault<W: Write>(name: &[u8], fault: Fault, out: &mut WatchedWriter<'_, W>)
-    ensures { Writes W.contents out.old out.new (fault_line Form.Json name.now fault) }
+/// Writes what is told of a label, and ends the object.
+pub fn write_object(label: &Label<'_>, why: Option<&Why<'_>>, out: &mut Room<'_>)
+    ensures { Writes out.old out.new
+        (label_members (label_listed label.now) ++ (why_member (option_map (λ w. why_listed w.now) why.entry) ++ codes "}\n")) }
 {
-    write_name_member(name, out);
-    out.write_all(b",\"fault\":\"");
-    out.write_all(text_of(fault).as_bytes());
-    out.write_all(b"\"}\n");
+    write_members(label, out);
+    write_why_member(why, out);
+    out.write(b"}\n");
+}
+
+/// Writes the member of an input that is not looked at, and ends the object.
+pub fn write_note_member(note: Note, text: &[u8], out: &mut Room<'_>)
+    ensures { Writes out.old out.new (note_member note ++ (name_shown Form.Json text.now ++ codes "\"}\n")) }
+{
+    out.write(note_member(note));
+    write_name(text, Form::Json, out);
+    out.write(b"\"}\n");
+}
+
+fn note_member(note: Note) -> &'static [u8]
+    ensures { result.now ≡ note_member note }
+{
+    match note {
+        Note::Fault => b"\"fault\":\"",
+        Note::Kind => b"\"kind\":\"",
+    }
 }
 
 /// Writes the name, or its bytes in hexadecimal if it is not UTF-8.
-fn write_name_member<W: Write>(name: &[u8], out: &mut WatchedWriter<'_, W>)
-    ensures { Writes W.contents out.old out.new (name_member name.now) }
+fn write_name_member(name: &[u8], out: &mut Room<'_>)
+    ensures { Writes out.old out.new (name_member name.now) }
 {
     match str::from_utf8(name) {
         Ok(_) => write_utf8_member(name, out),
@@ -52,24 +65,24 @@ fn write_name_member<W: Write>(name: &[u8], out: &mut WatchedWriter<'_, W>)
     }
 }
 
-fn write_utf8_member<W: Write>(name: &[u8], out: &mut WatchedWriter<'_, W>)
-    ensures { Writes W.contents out.old out.new (utf8_member name.now) }
+fn write_utf8_member(name: &[u8], out: &mut Room<'_>)
+    ensures { Writes out.old out.new (utf8_member name.now) }
 {
-    out.write_all(b"{\"name\":\"");
+    out.write(b"{\"name\":\"");
     write_name(name, Form::Json, out);
-    out.write_all(b"\"");
+    out.write(b"\",");
 }
 
-fn write_hex_member<W: Write>(name: &[u8], out: &mut WatchedWriter<'_, W>)
-    ensures { Writes W.contents out.old out.new (hex_member name.now) }
+fn write_hex_member(name: &[u8], out: &mut Room<'_>)
+    ensures { Writes out.old out.new (hex_member name.now) }
 {
-    out.write_all(b"{\"name_hex\":\"");
+    out.write(b"{\"name_hex\":\"");
     write_hex(name, out);
-    out.write_all(b"\"");
+    out.write(b"\",");
 }
 
-fn write_members<W: Write>(label: &Label<'_>, out: &mut WatchedWriter<'_, W>)
-    ensures { Writes W.contents out.old out.new (label_members (label_listed label.now)) }
+fn write_members(label: &Label<'_>, out: &mut Room<'_>)
+    ensures { Writes out.old out.new (label_members (label_listed label.now)) }
 {
     write_type_members(label.mime_type, label.extension, out);
     write_empty_member(label.is_empty, out);
@@ -78,12 +91,8 @@ fn write_members<W: Write>(label: &Label<'_>, out: &mut WatchedWriter<'_, W>)
     write_named_member(label.named, out);
 }
 
-fn write_type_members<W: Write>(
-    mime_type: Option<&[u8]>,
-    extension: Option<&str>,
-    out: &mut WatchedWriter<'_, W>,
-)
-    ensures { Writes W.contents out.old out.new
+fn write_type_members(mime_type: Option<&[u8]>, extension: Option<&str>, out: &mut Room<'_>)
+    ensures { Writes out.old out.new
         (type_members (option_map (λ m. m.now) mime_type.entry) (option_map (λ e. e.now) extension.entry)) }
 {
     match mime_type {
@@ -92,68 +101,73 @@ fn write_type_members<W: Write>(
     }
 }
 
-fn write_known_type<W: Write>(
-    mime_type: &[u8],
-    extension: Option<&str>,
-    out: &mut WatchedWriter<'_, W>,
-)
-    ensures { Writes W.contents out.old out.new
+fn write_known_type(mime_type: &[u8], extension: Option<&str>, out: &mut Room<'_>)
+    ensures { Writes out.old out.new
         (type_members (Some mime_type.entry.now) (option_map (λ e. e.now) extension.entry)) }
 {
-    out.write_all(b",\"mime_type\":\"");
+    out.write(b"\"mime_type\":\"");
     write_name(mime_type, Form::Json, out);
-    out.write_all(b"\"");
+    out.write(b"\"");
     write_extension_member(extension, out);
 }
 
-fn write_no_type<W: Write>(out: &mut WatchedWriter<'_, W>)
-    ensures { Writes W.contents out.old out.new (type_members None None) }
+fn write_no_type(out: &mut Room<'_>)
+    ensures { Writes out.old out.new (type_members None None) }
 {
-    out.write_all(b",\"mime_type\":null");
+    out.write(b"\"mime_type\":null");
 }
 
-fn write_extension_member<W: Write>(extension: Option<&str>, out: &mut WatchedWriter<'_, W>)
-    ensures { Writes W.contents out.old out.new (extension_member (option_map (λ e. e.now) extension.entry)) }
+fn write_extension_member(extension: Option<&str>, out: &mut Room<'_>)
+    ensures { Writes out.old out.new (extension_member (option_map (λ e. e.now) extension.entry)) }
 {
     if let Some(extension) = extension {
-        write!(out, ",\"extension\":\"{extension}\"");
+        write_member(b",\"extension\":\"", extension, out);
     }
 }
 
-fn write_empty_member<W: Write>(is_empty: bool, out: &mut WatchedWriter<'_, W>)
-    ensures { Writes W.contents out.old out.new (empty_member is_empty) }
+fn write_empty_member(is_empty: bool, out: &mut Room<'_>)
+    ensures { Writes out.old out.new (empty_member is_empty) }
 {
     if is_empty {
-        out.write_all(b",\"empty\":true");
+        out.write(b",\"empty\":true");
     }
 }
 
-fn write_encoding_member<W: Write>(encoding: Option<Encoding>, out: &mut WatchedWriter<'_, W>)
-    ensures { Writes W.contents out.old out.new (encoding_member encoding) }
+fn write_encoding_member(encoding: Option<Encoding>, out: &mut Room<'_>)
+    ensures { Writes out.old out.new (encoding_member encoding) }
 {
     if let Some(encoding) = encoding {
-        write!(out, ",\"encoding\":\"{encoding}\"");
+        write_member(b",\"encoding\":\"", encoding.name(), out);
     }
 }
 
-fn write_standing_member<W: Write>(standing: Option<Standing>, out: &mut WatchedWriter<'_, W>)
-    ensures { Writes W.contents out.old out.new (standing_member standing) }
+fn write_standing_member(standing: Option<Standing>, out: &mut Room<'_>)
+    ensures { Writes out.old out.new (standing_member standing) }
 {
     if let Some(standing) = standing {
-        let name = standing_name(standing);
-        write!(out, ",\"standing\":\"{name}\"");
+        write_member(b",\"standing\":\"", standing_name(standing), out);
     }
 }
 
-fn write_named_member<W: Write>(named: Option<&str>, out: &mut WatchedWriter<'_, W>)
-    ensures { Writes W.contents out.old out.new (named_member (option_map (λ m. m.now) named.entry)) }
+fn write_named_member(named: Option<&str>, out: &mut Room<'_>)
+    ensures { Writes out.old out.new (named_member (option_map (λ m. m.now) named.entry)) }
 {
     if let Some(mime_type) = named {
-        write!(out, ",\"named\":\"{mime_type}\"");
+        write_member(b",\"named\":\"", mime_type, out);
     }
 }
 
-fn standing_name(standing: Standing) -> &'static str
+/// Writes a member whose name and mark are these.
+fn write_member(before: &[u8], value: &str, out: &mut Room<'_>)
+    ensures { Writes out.old out.new (before.now ++ (value.now ++ codes "\"")) }
+{
+    out.write(before);
+    out.write_text(value);
+    out.write(b"\"");
+}
+
+/// What a name did, in words.
+pub fn standing_name(standing: Standing) -> &'static str
     ensures { result.now ≡ standing_name standing }
 {
     match standing {

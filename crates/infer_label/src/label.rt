@@ -7,14 +7,14 @@ ghost use Rattle.infer_named.specs.Named.{key_of, told_listed};
 ghost use Rattle.infer_more.specs.Line.{Row};
 ghost use Rattle.infer_more.specs.Text.{found_shows, rows_of};
 ghost use Rattle.infer_label.specs.Options.{options_listed};
-ghost use Rattle.infer_label.specs.Label.{IsLabel, IsLabelBy, IsLabelOf, IsLabelOfBrowser, IsLabelOfType, IsOwnLabel, IsSupply, contradicted, extension_in, label_listed, mime_type_in};
+ghost use Rattle.infer_label.specs.Label.{IsLabel, IsLabelBy, IsLabelOf, IsLabelOfBrowser, IsLabelOfType, IsOwnLabel, IsSupply, class_in, contradicted, extension_in, label_listed, mime_type_in};
 ghost use Rattle.mime_sniff.specs.Computed.{IsComputed, supply_of};
 
-use crate::options::{Look, Options, OwnTypes};
-use infer::Type;
+use crate::options::{Look, Options};
+use infer::{MatcherType, Type};
 use infer_more::text::Encoding;
 use infer_more::types::{self, Found};
-use infer_named::{Named, NamedBy, Standing, Told, named_by};
+use infer_named::{Named, Standing, Told};
 use mime_sniff::{Computed, Supplied};
 
 /// What is told of an input.
@@ -24,6 +24,8 @@ pub struct Label<'a> {
     pub mime_type: Option<&'a [u8]>,
     /// The extension, if the type has one.
     pub extension: Option<&'a str>,
+    /// The class of the type that the bytes have, if they have one.
+    pub class: Option<MatcherType>,
     /// How the text is encoded, if it is one.
     pub encoding: Option<Encoding>,
     /// Whether there are no bytes.
@@ -32,6 +34,8 @@ pub struct Label<'a> {
     pub standing: Option<Standing>,
     /// The MIME type that the name has, if the bytes contradict it.
     pub named: Option<&'a str>,
+    /// The extension of that type, if it has one.
+    pub named_extension: Option<&'a str>,
 }
 
 /// What is told of an input with this name and these first bytes.
@@ -39,37 +43,13 @@ pub fn label_of<'a>(options: Options<'a>, name: &[u8], buf: &[u8]) -> Label<'a>
     ensures { IsLabel (options_listed options.entry) name.now buf.now (label_listed result) }
 {
     match options.own {
-        OwnTypes::Text(text) => by_text(text, options, name, buf),
-        OwnTypes::None | OwnTypes::At(_) => by_look(options, name, buf),
-    }
-}
-
-/// By the types of a text, and by what else the options say if none of them accepts the bytes.
-fn by_text<'a>(text: &'a [u8], options: Options<'a>, name: &[u8], buf: &[u8]) -> Label<'a>
-    ensures { (rows : List Row) → rows_of text.entry.now ≡ Some rows
-        → IsOwnLabel rows (options_listed options.entry).look (options_listed options.entry).content_type name.now buf.now (label_listed result) }
-{
-    match options.look {
-        Look::NameAndBytes => by_all(text, name, buf),
-        Look::Bytes | Look::BuiltIn | Look::Browser | Look::BrowserForbidden => {
-            by_text_or_bytes(text, options, name, buf)
-        }
-    }
-}
-
-/// By the types of a text, and by the name and the bytes if none of them accepts the bytes.
-fn by_all<'a>(text: &'a [u8], name: &[u8], buf: &[u8]) -> Label<'a>
-    ensures { (told : Option (List ℕ)) (rows : List Row) → rows_of text.entry.now ≡ Some rows
-        → IsOwnLabel rows Look.NameAndBytes told name.now buf.now (label_listed result) }
-{
-    match named_by(text, name, buf) {
-        NamedBy::Own(found) => of_own(found, buf),
-        NamedBy::Named(found) => of_named(found, buf),
+        Some(text) => by_text(text, options, name, buf),
+        None => by_look(options, name, buf),
     }
 }
 
 /// By the types of a text, and by what is looked at if none of them accepts the bytes.
-fn by_text_or_bytes<'a>(text: &'a [u8], options: Options<'a>, name: &[u8], buf: &[u8]) -> Label<'a>
+fn by_text<'a>(text: &'a [u8], options: Options<'a>, name: &[u8], buf: &[u8]) -> Label<'a>
     ensures { (rows : List Row) → rows_of text.entry.now ≡ Some rows
         → IsOwnLabel rows (options_listed options.entry).look (options_listed options.entry).content_type name.now buf.now (label_listed result) }
 {
@@ -86,10 +66,12 @@ fn of_own<'a>(found: Found<'a>, buf: &[u8]) -> Label<'a>
     Label {
         mime_type: Some(found.mime_type().as_bytes()),
         extension: Some(found.extension()),
+        class: Some(found.matcher_type()),
         encoding: infer_more::encoding(buf),
         is_empty: buf.is_empty(),
         standing: None,
         named: None,
+        named_extension: None,
     }
 }
 
@@ -110,29 +92,33 @@ fn by_look<'a>(options: Options<'a>, name: &[u8], buf: &[u8]) -> Label<'a>
 fn by_both(name: &[u8], buf: &[u8]) -> Label<'static>
     ensures { (told : Option (List ℕ)) → IsLabelBy Look.NameAndBytes told name.now buf.now (label_listed result) }
 {
-    of_named(infer_named::named(name, buf), buf)
+    let found = infer_more::get(buf);
+    of_named(infer_named::named_with(name, buf, found), found, buf)
 }
 
-/// By what the name and the bytes tell.
-fn of_named(found: Named, buf: &[u8]) -> Label<'static>
-    ensures { IsLabelOf found buf.now (label_listed result) }
+/// By what the name and the bytes tell, which have this type.
+fn of_named(told: Named, found: Option<Type>, buf: &[u8]) -> Label<'static>
+    ensures { IsLabelOf told (option_map triple_of found) buf.now (label_listed result) }
 {
+    let contradicted = contradicted(told);
     Label {
-        mime_type: bytes_of(mime_type_told(found.told)),
-        extension: extension_told(found.told),
+        mime_type: bytes_of(mime_type_told(told.told)),
+        extension: extension_told(told.told),
+        class: class_of(found),
         encoding: infer_more::encoding(buf),
         is_empty: buf.is_empty(),
-        standing: Some(found.standing),
-        named: contradicted(found),
+        standing: Some(told.standing),
+        named: mime_type_told(contradicted),
+        named_extension: extension_told(contradicted),
     }
 }
 
-/// The MIME type that the name has, if the bytes contradict it.
-fn contradicted(found: Named) -> Option<&'static str>
-    ensures { option_map (λ m. m.now) result ≡ contradicted found.standing (type_of_name (key_of found)) }
+/// The type that the name has, if the bytes contradict it.
+fn contradicted(found: Named) -> Option<Told>
+    ensures { option_map told_listed result ≡ contradicted found.standing (type_of_name (key_of found)) }
 {
     match found.standing {
-        Standing::Contradicts => mime_type_told(found.type_of_name()),
+        Standing::Contradicts => found.type_of_name(),
         Standing::Agree
         | Standing::NameRefines
         | Standing::BytesRefine
@@ -168,10 +154,12 @@ fn by_bytes(buf: &[u8]) -> Label<'static>
     Label {
         mime_type: bytes_of(mime_type_of(found)),
         extension: extension_of(found),
+        class: class_of(found),
         encoding: infer_more::encoding(buf),
         is_empty: buf.is_empty(),
         standing: None,
         named: None,
+        named_extension: None,
     }
 }
 
@@ -183,10 +171,12 @@ fn by_built_in(buf: &[u8]) -> Label<'static>
     Label {
         mime_type: bytes_of(mime_type_of(found)),
         extension: extension_of(found),
+        class: class_of(found),
         encoding: None,
         is_empty: false,
         standing: None,
         named: None,
+        named_extension: None,
     }
 }
 
@@ -197,10 +187,12 @@ fn by_browser<'a>(no_sniff: bool, content_type: Option<&'a [u8]>, buf: &[u8]) ->
     Label {
         mime_type: computed(&supplied(no_sniff, content_type), content_type, buf),
         extension: None,
+        class: None,
         encoding: None,
         is_empty: false,
         standing: None,
         named: None,
+        named_extension: None,
     }
 }
 
@@ -266,6 +258,15 @@ fn extension_of(found: Option<Type>) -> Option<&'static str>
 {
     match found {
         Some(t) => Some(t.extension()),
+        None => None,
+    }
+}
+
+fn class_of(found: Option<Type>) -> Option<MatcherType>
+    ensures { result ≡ class_in (option_map triple_of found) }
+{
+    match found {
+        Some(t) => Some(t.matcher_type()),
         None => None,
     }
 }

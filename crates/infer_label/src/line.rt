@@ -1,75 +1,125 @@
 //! The line of an input.
-ghost use Rattle.std.specs.Prelude.{◌≡◌, option_map};
+ghost use Rattle.std.specs.Prelude.{◌≡◌, ◌++◌, None, Some, codes, option_map};
 ghost use Rattle.infer_label.specs.Label.{label_listed};
-ghost use Rattle.infer_label.specs.Line.{empty_text, encoding_text, extension_text, fault_line, label_text, line, named_text, standing_text, type_text};
+ghost use Rattle.infer_label.specs.Line.{charset_text, empty_text, encoding_text, extension_text, label_text, line, mime_text, mime_type_text, named_text, note_line, noted, standing_text, start, told, type_text};
+ghost use Rattle.infer_label.specs.Options.{options_listed};
+ghost use Rattle.infer_label.specs.Names.{name_shown};
 ghost use Rattle.infer_label.specs.Why.{why_listed};
+ghost use Rattle.infer_label.specs.WhyText.{why_text};
 ghost use Rattle.infer_label.specs.Writes.{Writes};
 
-use crate::json::{write_json, write_json_fault};
+use crate::csv::{write_fields, write_note_fields, write_quoted_name};
+use crate::json::{write_note_member, write_object, write_object_start};
 use crate::label::Label;
 use crate::names::write_name;
-use crate::options::Form;
+use crate::options::{Form, Note, Options};
+use crate::room::Room;
 use crate::why::Why;
 use crate::why_text::write_why;
-use infer::Fault;
-use infer_lines::{WatchedWriter, text_of};
 use infer_more::text::Encoding;
 use infer_named::Standing;
-use std::io::Write;
 
 /// Writes the line of an input with this name and label, and why it is so, if that is told.
-pub fn write_line<W: Write>(
+pub fn write_labelled(
+    options: Options<'_>,
+    name: &[u8],
+    label: &Label<'_>,
+    why: Option<&Why<'_>>,
+    out: &mut Room<'_>,
+)
+    ensures { Writes out.old out.new
+        (line (options_listed options.entry) name.now (label_listed label.now) (option_map (λ w. why_listed w.now) why.entry)) }
+{
+    write_start(options.form, options.is_unnamed, name, out);
+    write_told(options.form, options.size, label, why, out);
+}
+
+/// Writes the line of an input with this name that is not looked at.
+pub fn write_noted(options: Options<'_>, note: Note, name: &[u8], text: &[u8], out: &mut Room<'_>)
+    ensures { Writes out.old out.new (note_line (options_listed options.entry) note name.now text.now) }
+{
+    write_start(options.form, options.is_unnamed, name, out);
+    write_noted_text(options.form, note, text, out);
+}
+
+/// Writes the name, unless it is left out.
+fn write_start(form: Form, is_unnamed: bool, name: &[u8], out: &mut Room<'_>)
+    ensures { Writes out.old out.new (start form is_unnamed name.now) }
+{
+    match form {
+        Form::Text => write_name_before(is_unnamed, name, out),
+        Form::Mime => write_name_before_mime(is_unnamed, name, out),
+        Form::Json => write_object_start(is_unnamed, name, out),
+        Form::Csv => write_quoted_name(is_unnamed, name, out),
+    }
+}
+
+fn write_name_before(is_unnamed: bool, name: &[u8], out: &mut Room<'_>)
+    ensures { Writes out.old out.new (start Form.Text is_unnamed name.now) }
+{
+    if !is_unnamed {
+        write_name(name, Form::Text, out);
+        out.write(b": ");
+    }
+}
+
+fn write_name_before_mime(is_unnamed: bool, name: &[u8], out: &mut Room<'_>)
+    ensures { Writes out.old out.new (start Form.Mime is_unnamed name.now) }
+{
+    if !is_unnamed {
+        write_name(name, Form::Mime, out);
+        out.write(b": ");
+    }
+}
+
+fn write_told(
     form: Form,
-    name: &[u8],
+    size: Option<usize>,
     label: &Label<'_>,
     why: Option<&Why<'_>>,
-    out: &mut WatchedWriter<'_, W>,
+    out: &mut Room<'_>,
 )
-    ensures { Writes W.contents out.old out.new
-        (line form name.now (label_listed label.now) (option_map (λ w. why_listed w.now) why.entry)) }
+    ensures { Writes out.old out.new
+        (told form size (label_listed label.now) (option_map (λ w. why_listed w.now) why.entry)) }
 {
     match form {
-        Form::Text => write_text(name, label, why, out),
-        Form::Json => write_json(name, label, why, out),
+        Form::Text => write_text(label, why, out),
+        Form::Mime => write_mime(label, out),
+        Form::Json => write_object(label, why, out),
+        Form::Csv => write_fields(size, label, why, out),
     }
 }
 
-/// Writes the line of an input with this name that had a fault.
-pub fn write_fault<W: Write>(form: Form, name: &[u8], fault: Fault, out: &mut WatchedWriter<'_, W>)
-    ensures { Writes W.contents out.old out.new (fault_line form name.now fault) }
+fn write_noted_text(form: Form, note: Note, text: &[u8], out: &mut Room<'_>)
+    ensures { Writes out.old out.new (noted form note text.now) }
 {
     match form {
-        Form::Text => write_text_fault(name, fault, out),
-        Form::Json => write_json_fault(name, fault, out),
+        Form::Text => write_end(text, Form::Text, out),
+        Form::Mime => write_end(text, Form::Mime, out),
+        Form::Json => write_note_member(note, text, out),
+        Form::Csv => write_note_fields(note, text, out),
     }
 }
 
-fn write_text_fault<W: Write>(name: &[u8], fault: Fault, out: &mut WatchedWriter<'_, W>)
-    ensures { Writes W.contents out.old out.new (fault_line Form.Text name.now fault) }
+/// Writes a text, which ends the line.
+fn write_end(text: &[u8], form: Form, out: &mut Room<'_>)
+    ensures { Writes out.old out.new (name_shown form text.now ++ codes "\n") }
 {
-    write_name(name, Form::Text, out);
-    let text = text_of(fault);
-    writeln!(out, ": {text}");
+    write_name(text, form, out);
+    out.write(b"\n");
 }
 
-fn write_text<W: Write>(
-    name: &[u8],
-    label: &Label<'_>,
-    why: Option<&Why<'_>>,
-    out: &mut WatchedWriter<'_, W>,
-)
-    ensures { Writes W.contents out.old out.new
-        (line Form.Text name.now (label_listed label.now) (option_map (λ w. why_listed w.now) why.entry)) }
+fn write_text(label: &Label<'_>, why: Option<&Why<'_>>, out: &mut Room<'_>)
+    ensures { Writes out.old out.new
+        (label_text (label_listed label.now) ++ (why_text (option_map (λ w. why_listed w.now) why.entry) ++ codes "\n")) }
 {
-    write_name(name, Form::Text, out);
-    out.write_all(b": ");
     write_label(label, out);
     write_why(why, out);
-    out.write_all(b"\n");
+    out.write(b"\n");
 }
 
-fn write_label<W: Write>(label: &Label<'_>, out: &mut WatchedWriter<'_, W>)
-    ensures { Writes W.contents out.old out.new (label_text (label_listed label.now)) }
+fn write_label(label: &Label<'_>, out: &mut Room<'_>)
+    ensures { Writes out.old out.new (label_text (label_listed label.now)) }
 {
     write_type(label.mime_type, label.extension, label.is_empty, out);
     write_encoding(label.encoding, out);
@@ -77,60 +127,61 @@ fn write_label<W: Write>(label: &Label<'_>, out: &mut WatchedWriter<'_, W>)
     write_named(label.named, out);
 }
 
-fn write_type<W: Write>(
-    mime_type: Option<&[u8]>,
-    extension: Option<&str>,
-    is_empty: bool,
-    out: &mut WatchedWriter<'_, W>,
-)
-    ensures { Writes W.contents out.old out.new
+fn write_type(mime_type: Option<&[u8]>, extension: Option<&str>, is_empty: bool, out: &mut Room<'_>)
+    ensures { Writes out.old out.new
         (type_text (option_map (λ m. m.now) mime_type.entry) (option_map (λ e. e.now) extension.entry) is_empty) }
 {
     match mime_type {
-        Some(mime_type) => {
-            write_name(mime_type, Form::Text, out);
-            write_extension(extension, out);
-            write_empty(is_empty, out);
-        }
-        None => {
-            if is_empty {
-                out.write_all(b"empty");
-            } else {
-                out.write_all(b"unknown");
-            }
-        }
+        Some(mime_type) => write_known(mime_type, extension, is_empty, out),
+        None => out.write(without_type(is_empty)),
     }
 }
 
-fn write_extension<W: Write>(extension: Option<&str>, out: &mut WatchedWriter<'_, W>)
-    ensures { Writes W.contents out.old out.new (extension_text (option_map (λ e. e.now) extension.entry)) }
+fn write_known(mime_type: &[u8], extension: Option<&str>, is_empty: bool, out: &mut Room<'_>)
+    ensures { Writes out.old out.new (type_text (Some mime_type.now) (option_map (λ e. e.now) extension.entry) is_empty) }
+{
+    write_name(mime_type, Form::Text, out);
+    write_extension(extension, out);
+    write_empty(is_empty, out);
+}
+
+fn without_type(is_empty: bool) -> &'static [u8]
+    ensures { result.now ≡ type_text None None is_empty }
+{
+    if is_empty { b"empty" } else { b"unknown" }
+}
+
+fn write_extension(extension: Option<&str>, out: &mut Room<'_>)
+    ensures { Writes out.old out.new (extension_text (option_map (λ e. e.now) extension.entry)) }
 {
     if let Some(extension) = extension {
-        write!(out, " {extension}");
+        out.write(b" ");
+        out.write_text(extension);
     }
 }
 
-fn write_empty<W: Write>(is_empty: bool, out: &mut WatchedWriter<'_, W>)
-    ensures { Writes W.contents out.old out.new (empty_text is_empty) }
+fn write_empty(is_empty: bool, out: &mut Room<'_>)
+    ensures { Writes out.old out.new (empty_text is_empty) }
 {
     if is_empty {
-        out.write_all(b", empty");
+        out.write(b", empty");
     }
 }
 
-fn write_encoding<W: Write>(encoding: Option<Encoding>, out: &mut WatchedWriter<'_, W>)
-    ensures { Writes W.contents out.old out.new (encoding_text encoding) }
+fn write_encoding(encoding: Option<Encoding>, out: &mut Room<'_>)
+    ensures { Writes out.old out.new (encoding_text encoding) }
 {
     if let Some(encoding) = encoding {
-        write!(out, ", {encoding}");
+        out.write(b", ");
+        out.write_text(encoding.name());
     }
 }
 
 /// Writes what the name did, where it did something.
-fn write_standing<W: Write>(standing: Option<Standing>, out: &mut WatchedWriter<'_, W>)
-    ensures { Writes W.contents out.old out.new (standing_text standing) }
+fn write_standing(standing: Option<Standing>, out: &mut Room<'_>)
+    ensures { Writes out.old out.new (standing_text standing) }
 {
-    out.write_all(standing_text(standing));
+    out.write(standing_text(standing));
 }
 
 fn standing_text(standing: Option<Standing>) -> &'static [u8]
@@ -146,10 +197,48 @@ fn standing_text(standing: Option<Standing>) -> &'static [u8]
 }
 
 /// Writes the type that the name has, where the bytes contradict it.
-fn write_named<W: Write>(named: Option<&str>, out: &mut WatchedWriter<'_, W>)
-    ensures { Writes W.contents out.old out.new (named_text (option_map (λ m. m.now) named.entry)) }
+fn write_named(named: Option<&str>, out: &mut Room<'_>)
+    ensures { Writes out.old out.new (named_text (option_map (λ m. m.now) named.entry)) }
 {
     if let Some(mime_type) = named {
-        write!(out, ": named {mime_type}");
+        out.write(b": named ");
+        out.write_text(mime_type);
+    }
+}
+
+fn write_mime(label: &Label<'_>, out: &mut Room<'_>)
+    ensures { Writes out.old out.new (mime_text (label_listed label.now) ++ codes "\n") }
+{
+    write_mime_type(label.mime_type, label.is_empty, out);
+    out.write(b"; charset=");
+    out.write_text(charset(label.encoding));
+    out.write(b"\n");
+}
+
+fn write_mime_type(mime_type: Option<&[u8]>, is_empty: bool, out: &mut Room<'_>)
+    ensures { Writes out.old out.new (mime_type_text (option_map (λ m. m.now) mime_type.entry) is_empty) }
+{
+    match mime_type {
+        Some(mime_type) => write_name(mime_type, Form::Mime, out),
+        None => out.write(without_mime_type(is_empty)),
+    }
+}
+
+fn without_mime_type(is_empty: bool) -> &'static [u8]
+    ensures { result.now ≡ mime_type_text None is_empty }
+{
+    if is_empty {
+        b"inode/x-empty"
+    } else {
+        b"application/octet-stream"
+    }
+}
+
+fn charset(encoding: Option<Encoding>) -> &'static str
+    ensures { result.now ≡ charset_text encoding }
+{
+    match encoding {
+        Some(encoding) => encoding.name(),
+        None => "binary",
     }
 }

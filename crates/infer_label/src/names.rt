@@ -1,23 +1,23 @@
-//! Names and other given texts as they are printed, so that none of them moves a cursor.
-ghost use Rattle.std.specs.Prelude.{◌≡◌, ◌<◌};
+//! Names and other given texts as they are printed, so that none of them moves a cursor, and none hides.
+ghost use Rattle.std.specs.Prelude.{◌≡◌, ◌<◌, IsTrue, encode_utf8};
 ghost use Rattle.std.specs.Int.{is_in_range};
 ghost use Rattle.std.specs.List.{flat_map, list_all};
 ghost use Rattle.std.specs.Str.{chars};
-ghost use Rattle.infer_label.specs.Names.{byte_hex, byte_shown, char_shown, code_shown, hex_digit, high_shown, is_mark, is_obeyed, is_plain, name_shown};
+ghost use Rattle.infer_label.specs.Names.{before_mark, byte_hex, byte_shown, char_shown, code_shown, hex_digit, high_shown, is_escaped, is_mark, is_obeyed, is_plain, is_tag, is_unseen, name_shown, unseen_shown};
 ghost use Rattle.infer_label.specs.Writes.{Writes};
 
 use crate::options::Form;
-use infer_lines::WatchedWriter;
-use std::io::Write;
+use crate::room::Room;
 
-/// Writes a name so that nothing of it is obeyed. A control, an end of a line or a mark of direction is `\u` and its four
-/// digits; a backslash stands before a backslash, and in JSON before a quotation mark. Of a name that is not UTF-8 each byte
-/// that is not ASCII is `\x` and its two digits, and in JSON `\u` and four.
-pub fn write_name<W: Write>(name: &[u8], form: Form, out: &mut WatchedWriter<'_, W>)
-    ensures { Writes W.contents out.old out.new (name_shown form name.now) }
+/// Writes a name so that nothing of it is obeyed or hidden. A control, an end of a line, a mark of direction or a character of
+/// which nothing is seen is `\u` and its four digits, and a tag two of these; a backslash stands before a backslash, in JSON
+/// before a quotation mark too, and in CSV each of both is doubled. Of a name that is not UTF-8 each byte that is not ASCII is
+/// `\x` and its two digits, and in JSON `\u` and four.
+pub fn write_name(name: &[u8], form: Form, out: &mut Room<'_>)
+    ensures { Writes out.old out.new (name_shown form name.now) }
 {
     if is_plain(name) {
-        return out.write_all(name);
+        return out.write(name);
     }
     match str::from_utf8(name) {
         Ok(text) => write_chars(text, form, out),
@@ -35,39 +35,46 @@ fn is_plain(name: &[u8]) -> bool
 fn is_plain_byte(byte: u8) -> bool
     ensures { result ≡ is_plain byte }
 {
-    byte < 0x80 && !is_obeyed(u32::from(byte)) && !is_mark(Form::Json, u32::from(byte))
+    byte < 0x80 && !is_escaped(u32::from(byte)) && !is_mark(Form::Json, u32::from(byte))
 }
 
-fn write_chars<W: Write>(text: &str, form: Form, out: &mut WatchedWriter<'_, W>)
-    ensures { Writes W.contents out.old out.new (flat_map (char_shown form) (chars text.now)) }
+fn write_chars(text: &str, form: Form, out: &mut Room<'_>)
+    ensures { Writes out.old out.new (flat_map (char_shown form) (chars text.now)) }
 {
     for c in text.chars() {
         write_char(c, form, out);
     }
 }
 
-fn write_bytes<W: Write>(name: &[u8], form: Form, out: &mut WatchedWriter<'_, W>)
-    ensures { Writes W.contents out.old out.new (flat_map (byte_shown form) name.now) }
+fn write_bytes(name: &[u8], form: Form, out: &mut Room<'_>)
+    ensures { Writes out.old out.new (flat_map (byte_shown form) name.now) }
 {
     for byte in name {
         write_byte(*byte, form, out);
     }
 }
 
-fn write_char<W: Write>(c: char, form: Form, out: &mut WatchedWriter<'_, W>)
-    ensures { Writes W.contents out.old out.new (char_shown form c) }
+fn write_char(c: char, form: Form, out: &mut Room<'_>)
+    ensures { Writes out.old out.new (char_shown form c) }
 {
-    if is_obeyed(c as u32) {
-        write_code(c as u32, out);
-    } else if is_mark(form, c as u32) {
-        write!(out, "\\{c}");
-    } else {
-        write!(out, "{c}");
+    if is_escaped(c as u32) {
+        return write_unseen(c as u32, out);
     }
+    if is_mark(form, c as u32) {
+        out.write(&[before_mark(form, c as u32)]);
+        return write_itself(c, out);
+    }
+    write_itself(c, out);
 }
 
-fn write_byte<W: Write>(byte: u8, form: Form, out: &mut WatchedWriter<'_, W>)
-    ensures { Writes W.contents out.old out.new (byte_shown form byte) }
+fn write_itself(c: char, out: &mut Room<'_>)
+    ensures { Writes out.old out.new (encode_utf8 c) }
+{
+    out.write_text(c.encode_utf8(&mut [0; 4]));
+}
+
+fn write_byte(byte: u8, form: Form, out: &mut Room<'_>)
+    ensures { Writes out.old out.new (byte_shown form byte) }
 {
     if byte >= 0x80 {
         write_high(byte, form, out);
@@ -77,22 +84,33 @@ fn write_byte<W: Write>(byte: u8, form: Form, out: &mut WatchedWriter<'_, W>)
 }
 
 /// A byte that is not of ASCII.
-fn write_high<W: Write>(byte: u8, form: Form, out: &mut WatchedWriter<'_, W>)
-    ensures { Writes W.contents out.old out.new (high_shown form byte) }
+fn write_high(byte: u8, form: Form, out: &mut Room<'_>)
+    ensures { Writes out.old out.new (high_shown form byte) }
 {
     match form {
-        Form::Text => {
-            out.write_all(&[b'\\', b'x', hex_digit(byte / 16 % 16), hex_digit(byte % 16)]);
+        Form::Text | Form::Mime | Form::Csv => {
+            out.write(&[b'\\', b'x', hex_digit(byte / 16 % 16), hex_digit(byte % 16)]);
         }
         Form::Json => write_code(u32::from(byte), out),
     }
 }
 
-/// `\u` and four digits, which each code that is obeyed has at most.
-fn write_code<W: Write>(code: u32, out: &mut WatchedWriter<'_, W>)
-    ensures { Writes W.contents out.old out.new (code_shown code) }
+/// A character that is escaped. A tag takes two escapes, since four digits are no room for its number.
+fn write_unseen(code: u32, out: &mut Room<'_>)
+    ensures { Writes out.old out.new (unseen_shown code) }
 {
-    out.write_all(&[
+    if is_tag(code) {
+        write_code(0xDB40, out);
+        return write_code(0xDC00 + code % 1024, out);
+    }
+    write_code(code, out);
+}
+
+/// `\u` and four digits.
+fn write_code(code: u32, out: &mut Room<'_>)
+    ensures { Writes out.old out.new (code_shown code) }
+{
+    out.write(&[
         b'\\',
         b'u',
         hex_digit((code / 4096 % 16) as u8),
@@ -103,11 +121,11 @@ fn write_code<W: Write>(code: u32, out: &mut WatchedWriter<'_, W>)
 }
 
 /// Writes bytes in hexadecimal.
-pub fn write_hex<W: Write>(bytes: &[u8], out: &mut WatchedWriter<'_, W>)
-    ensures { Writes W.contents out.old out.new (flat_map byte_hex bytes.now) }
+pub fn write_hex(bytes: &[u8], out: &mut Room<'_>)
+    ensures { Writes out.old out.new (flat_map byte_hex bytes.now) }
 {
     for byte in bytes {
-        out.write_all(&[hex_digit(*byte / 16 % 16), hex_digit(*byte % 16)]);
+        out.write(&[hex_digit(*byte / 16 % 16), hex_digit(*byte % 16)]);
     }
 }
 
@@ -117,6 +135,12 @@ fn hex_digit(n: u8) -> u8
     ensures { result ≡ hex_digit n }
 {
     if n < 10 { b'0' + n } else { b'a' - 10 + n }
+}
+
+fn is_escaped(c: u32) -> bool
+    ensures { result ≡ is_escaped c }
+{
+    is_obeyed(c) || is_unseen(c)
 }
 
 /// Whether a terminal or a reader of lines obeys the character: a control, an end of a line or a mark of direction.
@@ -131,18 +155,52 @@ fn is_obeyed(c: u32) -> bool
         || is_between(c, 0x2066, 0x2069)
 }
 
+/// Whether nothing is seen of the character, or a blank that is none: a soft hyphen, a joiner, a filler, a mark of byte order
+/// or of notes, or a tag.
+fn is_unseen(c: u32) -> bool
+    ensures { result ≡ is_unseen c }
+{
+    c == 0x00AD
+        || c == 0x034F
+        || c == 0x180E
+        || c == 0x200B
+        || c == 0x2060
+        || c == 0x2800
+        || c == 0x3164
+        || c == 0xFEFF
+        || is_between(c, 0xFFF9, 0xFFFB)
+        || is_tag(c)
+}
+
+fn is_tag(c: u32) -> bool
+    ensures { result ≡ is_tag c }
+{
+    is_between(c, 0xE0000, 0xE007F)
+}
+
 fn is_between(c: u32, least: u32, most: u32) -> bool
     ensures { result ≡ is_in_range least most c }
 {
     least <= c && c <= most
 }
 
-/// Whether a backslash stands before the character.
+/// Whether something stands before the character.
 fn is_mark(form: Form, c: u32) -> bool
     ensures { result ≡ is_mark form c }
 {
     match form {
-        Form::Text => c == 0x5C,
-        Form::Json => c == 0x5C || c == 0x22,
+        Form::Text | Form::Mime => c == 0x5C,
+        Form::Json | Form::Csv => c == 0x5C || c == 0x22,
+    }
+}
+
+/// What stands before it: itself in CSV, and else a backslash.
+fn before_mark(form: Form, c: u32) -> u8
+    requires { IsTrue (is_mark form c) }
+    ensures { result ≡ before_mark form c }
+{
+    match form {
+        Form::Text | Form::Mime | Form::Json => 0x5C,
+        Form::Csv => c as u8,
     }
 }

@@ -1,155 +1,127 @@
-//! What no clause says: that calls succeed, and what a failed read or write leaves behind. Lines, statuses and words are asked
-//! of the program as a process, by `process-tests`.
-use crate::label::label_of;
-use crate::lines::run_lines;
-use crate::options::Options;
-use crate::run::run;
-use infer::Watched;
-use infer_lines::WatchedWriter;
-use infer_named::Standing;
-use std::alloc::AllocError;
-use std::fs;
-use std::io::ErrorKind;
-use std::rt::Files;
-use std::test::Fail;
-use test_streams::{NEVER, PieceReader, PieceWriter};
+//! What no clause says: that a line is as others write it, and that a room that is short holds the front of it.
+use crate::{Form, Look, Note, Options, write_line, write_note};
 
-const TYPES: &[u8] = b"# mine\ndraw image/x-drawing image - 4: @0 \"DRAW\"\n";
-
-fn words_of<R: AllocGlobal>(rt: &R, texts: &[&[u8]]) -> Result<Vec<Vec<u8>>, AllocError> {
-    let mut words = Vec::new(rt.alloc());
-    for text in texts {
-        words.push(text.to_vec(rt.alloc())?)?;
+/// A line, in a room with marks behind it.
+fn told(options: Options<'_>, name: &[u8], buf: &[u8], room: &mut [u8]) -> usize {
+    for byte in room.iter_mut() {
+        *byte = b'~';
     }
-    Ok(words)
+    write_line(options, name, buf, room).len
 }
 
-/// A run whose writes fail at one, with what it took.
-fn over<R: Files + AllocGlobal>(
-    rt: &R,
-    words: &[Vec<u8>],
-    input: PieceReader<'_>,
-    fails_at: u32,
-) -> (u8, PieceWriter, PieceWriter) {
-    let (mut out, mut err) = (PieceWriter::failing(3, fails_at), PieceWriter::new(512));
-    let outcome = run(
-        rt,
-        rt.alloc(),
-        words,
-        &mut Watched::new(input),
-        &mut WatchedWriter::new(&mut out),
-        &mut WatchedWriter::new(&mut err),
-    );
-    (outcome.status(), out, err)
-}
-
-/// Faults are told and later files are asked, whichever write fails.
+/// Lines by the forms, of a name that its bytes contradict.
 #[test]
-fn each_write_fails_in_turn(rt: HostRuntime) -> Result<(), Fail> {
-    fs::write(&rt, "own.txt", TYPES)?;
-    fs::write(&rt, "main.py", b"import os\n")?;
-    fs::write(&rt, "drawing.py", b"DRAW 1")?;
-    let texts: [&[u8]; 5] = [
-        b"--types",
-        b"own.txt",
-        b"main.py",
-        b"missing",
-        b"drawing.py",
-    ];
-    let words = words_of(&rt, &texts)?;
-    let whole =
-        b"main.py: text/x-python py, us-ascii, name refines\ndrawing.py: image/x-drawing draw, us-ascii\n";
-    for fails_at in 0..60u32 {
-        let (status, out, err) = over(&rt, words.as_slice(), PieceReader::new(b"", 1), fails_at);
-        assert_eq!(rt; status, 2);
-        assert_eq!(rt;
-            out.taken() == whole.as_slice(),
-            !out.has_failed(),
-            "write {fails_at}"
-        );
-        assert_eq!(rt; err.taken(), b"missing: cannot open\n".as_slice());
-    }
-    fs::remove_file(&rt, "own.txt")?;
-    fs::remove_file(&rt, "main.py")?;
-    fs::remove_file(&rt, "drawing.py")?;
-    Ok(())
-}
-
-/// Nothing is written after a write that failed, though the buffers still hold what it did not take.
-#[test]
-fn nothing_follows_a_failed_write(rt: HostRuntime) -> Result<(), Fail> {
-    fs::write(&rt, "first.py", b"import os\n")?;
-    fs::write(&rt, "second.py", b"import os\n")?;
-    let words = words_of(&rt, &[b"first.py".as_slice(), b"second.py".as_slice()])?;
-    let whole =
-        b"first.py: text/x-python py, us-ascii, name refines\nsecond.py: text/x-python py, us-ascii, name refines\n";
-    for block in [0, 16, 4096] {
-        for fails_at in 0..48u32 {
-            let (mut out, mut err) = (PieceWriter::failing(3, fails_at), PieceWriter::new(512));
-            let input = &mut Watched::new(PieceReader::new(b"", 1));
-            let (outcome, given) = run_lines(
-                &rt,
-                rt.alloc(),
-                words.as_slice(),
-                input,
-                block,
-                &mut out,
-                &mut err,
-            )?;
-            let gives = given.0.is_some();
-            if out.has_failed() {
-                assert_eq!(rt;
-                    (outcome.status(), gives, out.writes),
-                    (2, false, fails_at + 1)
-                );
-                assert!(rt; whole.as_slice().starts_with(out.taken()));
-            } else {
-                assert_eq!(rt; (outcome.status(), gives), (0, true));
-                assert_eq!(rt; out.taken(), whole.as_slice());
-            }
-        }
-    }
-    fs::remove_file(&rt, "first.py")?;
-    fs::remove_file(&rt, "second.py")?;
-    Ok(())
-}
-
-/// A read that fails is told, and nothing of what came before it.
-#[test]
-fn each_read_fails_in_turn(rt: HostRuntime) -> Result<(), Fail> {
-    let words = words_of(&rt, &[b"--name".as_slice(), b"main.py".as_slice()])?;
-    for fails_at in 0..8u32 {
-        let input = PieceReader::failing(b"import os\n", 4, fails_at, ErrorKind::Other);
-        let (status, out, err) = over(&rt, words.as_slice(), input, NEVER);
-        if fails_at < 4 {
-            assert_eq!(rt; (status, out.taken().len()), (2, 0), "read {fails_at}");
-            assert_eq!(rt; err.taken(), b"main.py: cannot read\n".as_slice());
-        } else {
-            assert_eq!(rt; (status, err.taken().len()), (0, 0), "read {fails_at}");
-            assert_eq!(rt;
-                out.taken(),
-                b"main.py: text/x-python py, us-ascii, name refines\n".as_slice()
-            );
-        }
-    }
-    Ok(())
-}
-
-/// Types of a text come first, by the bytes alone.
-#[test]
-fn own_types_come_first(rt: HostRuntime) {
-    let options = Options::new().with_types(TYPES);
-    let drawing = label_of(options, b"main.py", b"DRAW 1");
-    assert_eq!(rt;
-        (drawing.mime_type, drawing.standing),
-        (Some(b"image/x-drawing".as_slice()), None)
-    );
-    let script = label_of(options, b"main.py", b"import os\n");
-    assert_eq!(rt;
-        (script.mime_type, script.standing),
+fn each_form_has_its_line(rt: HostRuntime) {
+    let cases: [(Form, &[u8]); 4] = [
         (
-            Some(b"text/x-python".as_slice()),
-            Some(Standing::NameRefines)
-        )
+            Form::Text,
+            b"a.pdf: image/png png, contradicts: named application/pdf\n",
+        ),
+        (Form::Mime, b"a.pdf: image/png; charset=binary\n"),
+        (
+            Form::Json,
+            b"{\"name\":\"a.pdf\",\"mime_type\":\"image/png\",\"extension\":\"png\",\"standing\":\"contradicts\",\"named\":\"application/pdf\"}\n",
+        ),
+        (
+            Form::Csv,
+            b"\"a.pdf\",image/png,png,image,,contradicts,application/pdf,pdf,9,,\n",
+        ),
+    ];
+    for (form, text) in cases {
+        let mut room = [0; 256];
+        let options = Options {
+            form,
+            size: Some(9),
+            ..Options::new()
+        };
+        let len = told(
+            options,
+            b"a.pdf",
+            b"\x89PNG\r\n\x1A\n\0",
+            room.as_mut_slice(),
+        );
+        assert_eq!(rt; &room[..len], text);
+    }
+}
+
+/// A room of each size holds the front of the line, and nothing is written behind it.
+#[test]
+fn a_short_room_holds_the_front(rt: HostRuntime) {
+    let mut whole = [0; 128];
+    let len = told(
+        Options::new(),
+        b"main.py",
+        b"import os\n",
+        whole.as_mut_slice(),
     );
+    assert_eq!(rt;
+        &whole[..len],
+        b"main.py: text/x-python py, us-ascii, name refines\n".as_slice()
+    );
+    for size in 0..128 {
+        let mut room = [0; 128];
+        let short = &mut room[..size];
+        assert_eq!(rt;
+            told(Options::new(), b"main.py", b"import os\n", short),
+            len
+        );
+        assert_eq!(rt; &room[..size], &whole[..size]);
+        assert_eq!(rt; &room[size..], &[0; 128][..128 - size]);
+    }
+}
+
+/// Nothing of a name is obeyed or hidden, and no table makes a sum of it.
+#[test]
+fn names_are_escaped(rt: HostRuntime) {
+    let cases: [(Form, &[u8], &[u8]); 8] = [
+        (Form::Text, b"a\nb", b"a\\u000ab"),
+        (
+            Form::Text,
+            "a\u{200B}\u{FEFF}b".as_bytes(),
+            b"a\\u200b\\ufeffb",
+        ),
+        (Form::Json, "\u{E0041}".as_bytes(), b"\\udb40\\udc41"),
+        (Form::Text, b"\xFF\\", b"\\xff\\\\"),
+        (Form::Json, b"\"", b"\\\""),
+        (Form::Csv, b"say \"no\"", b"say \"\"no\"\""),
+        (Form::Csv, b"=1+1", b"./=1+1"),
+        (Form::Mime, "\u{202E}".as_bytes(), b"\\u202e"),
+    ];
+    for (form, name, shown) in cases {
+        let mut room = [0; 128];
+        let options = Options {
+            form,
+            ..Options::new()
+        };
+        let len = write_note(options, Note::Kind, name, b"fifo", room.as_mut_slice());
+        let start = match form {
+            Form::Text | Form::Mime => 0,
+            Form::Json => 9,
+            Form::Csv => 1,
+        };
+        assert!(rt; len > start);
+        assert!(rt; room[start..len].starts_with(shown));
+    }
+}
+
+/// What is left out is left out.
+#[test]
+fn a_name_can_be_left_out(rt: HostRuntime) {
+    let cases: [(Form, &[u8]); 4] = [
+        (Form::Text, b"empty\n"),
+        (Form::Mime, b"inode/x-empty; charset=binary\n"),
+        (Form::Json, b"{\"mime_type\":null,\"empty\":true}\n"),
+        (Form::Csv, b"empty,,,,,,,,,\n"),
+    ];
+    for (form, text) in cases {
+        let mut room = [0; 64];
+        let options = Options {
+            form,
+            look: Look::Bytes,
+            is_unnamed: true,
+            ..Options::new()
+        };
+        let len = write_line(options, b"a", b"", room.as_mut_slice()).len;
+        assert_eq!(rt; &room[..len], text);
+    }
 }

@@ -8,47 +8,46 @@ ghost use Rattle.infer_label.specs.WhyText.{in_row, mark_if};
 ghost use Rattle.infer_label.specs.Writes.{Writes};
 
 use crate::names::write_hex;
+use crate::room::Room;
 use crate::why::{Reason, Why, type_of};
 use infer::Type;
-use infer_lines::WatchedWriter;
-use std::io::Write;
 
 /// What stands between two ranges.
 const COMMA: &[u8] = b",";
 
 /// Writes why bytes have their answer, if that is told.
-pub fn write_why_member<W: Write>(why: Option<&Why<'_>>, out: &mut WatchedWriter<'_, W>)
-    ensures { Writes W.contents out.old out.new (why_member (option_map (λ w. why_listed w.now) why.entry)) }
+pub fn write_why_member(why: Option<&Why<'_>>, out: &mut Room<'_>)
+    ensures { Writes out.old out.new (why_member (option_map (λ w. why_listed w.now) why.entry)) }
 {
     if let Some(why) = why {
         write_why_object(why, out);
     }
 }
 
-fn write_why_object<W: Write>(why: &Why<'_>, out: &mut WatchedWriter<'_, W>)
-    ensures { Writes W.contents out.old out.new (why_object (why_listed why.now)) }
+fn write_why_object(why: &Why<'_>, out: &mut Room<'_>)
+    ensures { Writes out.old out.new (why_object (why_listed why.now)) }
 {
     write_answer_member(why.answer(), out);
     write_ranges_member(why, out);
     write_length_members(why, out);
 }
 
-fn write_answer_member<W: Write>(row: Option<usize>, out: &mut WatchedWriter<'_, W>)
-    ensures { Writes W.contents out.old out.new (answer_member row) }
+fn write_answer_member(row: Option<usize>, out: &mut Room<'_>)
+    ensures { Writes out.old out.new (answer_member row) }
 {
-    out.write_all(b",\"why\":{\"answer\":");
+    out.write(b",\"why\":{\"answer\":");
     write_extension_of(row, out);
 }
 
-fn write_ranges_member<W: Write>(why: &Why<'_>, out: &mut WatchedWriter<'_, W>)
-    ensures { Writes W.contents out.old out.new (ranges_member (why_listed why.now).reasons) }
+fn write_ranges_member(why: &Why<'_>, out: &mut Room<'_>)
+    ensures { Writes out.old out.new (ranges_member (why_listed why.now).reasons) }
 {
-    out.write_all(b",\"ranges\":[");
+    out.write(b",\"ranges\":[");
     write_ranges(why, out);
 }
 
-fn write_ranges<W: Write>(why: &Why<'_>, out: &mut WatchedWriter<'_, W>)
-    ensures { Writes W.contents out.old out.new (in_row COMMA.now false (map range_object (why_listed why.now).reasons)) }
+fn write_ranges(why: &Why<'_>, out: &mut Room<'_>)
+    ensures { Writes out.old out.new (in_row COMMA.now false (map range_object (why_listed why.now).reasons)) }
 {
     let mut before = false;
     for range in why.ranges() {
@@ -58,98 +57,99 @@ fn write_ranges<W: Write>(why: &Why<'_>, out: &mut WatchedWriter<'_, W>)
 }
 
 /// Writes a range, behind a comma if one stands before it.
-fn write_range<W: Write>(reason: &Reason<'_>, before: bool, out: &mut WatchedWriter<'_, W>)
-    ensures { Writes W.contents out.old out.new (in_row COMMA.now before (range_object (reason_listed reason.now) ∷ [])) }
+fn write_range(reason: &Reason<'_>, before: bool, out: &mut Room<'_>)
+    ensures { Writes out.old out.new (in_row COMMA.now before (range_object (reason_listed reason.now) ∷ [])) }
 {
     write_comma(before, out);
     write_object(reason, out);
 }
 
-fn write_comma<W: Write>(before: bool, out: &mut WatchedWriter<'_, W>)
-    ensures { Writes W.contents out.old out.new (mark_if before COMMA.now) }
+fn write_comma(before: bool, out: &mut Room<'_>)
+    ensures { Writes out.old out.new (mark_if before COMMA.now) }
 {
     if before {
-        out.write_all(COMMA);
+        out.write(COMMA);
     }
 }
 
-fn write_object<W: Write>(reason: &Reason<'_>, out: &mut WatchedWriter<'_, W>)
-    ensures { Writes W.contents out.old out.new (range_object (reason_listed reason.now)) }
+fn write_object(reason: &Reason<'_>, out: &mut Room<'_>)
+    ensures { Writes out.old out.new (range_object (reason_listed reason.now)) }
 {
     write_bytes_members(reason, out);
     write_row_members(reason, out);
 }
 
-fn write_bytes_members<W: Write>(reason: &Reason<'_>, out: &mut WatchedWriter<'_, W>)
-    ensures { Writes W.contents out.old out.new (bytes_members (reason_listed reason.now)) }
+fn write_bytes_members(reason: &Reason<'_>, out: &mut Room<'_>)
+    ensures { Writes out.old out.new (bytes_members (reason_listed reason.now)) }
 {
-    let (place, length, step) = (reason.place, reason.len, reason.step);
-    write!(
-        out,
-        "{{\"place\":{place},\"length\":{length},\"step\":{step},\"bytes\":"
-    );
+    out.write(b"{\"place\":");
+    out.write_number(reason.place);
+    out.write(b",\"length\":");
+    out.write_number(reason.len);
+    out.write(b",\"step\":");
+    out.write_number(reason.step as usize);
+    out.write(b",\"bytes\":");
     write_bytes_value(reason, out);
 }
 
 /// Writes the bytes if they stand side by side, and else null.
-fn write_bytes_value<W: Write>(reason: &Reason<'_>, out: &mut WatchedWriter<'_, W>)
-    ensures { Writes W.contents out.old out.new (bytes_value (reason_listed reason.now)) }
+fn write_bytes_value(reason: &Reason<'_>, out: &mut Room<'_>)
+    ensures { Writes out.old out.new (bytes_value (reason_listed reason.now)) }
 {
     if reason.step != 1 {
-        return out.write_all(b"null");
+        return out.write(b"null");
     }
-    out.write_all(b"\"");
+    out.write(b"\"");
     write_hex(reason.bytes, out);
-    out.write_all(b"\"");
+    out.write(b"\"");
 }
 
-fn write_row_members<W: Write>(reason: &Reason<'_>, out: &mut WatchedWriter<'_, W>)
-    ensures { Writes W.contents out.old out.new (row_members (reason_listed reason.now)) }
+fn write_row_members(reason: &Reason<'_>, out: &mut Room<'_>)
+    ensures { Writes out.old out.new (row_members (reason_listed reason.now)) }
 {
-    out.write_all(b",\"extension\":");
+    out.write(b",\"extension\":");
     write_extension_of(reason.row, out);
     write_accepts_member(reason.accepts, out);
 }
 
-fn write_accepts_member<W: Write>(accepts: bool, out: &mut WatchedWriter<'_, W>)
-    ensures { Writes W.contents out.old out.new (accepts_member accepts) }
+fn write_accepts_member(accepts: bool, out: &mut Room<'_>)
+    ensures { Writes out.old out.new (accepts_member accepts) }
 {
-    out.write_all(b",\"accepts\":");
-    out.write_all(bool_value(accepts).as_bytes());
-    out.write_all(b"}");
+    out.write(b",\"accepts\":");
+    out.write_text(bool_value(accepts));
+    out.write(b"}");
 }
 
 /// Writes what is needed of the length.
-fn write_length_members<W: Write>(why: &Why<'_>, out: &mut WatchedWriter<'_, W>)
-    ensures { Writes W.contents out.old out.new (length_members (why_listed why.now)) }
+fn write_length_members(why: &Why<'_>, out: &mut Room<'_>)
+    ensures { Writes out.old out.new (length_members (why_listed why.now)) }
 {
-    let (least, exact, whole) = (
-        why.least(),
-        bool_value(why.is_exact()),
-        bool_value(why.is_whole()),
-    );
-    write!(
-        out,
-        "],\"least\":{least},\"exact\":{exact},\"whole\":{whole}}}"
-    );
+    out.write(b"],\"least\":");
+    out.write_number(why.least());
+    out.write(b",\"exact\":");
+    out.write_text(bool_value(why.is_exact()));
+    out.write(b",\"whole\":");
+    out.write_text(bool_value(why.is_whole()));
+    out.write(b"}");
 }
 
 /// Writes the extension of a row, and null of none.
-fn write_extension_of<W: Write>(row: Option<usize>, out: &mut WatchedWriter<'_, W>)
-    ensures { Writes W.contents out.old out.new (extension_value (shown_at row)) }
+fn write_extension_of(row: Option<usize>, out: &mut Room<'_>)
+    ensures { Writes out.old out.new (extension_value (shown_at row)) }
 {
     write_extension_value(type_of(row), out);
 }
 
-fn write_extension_value<W: Write>(found: Option<Type>, out: &mut WatchedWriter<'_, W>)
-    ensures { Writes W.contents out.old out.new (extension_value (option_map triple_of found)) }
+fn write_extension_value(found: Option<Type>, out: &mut Room<'_>)
+    ensures { Writes out.old out.new (extension_value (option_map triple_of found)) }
 {
     match found {
         Some(found) => {
-            let extension = found.extension();
-            write!(out, "\"{extension}\"");
+            out.write(b"\"");
+            out.write_text(found.extension());
+            out.write(b"\"");
         }
-        None => out.write_all(b"null"),
+        None => out.write(b"null"),
     }
 }
 

@@ -1,5 +1,5 @@
 //! Why bytes have their answer, in words.
-ghost use Rattle.std.specs.Prelude.{◌≡◌, ◌<◌, ◌∷◌, ◌++◌, [], codes, false, option_map};
+ghost use Rattle.std.specs.Prelude.{◌≡◌, ◌<◌, ◌==◌, ◌∷◌, ◌++◌, [], codes, false, if◌then◌else◌, option_map};
 ghost use Rattle.std.specs.Fmt.{decimal};
 ghost use Rattle.std.specs.List.{flat_map, list_any};
 ghost use Rattle.infer.specs.Triple.{triple_of};
@@ -7,10 +7,9 @@ ghost use Rattle.infer_label.specs.Why.{reason_listed, why_listed};
 ghost use Rattle.infer_label.specs.WhyText.{are_shown, byte_shown, bytes_text, class_word, counted, has_first, in_row, is_other, large_digit, length_texts, mark_if, other_texts, own_texts, place_text, reaches, reason_text, reasons_text, room_texts, row_words, ruled_out, stands_before, step_text, text_if, why_text};
 ghost use Rattle.infer_label.specs.Writes.{Writes};
 
+use crate::room::Room;
 use crate::why::{Reason, Why, type_of};
 use infer::{MatcherType, Type};
-use infer_lines::WatchedWriter;
-use std::io::Write;
 
 /// The most bytes of a reason that are written one by one.
 const MOST_SHOWN: usize = 16;
@@ -19,18 +18,19 @@ const MOST_SHOWN: usize = 16;
 const MARK: &[u8] = b"; ";
 
 /// Writes why bytes have their answer, if that is told.
-pub fn write_why<W: Write>(why: Option<&Why<'_>>, out: &mut WatchedWriter<'_, W>)
-    ensures { Writes W.contents out.old out.new (why_text (option_map (λ w. why_listed w.now) why.entry)) }
+pub fn write_why(why: Option<&Why<'_>>, out: &mut Room<'_>)
+    ensures { Writes out.old out.new (why_text (option_map (λ w. why_listed w.now) why.entry)) }
 {
     if let Some(why) = why {
+        out.write(b": ");
         write_reasons(why, out);
     }
 }
 
-fn write_reasons<W: Write>(why: &Why<'_>, out: &mut WatchedWriter<'_, W>)
-    ensures { Writes W.contents out.old out.new (reasons_text (why_listed why.now)) }
+/// Writes the reasons.
+pub fn write_reasons(why: &Why<'_>, out: &mut Room<'_>)
+    ensures { Writes out.old out.new (reasons_text (why_listed why.now)) }
 {
-    out.write_all(b": ");
     let before = write_own(why, out);
     let before = write_others(why, before, out);
     let before = write_length(why, before, out);
@@ -39,8 +39,8 @@ fn write_reasons<W: Write>(why: &Why<'_>, out: &mut WatchedWriter<'_, W>)
 
 /// Writes the bytes by which a row accepts. This and each function below that writes reasons tells whether some stand before
 /// what follows.
-fn write_own<W: Write>(why: &Why<'_>, out: &mut WatchedWriter<'_, W>) -> bool
-    ensures texts { Writes W.contents out.old out.new (in_row MARK.now false (own_texts (why_listed why.now).reasons)) }
+fn write_own(why: &Why<'_>, out: &mut Room<'_>) -> bool
+    ensures texts { Writes out.old out.new (in_row MARK.now false (own_texts (why_listed why.now).reasons)) }
     ensures before { result ≡ stands_before false (own_texts (why_listed why.now).reasons) }
 {
     let mut before = false;
@@ -52,8 +52,8 @@ fn write_own<W: Write>(why: &Why<'_>, out: &mut WatchedWriter<'_, W>) -> bool
 }
 
 /// Writes what bytes rule out.
-fn write_others<W: Write>(why: &Why<'_>, before: bool, out: &mut WatchedWriter<'_, W>) -> bool
-    ensures texts { Writes W.contents out.old out.new (in_row MARK.now before (other_texts (why_listed why.now).reasons)) }
+fn write_others(why: &Why<'_>, before: bool, out: &mut Room<'_>) -> bool
+    ensures texts { Writes out.old out.new (in_row MARK.now before (other_texts (why_listed why.now).reasons)) }
     ensures before { result ≡ stands_before before (other_texts (why_listed why.now).reasons) }
 {
     let first_is_told = tells_first(why);
@@ -66,8 +66,8 @@ fn write_others<W: Write>(why: &Why<'_>, before: bool, out: &mut WatchedWriter<'
 }
 
 /// Writes what is needed of the length.
-fn write_length<W: Write>(why: &Why<'_>, before: bool, out: &mut WatchedWriter<'_, W>) -> bool
-    ensures texts { Writes W.contents out.old out.new (in_row MARK.now before (length_texts (why_listed why.now))) }
+fn write_length(why: &Why<'_>, before: bool, out: &mut Room<'_>) -> bool
+    ensures texts { Writes out.old out.new (in_row MARK.now before (length_texts (why_listed why.now))) }
     ensures before { result ≡ stands_before before (length_texts (why_listed why.now)) }
 {
     if why.is_exact() {
@@ -82,21 +82,22 @@ fn write_length<W: Write>(why: &Why<'_>, before: bool, out: &mut WatchedWriter<'
 }
 
 /// Writes a number of bytes that is needed.
-fn write_counted<W: Write>(word: &str, n: usize, before: bool, out: &mut WatchedWriter<'_, W>)
-    ensures { Writes W.contents out.old out.new (in_row MARK.now before ((word.now ++ (codes " " ++ counted n)) ∷ [])) }
+fn write_counted(word: &str, n: usize, before: bool, out: &mut Room<'_>)
+    ensures { Writes out.old out.new (in_row MARK.now before ((word.now ++ (codes " " ++ counted n)) ∷ [])) }
 {
     write_mark(before, out);
-    write!(out, "{word} ");
+    out.write_text(word);
+    out.write(b" ");
     write_count(n, out);
 }
 
 /// Writes that there are more reasons, if there was no room for all.
-fn write_room<W: Write>(is_whole: bool, before: bool, out: &mut WatchedWriter<'_, W>)
-    ensures { Writes W.contents out.old out.new (in_row MARK.now before (room_texts is_whole)) }
+fn write_room(is_whole: bool, before: bool, out: &mut Room<'_>)
+    ensures { Writes out.old out.new (in_row MARK.now before (room_texts is_whole)) }
 {
     if !is_whole {
         write_mark(before, out);
-        out.write_all(b"and more than there is room for");
+        out.write(b"and more than there is room for");
     }
 }
 
@@ -149,13 +150,8 @@ fn is_other(first_is_told: bool, reason: &Reason<'_>) -> bool
 }
 
 /// Writes a reason, if it is to be told.
-fn write_if<W: Write>(
-    is_told: bool,
-    reason: &Reason<'_>,
-    before: bool,
-    out: &mut WatchedWriter<'_, W>,
-) -> bool
-    ensures texts { Writes W.contents out.old out.new (in_row MARK.now before (text_if is_told (reason_listed reason.now))) }
+fn write_if(is_told: bool, reason: &Reason<'_>, before: bool, out: &mut Room<'_>) -> bool
+    ensures texts { Writes out.old out.new (in_row MARK.now before (text_if is_told (reason_listed reason.now))) }
     ensures before { result ≡ stands_before before (text_if is_told (reason_listed reason.now)) }
 {
     if !is_told {
@@ -166,16 +162,16 @@ fn write_if<W: Write>(
     true
 }
 
-fn write_mark<W: Write>(before: bool, out: &mut WatchedWriter<'_, W>)
-    ensures { Writes W.contents out.old out.new (mark_if before MARK.now) }
+fn write_mark(before: bool, out: &mut Room<'_>)
+    ensures { Writes out.old out.new (mark_if before MARK.now) }
 {
     if before {
-        out.write_all(MARK);
+        out.write(MARK);
     }
 }
 
-fn write_reason<W: Write>(reason: &Reason<'_>, out: &mut WatchedWriter<'_, W>)
-    ensures { Writes W.contents out.old out.new (reason_text (reason_listed reason.now)) }
+fn write_reason(reason: &Reason<'_>, out: &mut Room<'_>)
+    ensures { Writes out.old out.new (reason_text (reason_listed reason.now)) }
 {
     write_ruled_out(reason.accepts, reason.row, out);
     write_bytes(reason, out);
@@ -183,30 +179,31 @@ fn write_reason<W: Write>(reason: &Reason<'_>, out: &mut WatchedWriter<'_, W>)
 }
 
 /// Writes what is ruled out.
-fn write_ruled_out<W: Write>(accepts: bool, row: Option<usize>, out: &mut WatchedWriter<'_, W>)
-    ensures { Writes W.contents out.old out.new (ruled_out accepts row) }
+fn write_ruled_out(accepts: bool, row: Option<usize>, out: &mut Room<'_>)
+    ensures { Writes out.old out.new (ruled_out accepts row) }
 {
     if accepts {
         return;
     }
     if row.is_none() {
-        return out.write_all(b"nothing that begins otherwise: ");
+        return out.write(b"nothing that begins otherwise: ");
     }
-    out.write_all(b"no ");
+    out.write(b"no ");
     write_row(type_of(row), out);
-    out.write_all(b": ");
+    out.write(b": ");
 }
 
 /// Writes a row: its extension, and what its class is called.
-fn write_row<W: Write>(found: Option<Type>, out: &mut WatchedWriter<'_, W>)
-    ensures { Writes W.contents out.old out.new (row_words (option_map triple_of found)) }
+fn write_row(found: Option<Type>, out: &mut Room<'_>)
+    ensures { Writes out.old out.new (row_words (option_map triple_of found)) }
 {
     match found {
         Some(found) => {
-            let (extension, class) = (found.extension(), class_word(found.matcher_type()));
-            write!(out, "{extension} {class}");
+            out.write_text(found.extension());
+            out.write(b" ");
+            out.write_text(class_word(found.matcher_type()));
         }
-        None => out.write_all(b"other type"),
+        None => out.write(b"other type"),
     }
 }
 
@@ -228,14 +225,14 @@ fn class_word(class: MatcherType) -> &'static str
 }
 
 /// Writes bytes one by one if they are few and stand side by side, and else how many they are.
-fn write_bytes<W: Write>(reason: &Reason<'_>, out: &mut WatchedWriter<'_, W>)
-    ensures { Writes W.contents out.old out.new (bytes_text (reason_listed reason.now)) }
+fn write_bytes(reason: &Reason<'_>, out: &mut Room<'_>)
+    ensures { Writes out.old out.new (bytes_text (reason_listed reason.now)) }
 {
     if are_shown(reason) {
         return write_each(reason.bytes, out);
     }
     write_count(reason.len, out);
-    out.write_all(b" ");
+    out.write(b" ");
 }
 
 fn are_shown(reason: &Reason<'_>) -> bool
@@ -245,28 +242,29 @@ fn are_shown(reason: &Reason<'_>) -> bool
 }
 
 /// Writes where they stand.
-fn write_place<W: Write>(reason: &Reason<'_>, out: &mut WatchedWriter<'_, W>)
-    ensures { Writes W.contents out.old out.new (place_text (reason_listed reason.now)) }
+fn write_place(reason: &Reason<'_>, out: &mut Room<'_>)
+    ensures { Writes out.old out.new (place_text (reason_listed reason.now)) }
 {
-    let place = reason.place;
-    write!(out, "at {place}");
+    out.write(b"at ");
+    out.write_number(reason.place);
     write_step(reason.step, out);
 }
 
 /// Writes one in how many bytes they are, if they stand apart.
-fn write_step<W: Write>(step: u32, out: &mut WatchedWriter<'_, W>)
-    ensures { Writes W.contents out.old out.new (step_text step) }
+fn write_step(step: u32, out: &mut Room<'_>)
+    ensures { Writes out.old out.new (step_text step) }
 {
     if step != 1 {
-        write!(out, ", one in {step}");
+        out.write(b", one in ");
+        out.write_number(step as usize);
     }
 }
 
-fn write_each<W: Write>(bytes: &[u8], out: &mut WatchedWriter<'_, W>)
-    ensures { Writes W.contents out.old out.new (flat_map byte_shown bytes.now) }
+fn write_each(bytes: &[u8], out: &mut Room<'_>)
+    ensures { Writes out.old out.new (flat_map byte_shown bytes.now) }
 {
     for byte in bytes {
-        out.write_all(&[large_digit(*byte / 16 % 16), large_digit(*byte % 16), b' ']);
+        out.write(&[large_digit(*byte / 16 % 16), large_digit(*byte % 16), b' ']);
     }
 }
 
@@ -279,9 +277,15 @@ fn large_digit(n: u8) -> u8
 }
 
 /// Writes a number of bytes.
-fn write_count<W: Write>(n: usize, out: &mut WatchedWriter<'_, W>)
-    ensures { Writes W.contents out.old out.new (counted n) }
+fn write_count(n: usize, out: &mut Room<'_>)
+    ensures { Writes out.old out.new (counted n) }
 {
-    let word = if n == 1 { "byte" } else { "bytes" };
-    write!(out, "{n} {word}");
+    out.write_number(n);
+    out.write(count_word(n));
+}
+
+fn count_word(n: usize) -> &'static [u8]
+    ensures { result.now ≡ (if n == 1 then codes " byte" else codes " bytes") }
+{
+    if n == 1 { b" byte" } else { b" bytes" }
 }

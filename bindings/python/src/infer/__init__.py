@@ -10,7 +10,7 @@ from __future__ import annotations
 
 import enum
 import os
-from collections.abc import Iterable, Iterator
+from collections.abc import Iterable, Iterator, Sized
 from itertools import takewhile
 from typing import NamedTuple, Union
 
@@ -22,7 +22,7 @@ __all__ = [
     "archive_match", "archive_matchers", "audio_match", "audio_matchers", "document_match", "document_matchers", "encoding", "evidence", "font_match", "font_matchers",
     "further_types", "get_bytes", "get_signature_bytes", "get_type", "guess", "guess_extension", "guess_mime", "image_match", "image_matchers",
     "is_app", "is_archive", "is_audio", "is_book", "is_decided", "is_document", "is_extension", "is_extension_supported", "is_font",
-    "is_image", "is_mime", "is_mime_supported", "is_video", "match", "may_become", "named", "oddities", "sample", "signature", "types", "verdict", "version", "video_match",
+    "is_image", "is_mime", "is_mime_supported", "is_video", "line", "match", "may_become", "named", "oddities", "sample", "signature", "types", "verdict", "version", "video_match",
     "video_matchers",
 ]
 
@@ -282,8 +282,7 @@ class NamedType(NamedTuple):
     """Whether nobody else names it, so that it tells files apart and is not to be sent."""
 
 
-class Named(NamedTuple):
-    """What a name and bytes tell."""
+class _Named(NamedTuple):
 
     standing: Standing
     """What the name did."""
@@ -293,6 +292,15 @@ class Named(NamedTuple):
     """The type that the name has first, whatever the bytes are, or None."""
     type_of_bytes: Type | None
     """The wider answer, which the bytes have whatever the name is, or None."""
+
+
+class Named(_Named):
+    """What a name and bytes tell. As a text it is the line that `infer_label` prints."""
+
+    _asked: tuple[bytes, Sized] | None = None
+
+    def __str__(self) -> str:
+        return _library.line(*self._asked, 0, False) if self._asked else repr(self)
 
 
 _standings = tuple(Standing)
@@ -318,7 +326,22 @@ def named(name: Union[str, bytes, os.PathLike[str], os.PathLike[bytes]], obj: So
     text = _bytes_of_name(name)
     front = get_front(os.fsdecode(name) if obj is None else obj)
     standing, row, told, of_name = _library.named(text, front)
-    return Named(_standings[standing], NamedType(*told) if told else None, NamedType(*of_name) if of_name else None, _all_rows[row] if row >= 0 else None)
+    found = Named(_standings[standing], NamedType(*told) if told else None, NamedType(*of_name) if of_name else None, _all_rows[row] if row >= 0 else None)
+    found._asked = text, front
+    return found
+
+
+_forms = ("text", "mime", "json", "csv")
+
+
+def line(name: Union[str, bytes, os.PathLike[str], os.PathLike[bytes]], obj: Source | None = None, *, form: str = "text", why: bool = False) -> str:
+    """The line that `infer_label` prints of a file's name and its first bytes, as "text", "mime", "json" or "csv", and with
+    the bytes that decide if `why` is true. Without bytes the name is a path, whose file is read. Nothing of a name moves a
+    cursor or is hidden.
+
+    >>> infer.line("main.py", b"import os")
+    'main.py: text/x-python py, us-ascii, name refines'"""
+    return _library.line(_bytes_of_name(name), get_front(os.fsdecode(name) if obj is None else obj), _forms.index(form), why)
 
 
 class Oddity(enum.Flag):

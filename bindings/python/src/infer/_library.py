@@ -135,6 +135,22 @@ def named(name: bytes, front: Sized) -> tuple[int, int, NamedTexts | None, Named
     return found.standing, found.row, _texts_of(found.told), _texts_of(found.name)
 
 
+_write_line: Callable[..., int] = _declare(
+    "infer_label_write", _SIZE, _BUFFER, _SIZE, _BUFFER, _SIZE, *[ctypes.c_uint32] * 3, _BUFFER, _SIZE, _BUFFER, _SIZE, _SIZE,
+    ctypes.POINTER(ctypes.c_int32), ctypes.POINTER(ctypes.c_bool), ctypes.c_char_p, _SIZE,
+)
+
+
+def line(name: bytes, front: Sized, form: int, is_why: bool) -> str:
+    """The line of a file with this name and these first bytes, without its end."""
+    standing, is_known, size = ctypes.c_int32(), ctypes.c_bool(), 256
+    while True:
+        room = ctypes.create_string_buffer(size)
+        size = 1 + _write_line(name, len(name), front, len(front), 0, form, int(is_why), b"", 0, b"", 0, 0, ctypes.byref(standing), ctypes.byref(is_known), room, size)
+        if size <= len(room):
+            return room.value.decode("utf-8").rstrip("\n")
+
+
 _MOST_RANGES = 80
 
 

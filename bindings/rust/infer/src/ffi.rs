@@ -85,6 +85,24 @@ mod c {
             extension_size: usize,
         ) -> i32;
         pub fn infer_named(name: *const c_void, name_len: usize, buf: *const c_void, len: usize, answer: *mut super::NamedAnswer);
+        pub fn infer_label_write(
+            name: *const c_void,
+            name_len: usize,
+            buf: *const c_void,
+            len: usize,
+            look: u32,
+            form: u32,
+            flags: u32,
+            types: *const c_void,
+            types_len: usize,
+            content_type: *const c_char,
+            content_type_len: usize,
+            file_size: usize,
+            standing: *mut i32,
+            is_known: *mut bool,
+            out: *mut c_char,
+            size: usize,
+        ) -> usize;
         pub fn infer_types_line(text: *const c_void, text_len: usize, buf: *const c_void, len: usize) -> usize;
         pub fn infer_is(buf: *const c_void, len: usize, extension: *const c_char, extension_len: usize) -> bool;
         pub fn infer_is_mime(buf: *const c_void, len: usize, mime_type: *const c_char, mime_type_len: usize) -> bool;
@@ -393,6 +411,33 @@ pub fn named(name: &[u8], buf: &[u8]) -> NamedAnswer {
     // SAFETY: as above, and `answer` is written.
     unsafe { c::infer_named(name.as_ptr().cast(), name.len(), buf.as_ptr().cast(), buf.len(), &mut answer) };
     answer
+}
+
+/// The length of the line of a name and bytes, which is written to `out`, with a zero after it.
+#[cfg(feature = "std")]
+pub fn line(name: &[u8], buf: &[u8], out: &mut [u8]) -> usize {
+    let (mut standing, mut is_known) = (0, false);
+    // SAFETY: as above, with room for as many bytes as it says; the two answers are written.
+    unsafe {
+        c::infer_label_write(
+            name.as_ptr().cast(),
+            name.len(),
+            buf.as_ptr().cast(),
+            buf.len(),
+            0,
+            0,
+            0,
+            core::ptr::null(),
+            0,
+            core::ptr::null(),
+            0,
+            0,
+            &mut standing,
+            &mut is_known,
+            out.as_mut_ptr().cast(),
+            out.len(),
+        )
+    }
 }
 
 pub fn is(buf: &[u8], extension: &str) -> bool {

@@ -123,6 +123,20 @@ pub fn named(name: &[u8], buf: &[u8]) -> Named {
     }
 }
 
+/// The line that the program `infer_label` prints of a file's name and its first bytes, without its end. Nothing of a name
+/// moves a cursor or is hidden.
+///
+/// ```
+/// assert_eq!(infer::line(b"main.py", b"import os"), "main.py: text/x-python py, us-ascii, name refines");
+/// ```
+#[cfg(feature = "std")]
+pub fn line(name: &[u8], buf: &[u8]) -> String {
+    let mut out = vec![0; 1 + ffi::line(name, buf, &mut [])];
+    let size = ffi::line(name, buf, &mut out);
+    out.truncate(size - 1);
+    String::from_utf8(out).unwrap_or_default()
+}
+
 /// What the path, as a name, and the first 8192 bytes of that regular file tell, or its fault.
 #[cfg(feature = "std")]
 pub fn named_path<P: AsRef<Path>>(path: P) -> io::Result<Named> {

@@ -6,4 +6,4 @@ use Rattle.infer_label.proofs.names.write_bytes.Given as goal
 
 -- the bytes so far were written
 abbrev pub invariant-loop-byte : goal.invariant-loop-byte
-invariant-loop-byte g l = Writes g.W.Write.contents l.initial.out l.out (flat_map (byte_shown l.form) (take l.byte-index l.name))
+invariant-loop-byte l = Writes l.initial.out l.out (flat_map (byte_shown l.form) (take l.byte-index l.name))

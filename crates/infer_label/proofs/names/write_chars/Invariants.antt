@@ -5,4 +5,4 @@ use Rattle.infer_label.proofs.names.write_chars.Given as goal
 
 -- the characters so far were written
 abbrev pub invariant-loop-c : goal.invariant-loop-c
-invariant-loop-c g l = Writes g.W.Write.contents l.initial.out l.out (flat_map (char_shown l.form) l.yielded)
+invariant-loop-c l = Writes l.initial.out l.out (flat_map (char_shown l.form) l.yielded)

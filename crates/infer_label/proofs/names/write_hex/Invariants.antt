@@ -6,4 +6,4 @@ use Rattle.infer_label.proofs.names.write_hex.Given as goal
 
 -- the bytes so far were written
 abbrev pub invariant-loop-byte : goal.invariant-loop-byte
-invariant-loop-byte g l = Writes g.W.Write.contents l.initial.out l.out (flat_map byte_hex (take l.byte-index l.bytes))
+invariant-loop-byte l = Writes l.initial.out l.out (flat_map byte_hex (take l.byte-index l.bytes))

@@ -7,17 +7,16 @@ use Rattle.infer_label.proofs.NamesLemmas.{name_of_bytes, name_of_chars, name_of
 use Rattle.infer_label.proofs.names.write_name.Goals as goal
 
 pub returns-then-is_plain : goal.returns-then-is_plain
-returns-then-is_plain g c =
-    subst (Writes g.W.Write.contents c.args.out.now c.write_all.new.self) (name_of_plain c.args.form c.args.name.now (sym c.is_plain.ensures ∙ c.if-is_plain.true))
-    (search rules)
+returns-then-is_plain c =
+    subst (Writes c.args.out.now c.write.new.self) (name_of_plain c.args.form c.args.name.now (sym c.is_plain.ensures ∙ c.if-is_plain.true)) c.write.ensures
 
 pub returns-in-Ok : goal.returns-in-Ok
-returns-in-Ok g c =
+returns-in-Ok c =
     let (same, is) = c.in-Ok.ensures.cases in
-    subst (Writes g.W.Write.contents c.args.out.now c.write_chars.new.out) (sym (name_of_chars c.args.form c.args.name.now is))
-    (subst (λ t. Writes g.W.Write.contents c.args.out.now c.write_chars.new.out (flat_map (char_shown c.args.form) (chars t))) same c.write_chars.ensures)
+    subst (Writes c.args.out.now c.write_chars.new.out) (sym (name_of_chars c.args.form c.args.name.now is))
+    (subst (λ t. Writes c.args.out.now c.write_chars.new.out (flat_map (char_shown c.args.form) (chars t))) same c.write_chars.ensures)
 
 pub returns-in-Err : goal.returns-in-Err
-returns-in-Err g c =
+returns-in-Err c =
     let (not, place) = c.in-Err.ensures.cases in
-    subst (Writes g.W.Write.contents c.args.out.now c.write_bytes.new.out) (sym (name_of_bytes c.args.form c.args.name.now not)) c.write_bytes.ensures
+    subst (Writes c.args.out.now c.write_bytes.new.out) (sym (name_of_bytes c.args.form c.args.name.now not)) c.write_bytes.ensures

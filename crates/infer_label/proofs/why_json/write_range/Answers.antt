@@ -7,6 +7,6 @@ use Rattle.infer_label.proofs.WritesLemmas.{writes_both}
 use Rattle.infer_label.proofs.why_json.write_range.Goals as goal
 
 pub returns : goal.returns
-returns g c =
-    subst (λ object. Writes g.W.Write.contents c.args.out.now c.write_object.new.out (mark_if c.args.before (codes ",") ++ object)) (sym (append-nil (range_object (reason_listed c.args.reason.now))))
-    (writes_both g.W.Write.contents c.write_comma.ensures c.write_object.ensures)
+returns c =
+    subst (λ object. Writes c.args.out.now c.write_object.new.out (mark_if c.args.before (codes ",") ++ object)) (sym (append-nil (range_object (reason_listed c.args.reason.now))))
+    (writes_both c.write_comma.ensures c.write_object.ensures)

@@ -8,15 +8,15 @@ use Rattle.infer_label.proofs.WhyLemmas.{all_told, nothing_yet, one_more}
 use Rattle.infer_label.proofs.why_json.write_ranges.Goals as goal
 
 pub loop-range-init : goal.loop-range-init
-loop-range-init g c = nothing_yet g.W.Write.contents (codes ",") false c.args.out.now
+loop-range-init c = nothing_yet (codes ",") false c.args.out.now
 
 pub loop-range-preserved : goal.loop-range-preserved
-loop-range-preserved g c =
-    one_more g.W.Write.contents (codes ",") false c.args.why.now (λ r. range_object r ∷ []) c.ranges-range-items.result.now c.loop-range.range-index _ (reason_listed c.reason.result)
+loop-range-preserved c =
+    one_more (codes ",") false c.args.why.now (λ r. range_object r ∷ []) c.ranges-range-items.result.now c.loop-range.range-index _ (reason_listed c.reason.result)
     c.loop-range-test.true c.loop-range.invariant c.reason.ensures c.write_range.ensures refl
 
 pub returns : goal.returns
-returns g c =
-    subst (λ objects. Writes g.W.Write.contents c.args.out.now c.loop-range.out (in_row (codes ",") false objects)) (flat_map_single range_object (why_listed c.args.why.now).reasons)
-    (all_told g.W.Write.contents (codes ",") false c.args.why.now (λ r. range_object r ∷ []) c.ranges-range-items.result.now c.loop-range.range-index _
+returns c =
+    subst (λ objects. Writes c.args.out.now c.loop-range.out (in_row (codes ",") false objects)) (flat_map_single range_object (why_listed c.args.why.now).reasons)
+    (all_told (codes ",") false c.args.why.now (λ r. range_object r ∷ []) c.ranges-range-items.result.now c.loop-range.range-index _
     c.loop-range-test.false c.ranges-range-items.ensures c.loop-range.invariant).0

@@ -1,7 +1,7 @@
-use Rattle.infer_label.proofs.WritesLemmas.{writes_all, writes_both}
+use Rattle.infer_label.proofs.WritesLemmas.{writes_both}
 use Rattle.infer_label.proofs.why_json.write_row_members.Goals as goal
 
 pub returns : goal.returns
-returns g c =
-    writes_both g.W.Write.contents (writes_all g.W.Write.contents c.write_all.ensures.bytes c.write_all.ensures.later)
-    (writes_both g.W.Write.contents c.write_extension_of.ensures c.write_accepts_member.ensures)
+returns c =
+    writes_both c.write.ensures
+    (writes_both c.write_extension_of.ensures c.write_accepts_member.ensures)

@@ -5,19 +5,19 @@ use Rattle.infer_label.proofs.WhyLemmas.{all_told, nothing_yet, one_more}
 use Rattle.infer_label.proofs.why_text.write_own.Goals as goal
 
 pub loop-range-init : goal.loop-range-init
-loop-range-init g c = nothing_yet g.W.Write.contents (codes "; ") false c.args.out.now
+loop-range-init c = nothing_yet (codes "; ") false c.args.out.now
 
 pub loop-range-preserved : goal.loop-range-preserved
-loop-range-preserved g c =
-    one_more g.W.Write.contents (codes "; ") false c.args.why.now (λ r. text_if r.accepts r) c.ranges-range-items.result.now c.loop-range.range-index _ (reason_listed c.reason-reason.result)
+loop-range-preserved c =
+    one_more (codes "; ") false c.args.why.now (λ r. text_if r.accepts r) c.ranges-range-items.result.now c.loop-range.range-index _ (reason_listed c.reason-reason.result)
     c.loop-range-test.true c.loop-range.invariant c.reason-reason.ensures c.write_if-before.ensures.texts c.write_if-before.ensures.before
 
 pub returns-clause-texts : goal.returns-clause-texts
-returns-clause-texts g c =
-    (all_told g.W.Write.contents (codes "; ") false c.args.why.now (λ r. text_if r.accepts r) c.ranges-range-items.result.now c.loop-range.range-index _
+returns-clause-texts c =
+    (all_told (codes "; ") false c.args.why.now (λ r. text_if r.accepts r) c.ranges-range-items.result.now c.loop-range.range-index _
     c.loop-range-test.false c.ranges-range-items.ensures c.loop-range.invariant).0
 
 pub returns-clause-before : goal.returns-clause-before
-returns-clause-before g c =
-    (all_told g.W.Write.contents (codes "; ") false c.args.why.now (λ r. text_if r.accepts r) c.ranges-range-items.result.now c.loop-range.range-index _
+returns-clause-before c =
+    (all_told (codes "; ") false c.args.why.now (λ r. text_if r.accepts r) c.ranges-range-items.result.now c.loop-range.range-index _
     c.loop-range-test.false c.ranges-range-items.ensures c.loop-range.invariant).1

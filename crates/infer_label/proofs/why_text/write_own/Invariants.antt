@@ -6,6 +6,6 @@ use Rattle.infer_label.proofs.why_text.write_own.Given as goal
 
 -- those of the ranges so far were written
 abbrev pub invariant-loop-range : goal.invariant-loop-range
-invariant-loop-range g l =
-    Continues g.W.Write.contents (codes "; ") false l.initial.out l.out l.before
+invariant-loop-range l =
+    Continues (codes "; ") false l.initial.out l.out l.before
     (flat_map (λ r. text_if (reason_in l.why r).accepts (reason_in l.why r)) (take l.range-index l.range-items))

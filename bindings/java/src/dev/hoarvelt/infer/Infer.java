@@ -132,6 +132,17 @@ public final class Infer {
         return named(path.toString(), Front.of(path));
     }
 
+    /**
+     * {@return the line that infer_label prints of a file's name and its bytes, without its end} Nothing of a name moves a
+     * cursor or is hidden.
+     */
+    public static String line(String name, byte[] bytes) {
+        byte[] text = name.getBytes(StandardCharsets.UTF_8);
+        byte[] room = new byte[6 * text.length + 512];
+        int size = Library.line(text, Bytes.of(bytes), room);
+        return new String(room, 0, size - 1, StandardCharsets.UTF_8);
+    }
+
     private static Optional<Charset> encoding(Bytes bytes) {
         String name = Library.encoding(bytes);
         return name.isEmpty() ? Optional.empty() : Optional.of(Charset.forName(name));

@@ -47,6 +47,11 @@ final class Library {
         named(name, it.array(), it.direct(), it.from(), it.size(), answer);
     }
 
+    /** The length of the line of a name and bytes, which goes into the room with a zero after it, or as much as fits. */
+    static int line(byte[] name, Bytes it, byte[] room) {
+        return line(name, it.array(), it.direct(), it.from(), it.size(), room);
+    }
+
     private static native int position(byte[] array, ByteBuffer direct, int from, int size);
 
     private static native int morePosition(byte[] array, ByteBuffer direct, int from, int size);
@@ -60,6 +65,8 @@ final class Library {
     private static native int typesGet(byte[] text, byte[] array, ByteBuffer direct, int from, int size, byte[] mimeType, byte[] extension);
 
     private static native void named(byte[] name, byte[] array, ByteBuffer direct, int from, int size, byte[] answer);
+
+    private static native int line(byte[] name, byte[] array, ByteBuffer direct, int from, int size, byte[] room);
 
     /** What is wrong with a text of types, or the empty text. The line and the column go into the place. */
     static native String typesMistake(byte[] text, long[] place);

@@ -32,6 +32,8 @@ final class Library {
     private static final MethodHandle ENCODING = handle("infer_encoding", JAVA_LONG, ADDRESS, JAVA_LONG, ADDRESS, JAVA_LONG);
     private static final MethodHandle TYPES_GET =
         handle("infer_types_get", JAVA_INT, ADDRESS, JAVA_LONG, ADDRESS, JAVA_LONG, ADDRESS, JAVA_LONG, ADDRESS, JAVA_LONG);
+    private static final MethodHandle LINE = critical("infer_label_write", FunctionDescriptor.of(JAVA_LONG, ADDRESS, JAVA_LONG, ADDRESS, JAVA_LONG,
+        JAVA_INT, JAVA_INT, JAVA_INT, ADDRESS, JAVA_LONG, ADDRESS, JAVA_LONG, JAVA_LONG, ADDRESS, ADDRESS, ADDRESS, JAVA_LONG));
     private static final MethodHandle NAMED = critical("infer_named", FunctionDescriptor.ofVoid(ADDRESS, JAVA_LONG, ADDRESS, JAVA_LONG, ADDRESS));
     private static final MethodHandle TYPES_CHECK = handle("infer_types_check", JAVA_LONG, ADDRESS, JAVA_LONG, ADDRESS, ADDRESS, ADDRESS, JAVA_LONG);
     private static final MethodHandle ROW_COUNT = handle("infer_row_count", JAVA_LONG);
@@ -129,6 +131,20 @@ final class Library {
     static void named(byte[] name, Bytes it, byte[] answer) {
         try {
             NAMED.invokeExact(MemorySegment.ofArray(name), (long) name.length, segment(it), (long) it.size(), MemorySegment.ofArray(answer));
+        } catch (Throwable fault) {
+            throw thrown(fault);
+        }
+    }
+
+    /** The length of the line of a name and bytes, which goes into the room with a zero after it, or as much as fits. */
+    static int line(byte[] name, Bytes it, byte[] room) {
+        MemorySegment none = MemorySegment.ofArray(new byte[0]);
+        MemorySegment told = MemorySegment.ofArray(new int[2]);
+        MemorySegment known = told.asSlice(JAVA_INT.byteSize());
+        try {
+            return (int) (long) LINE.invokeExact(
+                MemorySegment.ofArray(name), (long) name.length, segment(it), (long) it.size(), 0, 0, 0,
+                none, 0L, none, 0L, 0L, told, known, MemorySegment.ofArray(room), (long) room.length);
         } catch (Throwable fault) {
             throw thrown(fault);
         }

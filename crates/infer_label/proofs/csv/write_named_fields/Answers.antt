@@ -1,0 +1,6 @@
+use Rattle.infer_label.proofs.WritesLemmas.{writes_both, writes_is}
+use Rattle.infer_label.proofs.csv.write_named_fields.Goals as goal
+
+pub returns : goal.returns
+returns c =
+    writes_both (writes_is c.standing_field.ensures c.write_text.ensures) (writes_both c.write.ensures (writes_both (writes_is c.or_none.ensures c.write_text-2.ensures) (writes_both c.write-2.ensures (writes_both (writes_is c.or_none-2.ensures c.write_text-3.ensures) c.write-3.ensures))))

@@ -1,0 +1,10 @@
+use Rattle.std.proofs.Common.{rules, subst, sym}
+use Rattle.infer_label.specs.Names.{byte_hex}
+use Rattle.infer_label.specs.Writes.{Writes}
+use Rattle.infer_label.proofs.WritesLemmas.{flat_more, writes_both}
+use Rattle.infer_label.proofs.names.write_hex.Goals as goal
+
+pub loop-byte-preserved : goal.loop-byte-preserved
+loop-byte-preserved c =
+    subst (Writes c.args.out.now c.write.new.self) (sym (flat_more byte_hex c.args.bytes.now c.loop-byte.byte-index 0 c.loop-byte-test.true))
+    (writes_both c.loop-byte.invariant (search rules))
