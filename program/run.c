@@ -62,6 +62,7 @@ static void report_next(struct ring *ring, struct report *report) {
     pthread_mutex_lock(&ring->lock);
     ring->reported++;
     ring->is_ended = ring->is_ended || !is_written;
+    pthread_cond_broadcast(&ring->changed);
 }
 
 /* Fills and reports in turn, and helps to label where it would wait. */

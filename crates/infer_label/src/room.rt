@@ -57,11 +57,7 @@ impl<'a> Room<'a> {
     pub fn write_number(&mut self, n: usize)
         ensures { Writes self.old self.new (decimal n) }
     {
-        if n < 10 {
-            return self.write(&[b'0' + n as u8]);
-        }
-        self.write_number(n / 10);
-        self.write(&[b'0' + (n % 10) as u8]);
+        self.write_text(itoa::Buffer::new().format(n));
     }
 }
 
