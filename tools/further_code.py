@@ -108,7 +108,6 @@ const RELATIONS_OF_A_LIST: usize = {size};
 const RELATION_COUNT: usize = {count};
 {lists}
 /// The list in which the relation of that number stands, and the number of the relation with which it begins.
-#[inline(always)]
 pub(super) fn list_of(number: usize) -> Option<(usize, &'static [Relation<'static>])>
     ensures listed {{ IfSome result (λ list. (list.0 ≤ number)
         × (number < list.0 + RELATIONS_OF_A_LIST) × AreRelations list.0 list.1.now) }}
@@ -125,7 +124,6 @@ static RELATIONS_FROM_{first}: &[Relation<'static>] = &[
 {relations}
 ];
 
-#[inline(always)]
 fn relations_from_{first}() -> &'static [Relation<'static>]
     ensures {{ AreRelations {first} result.now }}
 {{

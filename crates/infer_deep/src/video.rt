@@ -21,7 +21,6 @@ pub fn is_webm(buf: &[u8]) -> bool
 }
 
 #[tactic(auto, using(crate::proofs::WindowLemmas::found_stands))]
-#[inline(always)]
 fn is_matroska<const N: usize>(buf: &[u8], doc_type: &[u8; N]) -> bool
     requires { 4 ≤ N }
     ensures { IsTrue result ↔ IsMatroska doc_type.now buf.now }
@@ -46,7 +45,6 @@ pub fn may_become_webm(buf: &[u8]) -> bool
 }
 
 #[tactic(auto, using(crate::proofs::WindowLemmas::matroska_reaches))]
-#[inline(always)]
 fn may_become_matroska<const N: usize>(buf: &[u8], doc_type: &[u8; N]) -> bool
     requires long { 4 ≤ N }
     requires short { N ≤ 252 }

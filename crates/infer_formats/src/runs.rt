@@ -3,7 +3,6 @@ ghost use Rattle.std.specs.Prelude.{◌≤◌, length};
 ghost use Rattle.infer_formats.specs.Runs.{IsAfterLast};
 
 /// Where what follows the last such byte between two places begins: at the first of them if there is none.
-#[inline(always)]
 pub(crate) fn after_last(byte: u8, buf: &[u8], from: usize, to: usize) -> usize
     requires order { from ≤ to }
     requires within { to ≤ length buf.now }

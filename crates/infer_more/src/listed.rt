@@ -219,7 +219,6 @@ pub(crate) fn alternatives_of(row: &FurtherRow) -> &'static [Alternative]
 }
 
 /// The relation of that number, by one look at its list.
-#[inline(always)]
 fn relation_in_lists(number: usize) -> Option<&'static Relation<'static>>
     ensures { option_map (λ r. relation_listed r.now) result ≡ slice_get relations number }
 {
@@ -233,7 +232,6 @@ fn relation_in_lists(number: usize) -> Option<&'static Relation<'static>>
 }
 
 /// The relation of that number, and plain text for a number too great.
-#[inline(always)]
 pub(crate) fn relation_at(number: usize) -> &'static Relation<'static>
     ensures { relation_listed result.now ≡ relation_at number }
 {

@@ -47,7 +47,6 @@ pub struct Reading {
 
 impl Lead {
     /// Whether the buffer has it.
-    #[inline(always)]
     pub fn stands(&self, buf: &[u8]) -> bool
         ensures { result ≡ has_part buf.now (lead_part self.now) }
     {
@@ -59,7 +58,6 @@ impl Lead {
 }
 
 /// Whether the byte is one of these.
-#[inline(always)]
 fn is_among(byte: u8, bytes: [u8; 4]) -> bool
     ensures { result ≡ allows (any_of bytes) byte }
 {

@@ -68,7 +68,6 @@ pub fn may_become_gif(buf: &[u8]) -> bool
 }
 
 /// WebP: at least 12 bytes, "WEBP" at 8.
-#[inline(always)]
 pub fn is_webp(buf: &[u8]) -> bool
     ensures { result ≡ accepts webp buf.now }
 {

@@ -8,7 +8,6 @@ use infer_deep::places::same_at;
 
 /// Whether `text` stands in `buf` from `place` on.
 #[tactic(auto, using(crate::proofs::PlaceLemmas::stands_by_place))]
-#[inline(always)]
 pub fn matches_at<const N: usize>(buf: &[u8], text: &[u8; N], place: usize) -> bool
     requires { place + N ≤ length buf.now }
     ensures { result ≡ stands place text.now buf.now }
@@ -17,7 +16,6 @@ pub fn matches_at<const N: usize>(buf: &[u8], text: &[u8; N], place: usize) -> b
 }
 
 /// Whether one of the texts stands in `buf` from `place` on.
-#[inline(always)]
 pub fn any_matches_at<const N: usize>(buf: &[u8], texts: &[[u8; N]], place: usize) -> bool
     requires { place + N ≤ length buf.now }
     ensures { result ≡ list_any (λ t. stands place t buf.now) texts.now }
@@ -32,7 +30,6 @@ pub fn any_matches_at<const N: usize>(buf: &[u8], texts: &[[u8; N]], place: usiz
 
 /// Whether as much of `text` as `buf` has room for from `place` on stands there.
 #[tactic(auto, using(crate::proofs::OpenLemmas::agrees_whole, crate::proofs::OpenLemmas::agrees_beyond))]
-#[inline(always)]
 pub fn may_match_at<const N: usize>(buf: &[u8], text: &[u8; N], place: usize) -> bool
     ensures { result ≡ agrees place text.now buf.now }
 {
@@ -43,7 +40,6 @@ pub fn may_match_at<const N: usize>(buf: &[u8], text: &[u8; N], place: usize) ->
 }
 
 /// Whether as much of one of the texts as `buf` has room for from `place` on stands there.
-#[inline(always)]
 pub fn any_may_match_at<const N: usize>(buf: &[u8], texts: &[[u8; N]], place: usize) -> bool
     ensures { result ≡ list_any (λ t. agrees place t buf.now) texts.now }
 {

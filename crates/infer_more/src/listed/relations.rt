@@ -36,7 +36,6 @@ static RELATIONS_FROM_0: &[Relation<'static>] = &[
     DirectoryTag(0xC612),
 ];
 
-#[inline(always)]
 fn relations_from_0() -> &'static [Relation<'static>]
     ensures { AreRelations 0 result.now }
 {
@@ -62,7 +61,6 @@ static RELATIONS_FROM_16: &[Relation<'static>] = &[
     Program(b"mawk"),
 ];
 
-#[inline(always)]
 fn relations_from_16() -> &'static [Relation<'static>]
     ensures { AreRelations 16 result.now }
 {
@@ -88,7 +86,6 @@ static RELATIONS_FROM_32: &[Relation<'static>] = &[
     Dbase,
 ];
 
-#[inline(always)]
 fn relations_from_32() -> &'static [Relation<'static>]
     ensures { AreRelations 32 result.now }
 {
@@ -114,7 +111,6 @@ static RELATIONS_FROM_48: &[Relation<'static>] = &[
     Program(b"escript"),
 ];
 
-#[inline(always)]
 fn relations_from_48() -> &'static [Relation<'static>]
     ensures { AreRelations 48 result.now }
 {
@@ -140,7 +136,6 @@ static RELATIONS_FROM_64: &[Relation<'static>] = &[
     Root(b"nzb"),
 ];
 
-#[inline(always)]
 fn relations_from_64() -> &'static [Relation<'static>]
     ensures { AreRelations 64 result.now }
 {
@@ -166,7 +161,6 @@ static RELATIONS_FROM_80: &[Relation<'static>] = &[
     Program(b"tcsh"),
 ];
 
-#[inline(always)]
 fn relations_from_80() -> &'static [Relation<'static>]
     ensures { AreRelations 80 result.now }
 {
@@ -192,7 +186,6 @@ static RELATIONS_FROM_96: &[Relation<'static>] = &[
     Program(b"ocamlrun"),
 ];
 
-#[inline(always)]
 fn relations_from_96() -> &'static [Relation<'static>]
     ensures { AreRelations 96 result.now }
 {
@@ -218,7 +211,6 @@ static RELATIONS_FROM_112: &[Relation<'static>] = &[
     Program(b"pwsh"),
 ];
 
-#[inline(always)]
 fn relations_from_112() -> &'static [Relation<'static>]
     ensures { AreRelations 112 result.now }
 {
@@ -244,7 +236,6 @@ static RELATIONS_FROM_128: &[Relation<'static>] = &[
     RootWith(b"definitions", b"http://schemas.xmlsoap.org/wsdl/"),
 ];
 
-#[inline(always)]
 fn relations_from_128() -> &'static [Relation<'static>]
     ensures { AreRelations 128 result.now }
 {
@@ -270,7 +261,6 @@ static RELATIONS_FROM_144: &[Relation<'static>] = &[
     RootWith(b"section", b"http://docbook.org/ns/docbook"),
 ];
 
-#[inline(always)]
 fn relations_from_144() -> &'static [Relation<'static>]
     ensures { AreRelations 144 result.now }
 {
@@ -299,7 +289,6 @@ static RELATIONS_FROM_160: &[Relation<'static>] = &[
     RootWith(b"component", b"type="),
 ];
 
-#[inline(always)]
 fn relations_from_160() -> &'static [Relation<'static>]
     ensures { AreRelations 160 result.now }
 {
@@ -337,7 +326,6 @@ static RELATIONS_FROM_176: &[Relation<'static>] = &[
     ),
 ];
 
-#[inline(always)]
 fn relations_from_176() -> &'static [Relation<'static>]
     ensures { AreRelations 176 result.now }
 {
@@ -363,7 +351,6 @@ static RELATIONS_FROM_192: &[Relation<'static>] = &[
     Root(b"ldml"),
 ];
 
-#[inline(always)]
 fn relations_from_192() -> &'static [Relation<'static>]
     ensures { AreRelations 192 result.now }
 {
@@ -392,7 +379,6 @@ static RELATIONS_FROM_208: &[Relation<'static>] = &[
     ClassId(*b"\x13\x1A\x02\0\0\0\0\0\xC0\0\0\0\0\0\0F"),
 ];
 
-#[inline(always)]
 fn relations_from_208() -> &'static [Relation<'static>]
     ensures { AreRelations 208 result.now }
 {
@@ -418,7 +404,6 @@ static RELATIONS_FROM_224: &[Relation<'static>] = &[
     TextFirstWith(b"[Reference]", b"Ref1="),
 ];
 
-#[inline(always)]
 fn relations_from_224() -> &'static [Relation<'static>]
     ensures { AreRelations 224 result.now }
 {
@@ -444,7 +429,6 @@ static RELATIONS_FROM_240: &[Relation<'static>] = &[
     TextFirst(b"#FIG 1."),
 ];
 
-#[inline(always)]
 fn relations_from_240() -> &'static [Relation<'static>]
     ensures { AreRelations 240 result.now }
 {
@@ -470,7 +454,6 @@ static RELATIONS_FROM_256: &[Relation<'static>] = &[
     TextFirst(b"# data file for the Fltk"),
 ];
 
-#[inline(always)]
 fn relations_from_256() -> &'static [Relation<'static>]
     ensures { AreRelations 256 result.now }
 {
@@ -496,7 +479,6 @@ static RELATIONS_FROM_272: &[Relation<'static>] = &[
     TextFirst(b"{1}{"),
 ];
 
-#[inline(always)]
 fn relations_from_272() -> &'static [Relation<'static>]
     ensures { AreRelations 272 result.now }
 {
@@ -522,7 +504,6 @@ static RELATIONS_FROM_288: &[Relation<'static>] = &[
     TextFirstWith(b"From ", b"\nReceived: "),
 ];
 
-#[inline(always)]
 fn relations_from_288() -> &'static [Relation<'static>]
     ensures { AreRelations 288 result.now }
 {
@@ -548,7 +529,6 @@ static RELATIONS_FROM_304: &[Relation<'static>] = &[
     TextFirstWith(b"Path: ", b"\nNewsgroups: "),
 ];
 
-#[inline(always)]
 fn relations_from_304() -> &'static [Relation<'static>]
     ensures { AreRelations 304 result.now }
 {
@@ -574,7 +554,6 @@ static RELATIONS_FROM_320: &[Relation<'static>] = &[
     TextFirst(b"[Timer]\n"),
 ];
 
-#[inline(always)]
 fn relations_from_320() -> &'static [Relation<'static>]
     ensures { AreRelations 320 result.now }
 {
@@ -600,7 +579,6 @@ static RELATIONS_FROM_336: &[Relation<'static>] = &[
     TextFirstWith(b"999\n", b"\nSECTION"),
 ];
 
-#[inline(always)]
 fn relations_from_336() -> &'static [Relation<'static>]
     ensures { AreRelations 336 result.now }
 {
@@ -626,7 +604,6 @@ static RELATIONS_FROM_352: &[Relation<'static>] = &[
     TextFirstWith(b"[Version]", b"ignature"),
 ];
 
-#[inline(always)]
 fn relations_from_352() -> &'static [Relation<'static>]
     ensures { AreRelations 352 result.now }
 {
@@ -652,7 +629,6 @@ static RELATIONS_FROM_368: &[Relation<'static>] = &[
     TextFirstWithAll(b"graph ", b"{", b" -- ", b""),
 ];
 
-#[inline(always)]
 fn relations_from_368() -> &'static [Relation<'static>]
     ensures { AreRelations 368 result.now }
 {
@@ -678,7 +654,6 @@ static RELATIONS_FROM_384: &[Relation<'static>] = &[
     TextFirstWith(b"[main]", b"\nAuthType="),
 ];
 
-#[inline(always)]
 fn relations_from_384() -> &'static [Relation<'static>]
     ensures { AreRelations 384 result.now }
 {
@@ -704,7 +679,6 @@ static RELATIONS_FROM_400: &[Relation<'static>] = &[
     FirstKey(b"asset"),
 ];
 
-#[inline(always)]
 fn relations_from_400() -> &'static [Relation<'static>]
     ensures { AreRelations 400 result.now }
 {
@@ -730,7 +704,6 @@ static RELATIONS_FROM_416: &[Relation<'static>] = &[
     TextFirstWithAll(b"#", b"\nmtllib ", b"\nv ", b""),
 ];
 
-#[inline(always)]
 fn relations_from_416() -> &'static [Relation<'static>]
     ensures { AreRelations 416 result.now }
 {
@@ -746,7 +719,6 @@ static RELATIONS_FROM_432: &[Relation<'static>] = &[
     PlainText,
 ];
 
-#[inline(always)]
 fn relations_from_432() -> &'static [Relation<'static>]
     ensures { AreRelations 432 result.now }
 {
@@ -754,7 +726,6 @@ fn relations_from_432() -> &'static [Relation<'static>]
 }
 
 /// The list in which the relation of that number stands, and the number of the relation with which it begins.
-#[inline(always)]
 pub(super) fn list_of(number: usize) -> Option<(usize, &'static [Relation<'static>])>
     ensures listed { IfSome result (λ list. (list.0 ≤ number)
         × (number < list.0 + RELATIONS_OF_A_LIST) × AreRelations list.0 list.1.now) }

@@ -31,7 +31,6 @@ pub struct Entries<'a> {
 
 impl<'a> Entry<'a> {
     /// Whether the row may be asked below the answer with that digest and accept the buffer.
-    #[inline(always)]
     fn may_answer(&self, digest: u32, buf: &[u8]) -> bool
         ensures { (own : Row) (extension : Option (List ℕ))
             → line_of self.now.line.now ≡ Some (Some own) → digest ≡ digest_of extension
@@ -48,7 +47,6 @@ impl<'a> Entry<'a> {
 
     /// What the row shows, if it is asked below the built-in answer with this extension, or none, which has that digest, and
     /// accepts the buffer.
-    #[inline(always)]
     fn answer(&self, digest: u32, extension: Option<&[u8]>, buf: &[u8]) -> Option<Found<'a>>
         requires { digest ≡ digest_of (option_map (λ e. e.now) extension) }
         ensures { (r : Option Row) → line_of self.now.line.now ≡ Some r
