@@ -1,5 +1,5 @@
 -- What crosses to C: rows and classes as numbers.
-use Rattle.std.specs.Prelude.{◌≡◌, ℕ, ℤ, pos, negsuc, List, Option, None, Some, codes}
+use Rattle.std.specs.Prelude.{◌≡◌, ℕ, ℤ, pos, negsuc, List, Option, None, Some}
 use Rattle.std.specs.List.{slice_get}
 use Rattle.infer.specs.Decided.{MayBecomeRow}
 use Rattle.infer.specs.Triple.{Triple}
@@ -52,19 +52,6 @@ class_code Image = pos 6
 class_code Text = pos 7
 class_code Video = pos 8
 class_code Custom = pos 9
-
--- the name of a class
-abbrev pub class_name : MatcherType → List ℕ
-class_name App = codes "app"
-class_name Archive = codes "archive"
-class_name Audio = codes "audio"
-class_name Book = codes "book"
-class_name Doc = codes "doc"
-class_name Font = codes "font"
-class_name Image = codes "image"
-class_name Text = codes "text"
-class_name Video = codes "video"
-class_name Custom = codes "custom"
 
 -- the class with this number, and none if no class has it
 abbrev pub IsClassOf : ℤ → Option MatcherType → Type 0

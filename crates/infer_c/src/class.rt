@@ -1,6 +1,7 @@
 //! Classes as numbers and as texts.
 ghost use Rattle.std.specs.Prelude.{◌≡◌};
-ghost use Rattle.infer_c.specs.Codes.{IsClassOf, class_code, class_name};
+ghost use Rattle.infer_c.specs.Codes.{IsClassOf, class_code};
+ghost use Rattle.infer_label.specs.Line.{class_name};
 ghost use Rattle.infer_more.specs.Ended.{ended};
 
 use infer::MatcherType;
@@ -41,24 +42,7 @@ pub fn of(code: i32) -> Option<MatcherType>
     }
 }
 
-pub fn name(class: MatcherType) -> &'static str
-    ensures { result.now ≡ class_name class }
-{
-    match class {
-        MatcherType::App => "app",
-        MatcherType::Archive => "archive",
-        MatcherType::Audio => "audio",
-        MatcherType::Book => "book",
-        MatcherType::Doc => "doc",
-        MatcherType::Font => "font",
-        MatcherType::Image => "image",
-        MatcherType::Text => "text",
-        MatcherType::Video => "video",
-        MatcherType::Custom => "custom",
-    }
-}
-
-/// The name with a zero after it.
+/// The name of the class with a zero after it.
 pub fn ended_name(class: MatcherType) -> &'static str
     ensures { result.now ≡ ended (class_name class) }
 {

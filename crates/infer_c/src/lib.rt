@@ -16,7 +16,7 @@ ghost use Rattle.infer.specs.Table.{table};
 ghost use Rattle.infer.specs.Walks.{count_asked};
 ghost use Rattle.infer.specs.declared.table.rows.TheConstants.{MOST_CANDIDATES, ROW_COUNT};
 ghost use Rattle.infer_sniff.specs.Verdicts.{IsSettled, RowStaysFinal};
-ghost use Rattle.infer_c.specs.Codes.{AcceptsAt, IsClassOf, IsSampleOf, MayBecomeAt, class_code, class_name, row_code, triple_at};
+ghost use Rattle.infer_c.specs.Codes.{AcceptsAt, IsClassOf, IsSampleOf, MayBecomeAt, class_code, row_code, triple_at};
 ghost use Rattle.infer_formats.specs.Text.{IsEncodingOf, encoding_name};
 ghost use Rattle.infer_formats.specs.declared.text.Encoding.{Encoding};
 ghost use Rattle.infer_more.specs.declared.types.Mistake.{Mistake};
@@ -36,7 +36,7 @@ ghost use Rattle.mime_types.specs.declared.extraction.Extracted.{Extracted};
 ghost use Rattle.mime_sniff.specs.Computed.{IsComputedIn, apache_bugs};
 ghost use Rattle.mime_sniff.specs.Growth as growth;
 ghost use Rattle.mime_sniff.specs.Growth.{NeverScripts};
-ghost use Rattle.infer_label.specs.Line.{note_line};
+ghost use Rattle.infer_label.specs.Line.{class_name, note_line};
 ghost use Rattle.infer_label.specs.Writes.{saturated};
 ghost use Rattle.infer_c.specs.Label.{TellsLine, note_of, options_by};
 ghost use Rattle.infer_c.specs.Mime.{IsContextOf, IsDestinationOf, IsEssenceText, IsGroupCodeSaid, IsMimeText, IsMinimalText, IsToldText, IsTogetherText, IsValueText, SayTogether, Says, kind_said, mime_extracted, supply_told, value_said};
@@ -55,6 +55,7 @@ mod written;
 
 use infer::MatcherType;
 use infer_evidence::{Evidence, WrittenRange};
+use infer_label::class_name;
 use infer_more::laws;
 use label::Asked;
 use mime_sniff::Context;
@@ -328,7 +329,7 @@ pub extern "C" fn infer_class_name(class: i32, out: &mut [u8]) -> usize
     ensures few { result ≤ 73 }
 {
     match class::of(class) {
-        Some(found) => written::write_text(class::name(found), out),
+        Some(found) => written::write_text(class_name(found), out),
         None => written::write_text("", out),
     }
 }

@@ -167,7 +167,8 @@ fn class_field(class: Option<MatcherType>) -> &'static str
     }
 }
 
-fn class_name(class: MatcherType) -> &'static str
+/// The name of a class, as in `image`.
+pub fn class_name(class: MatcherType) -> &'static str
     ensures { result.now ≡ class_name class }
 {
     match class {

@@ -23,6 +23,7 @@ mod why;
 mod why_json;
 mod why_text;
 
+pub use csv::class_name;
 use infer_named::Standing;
 use label::label_of;
 use line::{write_labelled, write_noted};
