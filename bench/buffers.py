@@ -26,7 +26,7 @@ STREAMS = [
     ("zeros", b"\x00", b"\x00"),
     ("a JPEG image", b"\xFF\xD8\xFF", b"\x00"),
     ("spaces", b" ", b" "),
-    ("a ZIP archive that begins as one of Office", OFFICE, b"ab"),
+    ("a ZIP archive that begins like an Office document", OFFICE, b"ab"),
 ]
 PIECES = [("1 byte", 1), ("64 bytes", 64), ("4096 bytes", 4096), ("one piece", 1 << 20)]
 LENGTHS = [("1 KB", 1 << 10), ("8 KB", 1 << 13), ("64 KB", 1 << 16), ("1 MB", 1 << 20)]
@@ -55,7 +55,7 @@ def office(size, folder):
 
 
 def missed_headers(length):
-    """An archive that begins as one of Office, whose headers stand behind near misses as late as a search goes."""
+    """An archive that begins like an Office document, whose headers stand after near misses as late as a search goes."""
     buf = OFFICE
     for least in (30, 56, 56):
         buf += (MISSED_BY_ONE + NEAR_MISSES * 1000)[: 6000 - len(HEADER)] + HEADER + bytes(least - len(HEADER))
@@ -78,8 +78,8 @@ def headers():
     begun = lambda front, rest=TEXT * 100: (front + rest)[:512]
     return [
         ("512 bytes of English-like text", begun(b"")),
-        ("512 bytes of such text behind \"R\", with which RIFF and RAR begin", begun(b"R")),
-        ("512 bytes of such text behind spaces", begun(b" " * 64)),
+        ("512 bytes of such text after \"R\", with which RIFF and RAR begin", begun(b"R")),
+        ("512 bytes of such text after spaces", begun(b" " * 64)),
         ("512 bytes of HTML that begins with \"<p>\"", begun(b"<p>")),
         ("512 bytes of markup that begins with no known tag", begun(b"<x>")),
         ("512 spaces", b" " * 512),
@@ -156,7 +156,7 @@ def looked_into():
         ("8192 bytes of JSON", json.dumps(items)[:8192].encode()),
         ("8192 bytes of UTF-8 with characters above 7F", ("Grüße aus München, schöne Straße. " * 400).encode()[:8192]),
         ("SVG of 8 KB", b'<?xml version="1.0"?>\n<!-- drawn by hand -->\n<svg width="10" height="10">' + b"<g/>" * 2022),
-        ('8192 bytes of settings behind "# "', b"# These are the settings.\n" + b"name = value\n" * 628),
+        ('8192 bytes of settings after "# "', b"# These are the settings.\n" + b"name = value\n" * 628),
         ("a script of Python, 34 bytes", b"#!/usr/bin/env python3\nimport sys\n"),
         ("a script of `sh`, 17 bytes", b"#!/bin/sh\nset -e\n"),
     ]
@@ -223,7 +223,7 @@ INSIDE = {
     "TIFF images": (b"II*\0\x08\0\0\0\xff\xff", [b"\0", b"\x12\xc6", b"\x12", bytes(12)]),
     "PNG images": (b"\x89PNG\r\n\x1a\n", [bytes(12), b"\0\0\0\0IHDR" + bytes(4), b"\0\0\0\1tEXt" + bytes(5)]),
     "texts": (b"", [b"a", b"\x1b", b"\x7f", "é".encode(), b"\r\n"]),
-    'texts behind "#"': (b"#", [b"\n", b"\n[", b"\nv", b"\nmsgid", b"#", b"a"]),
+    'texts after "#"': (b"#", [b"\n", b"\n[", b"\nv", b"\nmsgid", b"#", b"a"]),
     "an object before its first key": (b"{", [b" ", b"\n", b"\t", b'"']),
     "subtitles": (b"1\n", [b"1", b"00:00:01,000 --> ", b"\n", b":", b" "]),
 }

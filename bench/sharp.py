@@ -80,7 +80,7 @@ def groups(paths):
     samples = evidence.samples()
     vectors = [decode(tokens) for *_, tokens in fields_of("vectors.tsv")] + [buf for _, buf in evidence.further_vectors()]
     yield "samples", samples
-    yield f"samples with {BEHIND} zeros behind", [it + bytes(BEHIND) for it in samples]
+    yield f"samples followed by {BEHIND} zeros", [it + bytes(BEHIND) for it in samples]
     yield "vectors", [it for it in vectors if len(it) <= FRONT]
     if paths:
         yield f"first {FRONT} bytes of {len(paths):,} files", fronts(paths)
@@ -103,4 +103,4 @@ def rows(room, paths):
         for label, bufs in groups(paths):
             told = tried(program, trials, word, bufs)
             yield f"{name}, {label}", row_of(told)
-            yield f"{name}, those of which no search is told", row_of([it for it in told if not it[3]])
+            yield f"{name}, those where no search is reported", row_of([it for it in told if not it[3]])
