@@ -1,10 +1,11 @@
-/* The library for C++17 and later, over infer.h and infer_file.h, whose comments say what each call means.
+/* The library for C++17 and later, over infer.h and infer_file.h, whose comments explain each call.
  *
  *     const std::vector<unsigned char> front = ...;
  *     if (const auto found = infer::get(front))
  *         std::cout << found->mime_type << '\n';
  *
- * What is not here is called as in C. Nothing here throws but what says so, and what allocates gives a std::string. */
+ * Call anything that is missing here as in C. Nothing here throws unless its comment says so, and
+ * what allocates returns a std::string. */
 #ifndef INFER_HPP
 #define INFER_HPP
 
@@ -28,8 +29,8 @@
 
 namespace infer {
 
-/* A view of bytes, as a call takes them: of a std::string_view, a std::vector, a std::span or any other range that stands
- * in one piece, of elements of one byte, or of a place and a size. It is made of no text with a zero behind it, which would
+/* A view of bytes, as the calls take them: of a std::string_view, a std::vector, a std::span or any other contiguous
+ * range of elements of one byte, or of a place and a size. A text that ends in a zero does not convert, since it would
  * not say how many bytes there are: write "GIF89a"sv. */
 class bytes {
 public:
@@ -50,7 +51,7 @@ private:
     std::size_t size_ = 0;
 };
 
-/* A type. The texts are the library's own and last as long as it is loaded. */
+/* A type. The texts belong to the library and last as long as it is loaded. */
 struct type {
     std::string_view mime_type, extension;
     infer_class_code class_code;
@@ -60,7 +61,7 @@ struct type {
     friend bool operator!=(const type &a, const type &b) noexcept { return !(a == b); }
 };
 
-/* The type of a row, and nothing of a number that no row has. */
+/* The type of a row, and nothing if no row has this number. */
 inline std::optional<type> of_row(std::int32_t row) noexcept {
     const auto class_code = static_cast<infer_class_code>(infer_class(row));
     if (class_code == INFER_NO_ROW) return std::nullopt;
@@ -75,11 +76,11 @@ inline std::optional<type> get_more(bytes of) noexcept { return of_row(infer_mor
 inline bool is_decided(bytes of) noexcept { return infer_is_decided(of.data(), of.size()); }
 inline bool is_more_decided(bytes of) noexcept { return infer_more_is_decided(of.data(), of.size()); }
 
-/* Whether some built-in type with that extension or MIME type accepts the bytes. It need not be the answer. */
+/* Whether some built-in type with that extension or MIME type matches the bytes. It need not be the answer. */
 inline bool is(bytes of, std::string_view extension) noexcept { return infer_is(of.data(), of.size(), extension.data(), extension.size()); }
 inline bool is_mime(bytes of, std::string_view mime_type) noexcept { return infer_is_mime(of.data(), of.size(), mime_type.data(), mime_type.size()); }
 
-/* How a text is encoded, by its IANA name, and nothing of other bytes. */
+/* The IANA name of the encoding of a text, and nothing for other bytes. */
 inline std::optional<std::string> encoding(bytes of) {
     std::array<char, INFER_TEXT_SIZE> out{};
     const std::size_t size = infer_encoding(of.data(), of.size(), out.data(), out.size());
@@ -94,7 +95,7 @@ inline std::optional<type> of_path(int ask(const char *, std::int32_t *), const 
     return of_row(row);
 }
 
-/* The first bytes of a stream from where it stands, and it stands there again if it can go back. */
+/* The first bytes of a stream from its position, which is restored if the stream can go back. */
 inline std::string front_of(std::istream &from) {
     std::string front(INFER_FRONT, '\0');
     if (!from.good()) return {};
@@ -105,11 +106,12 @@ inline std::string front_of(std::istream &from) {
 }
 } // namespace detail
 
-/* The same by the first 8192 bytes of a regular file. What infer_path says by errno is thrown as a std::system_error. */
+/* The same by the first 8192 bytes of a regular file. An errno of infer_path is thrown as a std::system_error. */
 inline std::optional<type> get_path(const std::string &path) { return detail::of_path(infer_path, path); }
 inline std::optional<type> get_more_path(const std::string &path) { return detail::of_path(infer_more_path, path); }
 
-/* The same by the next 8192 bytes of a stream. One that can go back stands where it stood; of another they are gone. */
+/* The same by the next 8192 bytes of a stream. A stream that can go back keeps its position; any other loses these
+ * bytes. */
 inline std::optional<type> get_from(std::istream &from) { return get(detail::front_of(from)); }
 inline std::optional<type> get_more_from(std::istream &from) { return get_more(detail::front_of(from)); }
 
@@ -129,7 +131,7 @@ private:
     std::size_t size_ = 0;
 };
 
-/* A text that describes no types: where its first mistake is, both from 1, and by what() which one it is. */
+/* A text that describes no types: line and column of its first mistake, both from 1, and the reason as what(). */
 class types_error : public std::invalid_argument {
 public:
     types_error(std::size_t line, std::size_t column, const char *reason) : std::invalid_argument(reason), line_(line), column_(column) {}
@@ -140,7 +142,7 @@ private:
     std::size_t line_, column_;
 };
 
-/* Types of your own, which a text describes, one a line, in the notation of docs/NOTATION.md. */
+/* Types of your own, which a text describes, one per line, in the notation of docs/NOTATION.md. */
 class types {
 public:
     struct found {
@@ -156,7 +158,8 @@ public:
             throw types_error(line, column, reason.data());
     }
 
-    /* The first of these types that stands below the built-in answer and accepts the bytes, and else the wider answer. */
+    /* The first of these types whose parent is the built-in answer and that matches the bytes, or else the wider
+     * answer. */
     std::optional<found> get(bytes of) const {
         std::array<char, INFER_TYPES_TEXT_SIZE> mime_type{}, extension{};
         const std::int32_t class_code = infer_types_get(text_.data(), text_.size(), of.data(), of.size(), mime_type.data(), mime_type.size(), extension.data(), extension.size());
@@ -164,7 +167,7 @@ public:
         return found{mime_type.data(), extension.data(), static_cast<infer_class_code>(class_code)};
     }
 
-    /* The number of the line, from 1, whose type that is, and nothing if it is the wider answer. */
+    /* The number of the line, from 1, that describes this type, and nothing if it is the wider answer. */
     std::optional<std::size_t> line(bytes of) const noexcept {
         const std::size_t number = infer_types_line(text_.data(), text_.size(), of.data(), of.size());
         return number > 0 ? std::optional(number) : std::nullopt;
