@@ -1,6 +1,6 @@
-/* Prints the MIME type of each file that is named, told by all of its bytes: the file is mapped into memory, and of a
- * large one only the pages that decide are read. Map only files that nobody shortens meanwhile: a page that is gone
- * when it is looked at ends the program by SIGBUS. */
+/* Prints the MIME type of each file in the arguments, by all of its bytes: the file is mapped into memory, and of a
+ * large file only the pages that decide are read. Map only files that nobody shortens meanwhile: to look at a page that
+ * is gone ends the program with SIGBUS. */
 #define _POSIX_C_SOURCE 200809L
 #include "infer.h"
 #include <errno.h>
