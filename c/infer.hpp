@@ -173,9 +173,48 @@ public:
         return number > 0 ? std::optional(number) : std::nullopt;
     }
 
+    /* The text. */
+    const std::string &text() const noexcept { return text_; }
+
 private:
     std::string text_;
 };
+
+/* What a line is asked for. As it is made, the usual: `own` are types that come first, and `content_type` is what a browser
+ * was told. */
+struct label_options {
+    infer_label_look look = INFER_LABEL_NAME_AND_BYTES;
+    infer_label_form form = INFER_LABEL_TEXT;
+    std::uint32_t flags = 0;
+    const types *own = nullptr;
+    std::string_view content_type = {};
+    std::size_t size = 0;
+};
+
+namespace detail {
+/* A text that a call writes, which is asked again if there was no room for it. */
+template <class Write> std::string written(Write write) {
+    std::string text(255, '\0');
+    const std::size_t room = text.size(), size = write(text.data(), room + 1);
+    text.resize(size);
+    if (size > room) write(text.data(), size + 1);
+    return text;
+}
+} // namespace detail
+
+/* The line of a file, as the program infer_label prints it, with its end; and in `told`, if there is one, what it tells. */
+inline std::string label_line(std::string_view name, bytes of, const label_options &options = {}, infer_label_told *told = nullptr) {
+    const std::string_view own = options.own ? std::string_view(options.own->text()) : std::string_view(), type = options.content_type;
+    const infer_label_options asked = {static_cast<std::uint32_t>(options.look), static_cast<std::uint32_t>(options.form), options.flags, own.data(), own.size(), type.data(), type.size(), options.size};
+    return detail::written([&](char *out, std::size_t size) { return infer_label_line(name.data(), name.size(), of.data(), of.size(), &asked, told, out, size); });
+}
+
+/* The line of a file of which only a text is told: why it could not be read, or what it is if it has no bytes. */
+inline std::string label_note(std::string_view name, infer_label_noted note, std::string_view text, const label_options &options = {}) {
+    return detail::written([&](char *out, std::size_t size) {
+        return infer_label_note(name.data(), name.size(), static_cast<std::uint32_t>(note), text.data(), text.size(), static_cast<std::uint32_t>(options.form), options.flags, out, size);
+    });
+}
 
 } // namespace infer
 

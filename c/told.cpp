@@ -156,6 +156,31 @@ static void own_types() {
     }
 }
 
+/* The line that C writes of a name and bytes, and what it tells. */
+static std::string line_of_c(std::string_view name, infer::bytes of, const infer_label_options &options, infer_label_told &told) {
+    std::array<char, 4096> out{};
+    return {out.data(), infer_label_line(name.data(), name.size(), of.data(), of.size(), &options, &told, out.data(), out.size())};
+}
+
+static void lines() {
+    const std::string long_name = std::string(700, 'a') + ".png";
+    const infer::types own("qoi image/qoi image - 4: @0 \"qoif\"");
+    wants("the usual line", infer::label_line("main.py", "import os\n"sv) == "main.py: text/x-python py, us-ascii, name refines\n" && infer::label_line({}, {}) == ": empty\n");
+    for (const std::string_view name : {""sv, "a.png"sv, "\0\xFF"sv, std::string_view(long_name)})
+        for (const infer::bytes of : {infer::bytes(), infer::bytes("\xFF\xD8\xFF"sv), infer::bytes("qoif"sv), infer::bytes("<p>"sv)})
+            for (std::uint32_t asked = 0; asked < 5 * 4 * 8 * 2; asked++) {
+                const infer::label_options options = {static_cast<infer_label_look>(asked % 5), static_cast<infer_label_form>(asked / 5 % 4), asked / 20 % 8, asked < 160 ? nullptr : &own, "image/png", 7};
+                const infer_label_options in_c = {asked % 5, asked / 5 % 4, asked / 20 % 8, own.text().data(), asked < 160 ? 0 : own.text().size(), "image/png", 9, 7};
+                infer_label_told told{}, told_in_c{};
+                const bool is_same = infer::label_line(name, of, options, &told) == line_of_c(name, of, in_c, told_in_c);
+                if (!is_same || told.standing != told_in_c.standing || told.is_known != told_in_c.is_known) wants("a line is another than in C", false);
+            }
+    infer::label_options json;
+    json.form = INFER_LABEL_JSON;
+    wants("notes", infer::label_note("a", INFER_LABEL_FAULT, "gone") == "a: gone\n" && infer::label_note("a", INFER_LABEL_KIND, "fifo", json) == "{\"name\":\"a\",\"kind\":\"fifo\"}\n");
+    wants("a long note", infer::label_note(long_name, INFER_LABEL_KIND, "fifo") == long_name + ": fifo\n");
+}
+
 int main(int argc, char **argv) {
     if (argc != 2 || chdir(argv[1]) != 0) return std::puts("usage: told_cpp FOLDER"), 2;
     views();
@@ -163,6 +188,7 @@ int main(int argc, char **argv) {
     streams_and_files();
     pieces();
     own_types();
+    lines();
     std::printf("%d answers of C++ compared, %d differ\n", compared, differing);
     return differing != 0;
 }
