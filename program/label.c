@@ -186,7 +186,7 @@ static const char *kind_text(const struct options *options, const char *kind) {
         if (strcmp(kind, kinds[i][0]) == 0)
             return kinds[i][1];
     bool is_hint = options->line.form == INFER_LABEL_TEXT && strcmp(kind, "folder") == 0;
-    return is_hint ? "folder, -r walks it" : kind;
+    return is_hint ? "folder (-r walks it)" : kind;
 }
 
 static void put_kind(struct labeller *labeller, const char *name, size_t name_size, const char *kind, struct item *item, struct text *lines) {

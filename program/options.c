@@ -32,13 +32,15 @@ static const struct option words[] = {
 };
 
 /* Refuses the words. What is given is shown as a name is. */
-static void refuse(const char *why, const char *word) {
+static void refuse_with(const char *why, const char *word, const char *hint) {
     static struct text shown;
     put_shown(&shown, word, strlen(word));
-    fprintf(stderr, "infer_label: %s%.*s\n", why, (int)shown.size, shown.bytes);
+    fprintf(stderr, "infer_label: %s%.*s%s\n", why, (int)shown.size, shown.bytes, hint);
     fputs("usage: infer_label [OPTION ..] [PATH ..], and infer_label -h says more\n", stderr);
     exit(FAILED);
 }
+
+static void refuse(const char *why, const char *word) { refuse_with(why, word, ""); }
 
 void refuse_file(const char *path, const char *why) {
     static struct text shown;
@@ -66,17 +68,19 @@ static size_t distance(const char *left, const char *right) {
     return row[right_size];
 }
 
-/* Tells of a wrong word, with the nearest right one. */
+/* Tells of a wrong word, with the nearest right one. Letters may stand together in a word. */
 static void refuse_word(const char *word) {
-    const char *name = word + strspn(word, "-");
-    char given[64], why[128];
+    const char letter[] = {'-', (char)optopt, 0}, *name = word + strspn(word, "-");
+    char given[64], hint[64];
+    if (optopt != 0 && optopt < ONE_SYSTEM)
+        refuse("no option ", letter);
     snprintf(given, sizeof given, "%.*s", (int)strcspn(name, "="), name);
     const struct option *best = words;
     for (const struct option *it = words; it->name; it++)
         best = distance(given, it->name) < distance(given, best->name) ? it : best;
     bool is_near = strlen(given) > 1 && distance(given, best->name) <= 1 + strlen(given) / 3;
-    snprintf(why, sizeof why, is_near ? "no option, or --%s: " : "no option: ", best->name);
-    refuse(why, word);
+    snprintf(hint, sizeof hint, "; did you mean --%s?", best->name);
+    refuse_with("no option ", word, is_near ? hint : "");
 }
 
 static unsigned long number(const char *word, unsigned long least, unsigned long most, const char *why) {

@@ -36,19 +36,11 @@ static size_t json_type_size(const char *line, size_t size) {
     return end;
 }
 
-/* The same of a text: up to the first ", " or ": ". */
-static size_t text_type_size(const char *line, size_t size) {
-    size_t end = 0;
-    while (end + 1 < size && !((line[end] == ',' || line[end] == ':') && line[end + 1] == ' '))
-        end++;
-    return end;
-}
-
 /* What is told of the type, with what a name says that lies. */
 static void put_type(const struct options *options, const char *line, size_t size, bool is_lie, struct text *type) {
     bool is_json = options->line.form == INFER_LABEL_JSON;
     const char *mark = is_json ? ",\"named\":" : ": named ";
-    put_bytes(type, line, is_json ? json_type_size(line, size) : text_type_size(line, size));
+    put_bytes(type, line, is_json ? json_type_size(line, size) : type_size(line, size));
     const char *named = is_lie && options->is_lies ? memmem(line, size, mark, strlen(mark)) : NULL;
     if (named && is_json)
         put_bytes(type, named, size - (size_t)(named - line) - (sizeof "}\n" - 1));

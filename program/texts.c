@@ -60,3 +60,11 @@ void put_shown(struct text *text, const char *name, size_t size) {
     } while (got >= room);
     text->size += got - (sizeof ": \n" - 1);
 }
+
+/* The length of what a line tells of the type: up to the first ", " or ": ", or to its end. */
+size_t type_size(const char *line, size_t size) {
+    size_t end = 0;
+    while (end < size && line[end] != '\n' && !(end + 1 < size && (line[end] == ',' || line[end] == ':') && line[end + 1] == ' '))
+        end++;
+    return end;
+}
