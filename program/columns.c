@@ -88,7 +88,7 @@ static size_t terminal_width(void) {
 /* Columns are for texts on a terminal. The first is as wide as the widest path, if all are known, and at most 28 of 80. */
 void prepare_columns(struct options *options, char **paths) {
     size_t widest = strlen(options->input_name);
-    options->is_columns = options->is_terminal && options->line.form == INFER_LABEL_TEXT && !options->is_summary;
+    options->is_columns = options->is_terminal && options->line.form == INFER_LABEL_TEXT;
     if (!options->is_columns)
         return;
     whole_width = terminal_width();

@@ -18,8 +18,6 @@ int main(int argc, char **argv) {
     setlocale(LC_ALL, "");
     /* A reader that is gone is a failed write. */
     signal(SIGPIPE, SIG_IGN);
-    options.is_terminal = isatty(STDOUT_FILENO);
-    options.is_colored = options.is_terminal && !getenv("NO_COLOR");
     read_words(argc, argv, &options);
     if (options.is_list) {
         list_types();

@@ -116,10 +116,11 @@ static void read_types(struct options *options, const char *path) {
 }
 
 static bool is_colored(const char *when) {
+    const char *refused = getenv("NO_COLOR");
     if (!when || strcmp(when, "always") == 0)
         return true;
     if (strcmp(when, "auto") == 0)
-        return isatty(STDOUT_FILENO);
+        return isatty(STDOUT_FILENO) && !(refused && *refused);
     if (strcmp(when, "never") != 0)
         refuse("--color is auto, always or never: ", when);
     return false;
@@ -225,6 +226,7 @@ static void check(const struct options *options, bool has_paths) {
 void read_words(int argc, char **argv, struct options *options) {
     int word;
     options->excluded = allocated(calloc((size_t)argc, sizeof *options->excluded));
+    options->is_colored = is_colored("auto");
     opterr = 0;
     while ((word = getopt_long(argc, argv, ":0bhr", words, NULL)) >= 0)
         take_word(options, word, argv);
@@ -238,6 +240,7 @@ void read_words(int argc, char **argv, struct options *options) {
         options->line.flags = (options->line.flags | INFER_LABEL_NO_NAME) & ~(uint32_t)INFER_LABEL_WHY;
     options->line.flags |= INFER_LABEL_SIZE;
     /* A terminal gets each line at once, and no thread waits for a further name meanwhile. */
+    options->is_terminal = isatty(STDOUT_FILENO) && !options->is_summary;
     if (options->is_terminal)
         options->threads = 1;
 }

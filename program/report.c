@@ -11,7 +11,8 @@ struct report {
     const struct options *options;
     struct summary *summary; /* of the files, or a null pointer */
     uintmax_t files, faults;
-    bool has_unknown, has_lie, is_shown; /* progress is shown */
+    bool has_unknown, has_lie;
+    bool has_progress, is_shown; /* whether progress is told, and stands on the terminal now */
     long long shown;
 };
 
@@ -24,7 +25,7 @@ static long long now(void) {
 struct report *new_report(const struct options *options) {
     struct report *report = allocated(calloc(1, sizeof *report));
     report->options = options;
-    report->is_shown = options->is_progress && isatty(STDERR_FILENO);
+    report->has_progress = options->is_progress && isatty(STDERR_FILENO);
     if (options->is_summary)
         report->summary = new_summary(options);
     else if (options->line.form == INFER_LABEL_CSV)
@@ -35,11 +36,19 @@ struct report *new_report(const struct options *options) {
 
 /* Writes how many files there were so far, without a name, which can have bytes that a terminal obeys. */
 static void show_progress(struct report *report) {
-    long long time = report->is_shown ? now() : 0;
-    if (!report->is_shown || time - report->shown < PACE)
+    long long time = report->has_progress ? now() : 0;
+    if (!report->has_progress || time - report->shown < PACE)
         return;
     report->shown = time;
+    report->is_shown = true;
     fprintf(stderr, "\r%ju files, %ju faults\033[K", report->files, report->faults);
+}
+
+/* Takes it away, so that a line can stand there. */
+static void hide_progress(struct report *report) {
+    if (report->is_shown)
+        fputs("\r\033[K", stderr);
+    report->is_shown = false;
 }
 
 /* Faults are told on standard error, but for JSON and CSV, which have a place for them. */
@@ -48,19 +57,21 @@ static bool is_for_error(const struct report *report, const struct item *item) {
     return item->is_fault && (report->summary || !has_place);
 }
 
-static void write_line(const struct report *report, const struct batch *batch, const struct item *item) {
+static void write_line(struct report *report, const struct batch *batch, const struct item *item) {
     const char *line = batch->lines.bytes + item->line;
-    bool is_colored = item->is_lie && report->options->is_colored;
     if (is_for_error(report, item)) {
+        hide_progress(report);
         fflush(stdout);
         fwrite(line, 1, item->line_size, stderr);
         return;
     }
-    if (is_colored)
-        fputs("\033[31m", stdout);
-    fwrite(line, 1, item->line_size - is_colored, stdout);
-    if (is_colored)
-        fputs("\033[0m\n", stdout);
+    if (report->options->is_terminal)
+        hide_progress(report);
+    size_t colored = item->is_lie && report->options->is_colored ? (size_t)((const char *)memchr(line, '\n', item->line_size) - line) : 0;
+    fputs(colored > 0 ? "\033[31m" : "", stdout);
+    fwrite(line, 1, colored, stdout);
+    fputs(colored > 0 ? "\033[0m" : "", stdout);
+    fwrite(line + colored, 1, item->line_size - colored, stdout);
 }
 
 static void report_item(struct report *report, const struct batch *batch, const struct item *item) {
@@ -87,8 +98,7 @@ bool report_batch(struct report *report, const struct batch *batch) {
 enum status end_report(struct report *report) {
     bool is_lies = report->options->is_lies;
     bool is_some = is_lies ? report->has_lie : report->has_unknown;
-    if (report->is_shown)
-        fputs("\r\033[K", stderr);
+    hide_progress(report);
     if (report->summary)
         put_summary(report->summary, report->faults);
     bool has_failed = !end_output() || report->faults > 0;
