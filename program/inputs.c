@@ -17,6 +17,13 @@ struct inputs {
     bool has_failed;
 };
 
+/* Tells why the names cannot be read. */
+static void tell_names(const struct options *options) {
+    char why[128];
+    snprintf(why, sizeof why, ": %s", strerror(errno));
+    tell_file(options->files0, why);
+}
+
 struct inputs *open_inputs(const struct options *options, char **paths) {
     static char standard_input[] = "-";
     static char *input[] = {standard_input, NULL};
@@ -27,9 +34,8 @@ struct inputs *open_inputs(const struct options *options, char **paths) {
     if (options->files0)
         inputs->names = strcmp(options->files0, "-") == 0 ? stdin : fopen(options->files0, "rb");
     if (options->files0 && !inputs->names) {
-        char why[128];
-        snprintf(why, sizeof why, ": %s", strerror(errno));
-        refuse_file(options->files0, why);
+        tell_names(options);
+        exit(FAILED);
     }
     return inputs;
 }
@@ -128,7 +134,10 @@ static void add_word(struct inputs *inputs, struct batch *batch) {
 static void add_name(struct inputs *inputs, struct batch *batch) {
     ssize_t size = getdelim(&inputs->name, &inputs->name_room, 0, inputs->names);
     if (size < 0) {
-        inputs->has_failed = inputs->has_failed || ferror(inputs->names);
+        if (ferror(inputs->names)) {
+            tell_names(inputs->options);
+            inputs->has_failed = true;
+        }
         if (inputs->names != stdin)
             fclose(inputs->names);
         inputs->names = NULL;

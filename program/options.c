@@ -42,10 +42,15 @@ static void refuse_with(const char *why, const char *word, const char *hint) {
 
 static void refuse(const char *why, const char *word) { refuse_with(why, word, ""); }
 
-void refuse_file(const char *path, const char *why) {
+void tell_file(const char *path, const char *why) {
     static struct text shown;
+    shown.size = 0;
     put_shown(&shown, path, strlen(path));
     fprintf(stderr, "infer_label: %.*s%s\n", (int)shown.size, shown.bytes, why);
+}
+
+void refuse_file(const char *path, const char *why) {
+    tell_file(path, why);
     exit(FAILED);
 }
 

@@ -61,6 +61,7 @@ bool end_output(void);
 void *allocated(void *memory);
 
 /* options.c */
+void tell_file(const char *path, const char *why);
 void refuse_file(const char *path, const char *why) __attribute__((noreturn));
 void read_words(int argc, char **argv, struct options *options);
 
