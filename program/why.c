@@ -30,7 +30,12 @@ static bool accepts(const infer_range *range, int32_t row, int32_t built_in) { r
 
 static void put_range(const infer_range *range, bool is_own, struct text *lines) {
     put_text(lines, "    ");
-    if (is_own) {
+    if (is_own && infer_class(range->row) == INFER_TEXT) {
+        /* It may be all of a text, which has no signature. */
+        put_type(range->row, lines);
+        put_text(lines, " text, by ");
+        put_bytes_of(range, lines);
+    } else if (is_own) {
         put_type(range->row, lines);
         put_format(lines, range->step == 1 ? " signature at %zu" : " signature, searched from %zu", range->place);
     } else if (range->row >= 0) {
