@@ -105,15 +105,15 @@ pub(crate) fn found_below(buf: &[u8], row: usize) -> usize
     }}
 }}
 """
-BY_NUMBER = """//! Made by `tools/tables` from the further rows: code of its own for each that asks for bytes at fixed places.
+BY_NUMBER = """//! Made by `tools/tables` from the further rows: code of its own for each that the index has tried.
 ghost use Rattle.std.specs.Prelude.{{◌↔◌, IsTrue}};
 ghost use Rattle.infer_more.specs.Wider.{{WidensAt}};
 
 use crate::table::{{widens_any, widens_row}};
 
 {}
-/// Whether further row `i` has this parent and accepts the buffer: code of its own for each row that asks for bytes at fixed
-/// places, and the evaluator itself for the others.
+/// Whether further row `i` has this parent and accepts the buffer: code of its own for each row that the index has tried, and
+/// the evaluator itself for those that it tells by names.
 #[inline(never)]
 pub(crate) fn widens(i: usize, parent: Option<usize>, buf: &[u8]) -> bool
     ensures {{ IsTrue result ↔ WidensAt parent buf.now i }}
@@ -224,8 +224,8 @@ TOLD_BYTES, TOLD_MARK = b"\t\n\r <{\xEF", 1 << 63
 TAGGED = {"DirectoryTag", "DirectoryTagAndMake"}
 # What is told without a parent and not tried.
 TOLD = TEXTS | {"Root", "RootWith", "FirstKey", "FirstKeyWith"}
-# What asks for bytes at fixed places.
-FIXED = {"", "BinaryBytes"}
+# What is told with a parent or without one.
+NOT_TRIED = TOLD | {"ClassId", "PackageWith", "Program"}
 COMMON = set(b" etaoinshrdlu\n\x00\x01\xFF")
 RELATIONS = "crates/infer_formats/specs/Relation.antt"
 # What every buffer has that fits an alternative which looks inside, where RELATIONS names other definitions, or asks for more
@@ -1088,8 +1088,8 @@ def by_block(parts):
 
 
 def by_number(rows):
-    """The file with each row by its number, and with code for each that asks for bytes at fixed places."""
-    parts = cut([k for k, row in enumerate(rows) if {it.name for it in row.signature} & FIXED], 2 * MOST_ARMS)
+    """The file with each row by its number, and with code for each that is tried."""
+    parts = cut([k for k, row in enumerate(rows) if {it.name for it in row.signature} - NOT_TRIED], 2 * MOST_ARMS)
     return BY_NUMBER.format("\n".join(map(block, parts)), textwrap.indent(by_block(parts), "    "))
 
 

@@ -74,6 +74,7 @@ pub fn get_with<A: Allocator>(infer: &Infer<A>, buf: &[u8]) -> Option<Type>
 }
 
 /// The number of the wider answer of `buf`, and `None` exactly if no row accepts it.
+#[inline(always)]
 pub fn position(buf: &[u8]) -> Option<usize>
     ensures wider { IsWider buf.now result }
     ensures bound { IfSome result (λ i. i < ROW_COUNT + FURTHER_COUNT) }

@@ -1,15 +1,21 @@
-//! Made by `tools/tables` from the further rows: code of its own for each that asks for bytes at fixed places.
+//! Made by `tools/tables` from the further rows: code of its own for each that the index has tried.
 ghost use Rattle.std.specs.Prelude.{◌↔◌, IsTrue};
 ghost use Rattle.infer_more.specs.Wider.{WidensAt};
 
 use crate::table::{widens_any, widens_row};
 
-/// [`widens`] for some rows from 87 on.
+/// [`widens`] for some rows from 81 on.
 #[inline(always)]
-fn widens_from_87(i: usize, parent: Option<usize>, buf: &[u8]) -> bool
+fn widens_from_81(i: usize, parent: Option<usize>, buf: &[u8]) -> bool
     ensures { IsTrue result ↔ WidensAt parent buf.now i }
 {
     match i {
+        81 => widens_row::<81>(parent, buf),
+        82 => widens_row::<82>(parent, buf),
+        83 => widens_row::<83>(parent, buf),
+        84 => widens_row::<84>(parent, buf),
+        85 => widens_row::<85>(parent, buf),
+        86 => widens_row::<86>(parent, buf),
         87 => widens_row::<87>(parent, buf),
         88 => widens_row::<88>(parent, buf),
         89 => widens_row::<89>(parent, buf),
@@ -46,6 +52,7 @@ fn widens_from_87(i: usize, parent: Option<usize>, buf: &[u8]) -> bool
         120 => widens_row::<120>(parent, buf),
         121 => widens_row::<121>(parent, buf),
         122 => widens_row::<122>(parent, buf),
+        123 => widens_row::<123>(parent, buf),
         124 => widens_row::<124>(parent, buf),
         125 => widens_row::<125>(parent, buf),
         126 => widens_row::<126>(parent, buf),
@@ -58,13 +65,7 @@ fn widens_from_87(i: usize, parent: Option<usize>, buf: &[u8]) -> bool
         133 => widens_row::<133>(parent, buf),
         134 => widens_row::<134>(parent, buf),
         135 => widens_row::<135>(parent, buf),
-        137 => widens_row::<137>(parent, buf),
-        138 => widens_row::<138>(parent, buf),
-        140 => widens_row::<140>(parent, buf),
-        141 => widens_row::<141>(parent, buf),
-        142 => widens_row::<142>(parent, buf),
-        143 => widens_row::<143>(parent, buf),
-        144 => widens_row::<144>(parent, buf),
+        136 => widens_row::<136>(parent, buf),
         _ => widens_any(i, parent, buf),
     }
 }
@@ -78,6 +79,10 @@ fn widens_from_0(i: usize, parent: Option<usize>, buf: &[u8]) -> bool
         0 => widens_row::<0>(parent, buf),
         1 => widens_row::<1>(parent, buf),
         2 => widens_row::<2>(parent, buf),
+        3 => widens_row::<3>(parent, buf),
+        4 => widens_row::<4>(parent, buf),
+        5 => widens_row::<5>(parent, buf),
+        6 => widens_row::<6>(parent, buf),
         12 => widens_row::<12>(parent, buf),
         13 => widens_row::<13>(parent, buf),
         14 => widens_row::<14>(parent, buf),
@@ -93,6 +98,8 @@ fn widens_from_0(i: usize, parent: Option<usize>, buf: &[u8]) -> bool
         28 => widens_row::<28>(parent, buf),
         29 => widens_row::<29>(parent, buf),
         30 => widens_row::<30>(parent, buf),
+        31 => widens_row::<31>(parent, buf),
+        32 => widens_row::<32>(parent, buf),
         33 => widens_row::<33>(parent, buf),
         34 => widens_row::<34>(parent, buf),
         35 => widens_row::<35>(parent, buf),
@@ -124,22 +131,35 @@ fn widens_from_0(i: usize, parent: Option<usize>, buf: &[u8]) -> bool
         78 => widens_row::<78>(parent, buf),
         79 => widens_row::<79>(parent, buf),
         80 => widens_row::<80>(parent, buf),
-        81 => widens_row::<81>(parent, buf),
-        82 => widens_row::<82>(parent, buf),
-        83 => widens_row::<83>(parent, buf),
-        84 => widens_row::<84>(parent, buf),
-        85 => widens_row::<85>(parent, buf),
-        86 => widens_row::<86>(parent, buf),
-        _ => widens_from_87(i, parent, buf),
+        _ => widens_from_81(i, parent, buf),
     }
 }
 
-/// [`widens`] for some rows from 236 on.
+/// [`widens`] for some rows from 217 on.
 #[inline(always)]
-fn widens_from_236(i: usize, parent: Option<usize>, buf: &[u8]) -> bool
+fn widens_from_217(i: usize, parent: Option<usize>, buf: &[u8]) -> bool
     ensures { IsTrue result ↔ WidensAt parent buf.now i }
 {
     match i {
+        217 => widens_row::<217>(parent, buf),
+        218 => widens_row::<218>(parent, buf),
+        219 => widens_row::<219>(parent, buf),
+        220 => widens_row::<220>(parent, buf),
+        221 => widens_row::<221>(parent, buf),
+        222 => widens_row::<222>(parent, buf),
+        223 => widens_row::<223>(parent, buf),
+        224 => widens_row::<224>(parent, buf),
+        225 => widens_row::<225>(parent, buf),
+        226 => widens_row::<226>(parent, buf),
+        227 => widens_row::<227>(parent, buf),
+        228 => widens_row::<228>(parent, buf),
+        229 => widens_row::<229>(parent, buf),
+        230 => widens_row::<230>(parent, buf),
+        231 => widens_row::<231>(parent, buf),
+        232 => widens_row::<232>(parent, buf),
+        233 => widens_row::<233>(parent, buf),
+        234 => widens_row::<234>(parent, buf),
+        235 => widens_row::<235>(parent, buf),
         236 => widens_row::<236>(parent, buf),
         237 => widens_row::<237>(parent, buf),
         238 => widens_row::<238>(parent, buf),
@@ -177,36 +197,32 @@ fn widens_from_236(i: usize, parent: Option<usize>, buf: &[u8]) -> bool
         270 => widens_row::<270>(parent, buf),
         271 => widens_row::<271>(parent, buf),
         272 => widens_row::<272>(parent, buf),
-        273 => widens_row::<273>(parent, buf),
-        274 => widens_row::<274>(parent, buf),
-        275 => widens_row::<275>(parent, buf),
-        276 => widens_row::<276>(parent, buf),
-        277 => widens_row::<277>(parent, buf),
-        278 => widens_row::<278>(parent, buf),
-        279 => widens_row::<279>(parent, buf),
-        280 => widens_row::<280>(parent, buf),
-        281 => widens_row::<281>(parent, buf),
-        282 => widens_row::<282>(parent, buf),
-        283 => widens_row::<283>(parent, buf),
-        284 => widens_row::<284>(parent, buf),
-        285 => widens_row::<285>(parent, buf),
-        286 => widens_row::<286>(parent, buf),
-        287 => widens_row::<287>(parent, buf),
-        288 => widens_row::<288>(parent, buf),
-        289 => widens_row::<289>(parent, buf),
-        290 => widens_row::<290>(parent, buf),
-        291 => widens_row::<291>(parent, buf),
         _ => widens_any(i, parent, buf),
     }
 }
 
-/// [`widens`] for some rows from 145 on.
+/// [`widens`] for some rows from 137 on.
 #[inline(always)]
-fn widens_from_145(i: usize, parent: Option<usize>, buf: &[u8]) -> bool
+fn widens_from_137(i: usize, parent: Option<usize>, buf: &[u8]) -> bool
     ensures { IsTrue result ↔ WidensAt parent buf.now i }
 {
     match i {
+        137 => widens_row::<137>(parent, buf),
+        138 => widens_row::<138>(parent, buf),
+        139 => widens_row::<139>(parent, buf),
+        140 => widens_row::<140>(parent, buf),
+        141 => widens_row::<141>(parent, buf),
+        142 => widens_row::<142>(parent, buf),
+        143 => widens_row::<143>(parent, buf),
+        144 => widens_row::<144>(parent, buf),
         145 => widens_row::<145>(parent, buf),
+        146 => widens_row::<146>(parent, buf),
+        147 => widens_row::<147>(parent, buf),
+        148 => widens_row::<148>(parent, buf),
+        149 => widens_row::<149>(parent, buf),
+        150 => widens_row::<150>(parent, buf),
+        151 => widens_row::<151>(parent, buf),
+        152 => widens_row::<152>(parent, buf),
         154 => widens_row::<154>(parent, buf),
         155 => widens_row::<155>(parent, buf),
         156 => widens_row::<156>(parent, buf),
@@ -247,30 +263,39 @@ fn widens_from_145(i: usize, parent: Option<usize>, buf: &[u8]) -> bool
         214 => widens_row::<214>(parent, buf),
         215 => widens_row::<215>(parent, buf),
         216 => widens_row::<216>(parent, buf),
-        217 => widens_row::<217>(parent, buf),
-        218 => widens_row::<218>(parent, buf),
-        219 => widens_row::<219>(parent, buf),
-        220 => widens_row::<220>(parent, buf),
-        221 => widens_row::<221>(parent, buf),
-        222 => widens_row::<222>(parent, buf),
-        223 => widens_row::<223>(parent, buf),
-        224 => widens_row::<224>(parent, buf),
-        225 => widens_row::<225>(parent, buf),
-        226 => widens_row::<226>(parent, buf),
-        227 => widens_row::<227>(parent, buf),
-        228 => widens_row::<228>(parent, buf),
-        229 => widens_row::<229>(parent, buf),
-        230 => widens_row::<230>(parent, buf),
-        _ => widens_from_236(i, parent, buf),
+        _ => widens_from_217(i, parent, buf),
     }
 }
 
-/// [`widens`] for some rows from 375 on.
+/// [`widens`] for some rows from 352 on.
 #[inline(always)]
-fn widens_from_375(i: usize, parent: Option<usize>, buf: &[u8]) -> bool
+fn widens_from_352(i: usize, parent: Option<usize>, buf: &[u8]) -> bool
     ensures { IsTrue result ↔ WidensAt parent buf.now i }
 {
     match i {
+        352 => widens_row::<352>(parent, buf),
+        353 => widens_row::<353>(parent, buf),
+        354 => widens_row::<354>(parent, buf),
+        355 => widens_row::<355>(parent, buf),
+        356 => widens_row::<356>(parent, buf),
+        357 => widens_row::<357>(parent, buf),
+        358 => widens_row::<358>(parent, buf),
+        359 => widens_row::<359>(parent, buf),
+        360 => widens_row::<360>(parent, buf),
+        361 => widens_row::<361>(parent, buf),
+        362 => widens_row::<362>(parent, buf),
+        363 => widens_row::<363>(parent, buf),
+        364 => widens_row::<364>(parent, buf),
+        365 => widens_row::<365>(parent, buf),
+        366 => widens_row::<366>(parent, buf),
+        367 => widens_row::<367>(parent, buf),
+        368 => widens_row::<368>(parent, buf),
+        369 => widens_row::<369>(parent, buf),
+        370 => widens_row::<370>(parent, buf),
+        371 => widens_row::<371>(parent, buf),
+        372 => widens_row::<372>(parent, buf),
+        373 => widens_row::<373>(parent, buf),
+        374 => widens_row::<374>(parent, buf),
         375 => widens_row::<375>(parent, buf),
         376 => widens_row::<376>(parent, buf),
         377 => widens_row::<377>(parent, buf),
@@ -304,39 +329,35 @@ fn widens_from_375(i: usize, parent: Option<usize>, buf: &[u8]) -> bool
         405 => widens_row::<405>(parent, buf),
         406 => widens_row::<406>(parent, buf),
         407 => widens_row::<407>(parent, buf),
-        408 => widens_row::<408>(parent, buf),
-        409 => widens_row::<409>(parent, buf),
-        410 => widens_row::<410>(parent, buf),
-        411 => widens_row::<411>(parent, buf),
-        412 => widens_row::<412>(parent, buf),
-        413 => widens_row::<413>(parent, buf),
-        414 => widens_row::<414>(parent, buf),
-        415 => widens_row::<415>(parent, buf),
-        416 => widens_row::<416>(parent, buf),
-        417 => widens_row::<417>(parent, buf),
-        418 => widens_row::<418>(parent, buf),
-        419 => widens_row::<419>(parent, buf),
-        420 => widens_row::<420>(parent, buf),
-        421 => widens_row::<421>(parent, buf),
-        422 => widens_row::<422>(parent, buf),
-        423 => widens_row::<423>(parent, buf),
-        424 => widens_row::<424>(parent, buf),
-        425 => widens_row::<425>(parent, buf),
-        426 => widens_row::<426>(parent, buf),
-        427 => widens_row::<427>(parent, buf),
-        428 => widens_row::<428>(parent, buf),
-        429 => widens_row::<429>(parent, buf),
-        430 => widens_row::<430>(parent, buf),
         _ => widens_any(i, parent, buf),
     }
 }
 
-/// [`widens`] for some rows from 292 on.
+/// [`widens`] for some rows from 273 on.
 #[inline(always)]
-fn widens_from_292(i: usize, parent: Option<usize>, buf: &[u8]) -> bool
+fn widens_from_273(i: usize, parent: Option<usize>, buf: &[u8]) -> bool
     ensures { IsTrue result ↔ WidensAt parent buf.now i }
 {
     match i {
+        273 => widens_row::<273>(parent, buf),
+        274 => widens_row::<274>(parent, buf),
+        275 => widens_row::<275>(parent, buf),
+        276 => widens_row::<276>(parent, buf),
+        277 => widens_row::<277>(parent, buf),
+        278 => widens_row::<278>(parent, buf),
+        279 => widens_row::<279>(parent, buf),
+        280 => widens_row::<280>(parent, buf),
+        281 => widens_row::<281>(parent, buf),
+        282 => widens_row::<282>(parent, buf),
+        283 => widens_row::<283>(parent, buf),
+        284 => widens_row::<284>(parent, buf),
+        285 => widens_row::<285>(parent, buf),
+        286 => widens_row::<286>(parent, buf),
+        287 => widens_row::<287>(parent, buf),
+        288 => widens_row::<288>(parent, buf),
+        289 => widens_row::<289>(parent, buf),
+        290 => widens_row::<290>(parent, buf),
+        291 => widens_row::<291>(parent, buf),
         292 => widens_row::<292>(parent, buf),
         293 => widens_row::<293>(parent, buf),
         294 => widens_row::<294>(parent, buf),
@@ -355,6 +376,11 @@ fn widens_from_292(i: usize, parent: Option<usize>, buf: &[u8]) -> bool
         327 => widens_row::<327>(parent, buf),
         328 => widens_row::<328>(parent, buf),
         329 => widens_row::<329>(parent, buf),
+        330 => widens_row::<330>(parent, buf),
+        331 => widens_row::<331>(parent, buf),
+        332 => widens_row::<332>(parent, buf),
+        333 => widens_row::<333>(parent, buf),
+        334 => widens_row::<334>(parent, buf),
         338 => widens_row::<338>(parent, buf),
         339 => widens_row::<339>(parent, buf),
         340 => widens_row::<340>(parent, buf),
@@ -369,39 +395,39 @@ fn widens_from_292(i: usize, parent: Option<usize>, buf: &[u8]) -> bool
         349 => widens_row::<349>(parent, buf),
         350 => widens_row::<350>(parent, buf),
         351 => widens_row::<351>(parent, buf),
-        352 => widens_row::<352>(parent, buf),
-        353 => widens_row::<353>(parent, buf),
-        354 => widens_row::<354>(parent, buf),
-        355 => widens_row::<355>(parent, buf),
-        356 => widens_row::<356>(parent, buf),
-        357 => widens_row::<357>(parent, buf),
-        358 => widens_row::<358>(parent, buf),
-        359 => widens_row::<359>(parent, buf),
-        360 => widens_row::<360>(parent, buf),
-        361 => widens_row::<361>(parent, buf),
-        362 => widens_row::<362>(parent, buf),
-        363 => widens_row::<363>(parent, buf),
-        364 => widens_row::<364>(parent, buf),
-        365 => widens_row::<365>(parent, buf),
-        366 => widens_row::<366>(parent, buf),
-        367 => widens_row::<367>(parent, buf),
-        368 => widens_row::<368>(parent, buf),
-        369 => widens_row::<369>(parent, buf),
-        370 => widens_row::<370>(parent, buf),
-        371 => widens_row::<371>(parent, buf),
-        372 => widens_row::<372>(parent, buf),
-        373 => widens_row::<373>(parent, buf),
-        374 => widens_row::<374>(parent, buf),
-        _ => widens_from_375(i, parent, buf),
+        _ => widens_from_352(i, parent, buf),
     }
 }
 
-/// [`widens`] for some rows from 486 on.
+/// [`widens`] for some rows from 463 on.
 #[inline(always)]
-fn widens_from_486(i: usize, parent: Option<usize>, buf: &[u8]) -> bool
+fn widens_from_463(i: usize, parent: Option<usize>, buf: &[u8]) -> bool
     ensures { IsTrue result ↔ WidensAt parent buf.now i }
 {
     match i {
+        463 => widens_row::<463>(parent, buf),
+        464 => widens_row::<464>(parent, buf),
+        465 => widens_row::<465>(parent, buf),
+        466 => widens_row::<466>(parent, buf),
+        467 => widens_row::<467>(parent, buf),
+        468 => widens_row::<468>(parent, buf),
+        469 => widens_row::<469>(parent, buf),
+        470 => widens_row::<470>(parent, buf),
+        471 => widens_row::<471>(parent, buf),
+        472 => widens_row::<472>(parent, buf),
+        473 => widens_row::<473>(parent, buf),
+        474 => widens_row::<474>(parent, buf),
+        475 => widens_row::<475>(parent, buf),
+        476 => widens_row::<476>(parent, buf),
+        477 => widens_row::<477>(parent, buf),
+        478 => widens_row::<478>(parent, buf),
+        479 => widens_row::<479>(parent, buf),
+        480 => widens_row::<480>(parent, buf),
+        481 => widens_row::<481>(parent, buf),
+        482 => widens_row::<482>(parent, buf),
+        483 => widens_row::<483>(parent, buf),
+        484 => widens_row::<484>(parent, buf),
+        485 => widens_row::<485>(parent, buf),
         486 => widens_row::<486>(parent, buf),
         487 => widens_row::<487>(parent, buf),
         488 => widens_row::<488>(parent, buf),
@@ -435,39 +461,39 @@ fn widens_from_486(i: usize, parent: Option<usize>, buf: &[u8]) -> bool
         516 => widens_row::<516>(parent, buf),
         517 => widens_row::<517>(parent, buf),
         518 => widens_row::<518>(parent, buf),
-        519 => widens_row::<519>(parent, buf),
-        520 => widens_row::<520>(parent, buf),
-        521 => widens_row::<521>(parent, buf),
-        522 => widens_row::<522>(parent, buf),
-        523 => widens_row::<523>(parent, buf),
-        524 => widens_row::<524>(parent, buf),
-        525 => widens_row::<525>(parent, buf),
-        526 => widens_row::<526>(parent, buf),
-        527 => widens_row::<527>(parent, buf),
-        528 => widens_row::<528>(parent, buf),
-        529 => widens_row::<529>(parent, buf),
-        530 => widens_row::<530>(parent, buf),
-        531 => widens_row::<531>(parent, buf),
-        532 => widens_row::<532>(parent, buf),
-        533 => widens_row::<533>(parent, buf),
-        534 => widens_row::<534>(parent, buf),
-        535 => widens_row::<535>(parent, buf),
-        536 => widens_row::<536>(parent, buf),
-        537 => widens_row::<537>(parent, buf),
-        538 => widens_row::<538>(parent, buf),
-        539 => widens_row::<539>(parent, buf),
-        540 => widens_row::<540>(parent, buf),
-        541 => widens_row::<541>(parent, buf),
         _ => widens_any(i, parent, buf),
     }
 }
 
-/// [`widens`] for some rows from 431 on.
+/// [`widens`] for some rows from 408 on.
 #[inline(always)]
-fn widens_from_431(i: usize, parent: Option<usize>, buf: &[u8]) -> bool
+fn widens_from_408(i: usize, parent: Option<usize>, buf: &[u8]) -> bool
     ensures { IsTrue result ↔ WidensAt parent buf.now i }
 {
     match i {
+        408 => widens_row::<408>(parent, buf),
+        409 => widens_row::<409>(parent, buf),
+        410 => widens_row::<410>(parent, buf),
+        411 => widens_row::<411>(parent, buf),
+        412 => widens_row::<412>(parent, buf),
+        413 => widens_row::<413>(parent, buf),
+        414 => widens_row::<414>(parent, buf),
+        415 => widens_row::<415>(parent, buf),
+        416 => widens_row::<416>(parent, buf),
+        417 => widens_row::<417>(parent, buf),
+        418 => widens_row::<418>(parent, buf),
+        419 => widens_row::<419>(parent, buf),
+        420 => widens_row::<420>(parent, buf),
+        421 => widens_row::<421>(parent, buf),
+        422 => widens_row::<422>(parent, buf),
+        423 => widens_row::<423>(parent, buf),
+        424 => widens_row::<424>(parent, buf),
+        425 => widens_row::<425>(parent, buf),
+        426 => widens_row::<426>(parent, buf),
+        427 => widens_row::<427>(parent, buf),
+        428 => widens_row::<428>(parent, buf),
+        429 => widens_row::<429>(parent, buf),
+        430 => widens_row::<430>(parent, buf),
         431 => widens_row::<431>(parent, buf),
         432 => widens_row::<432>(parent, buf),
         433 => widens_row::<433>(parent, buf),
@@ -500,39 +526,38 @@ fn widens_from_431(i: usize, parent: Option<usize>, buf: &[u8]) -> bool
         460 => widens_row::<460>(parent, buf),
         461 => widens_row::<461>(parent, buf),
         462 => widens_row::<462>(parent, buf),
-        463 => widens_row::<463>(parent, buf),
-        464 => widens_row::<464>(parent, buf),
-        465 => widens_row::<465>(parent, buf),
-        466 => widens_row::<466>(parent, buf),
-        467 => widens_row::<467>(parent, buf),
-        468 => widens_row::<468>(parent, buf),
-        469 => widens_row::<469>(parent, buf),
-        470 => widens_row::<470>(parent, buf),
-        471 => widens_row::<471>(parent, buf),
-        472 => widens_row::<472>(parent, buf),
-        473 => widens_row::<473>(parent, buf),
-        474 => widens_row::<474>(parent, buf),
-        475 => widens_row::<475>(parent, buf),
-        476 => widens_row::<476>(parent, buf),
-        477 => widens_row::<477>(parent, buf),
-        478 => widens_row::<478>(parent, buf),
-        479 => widens_row::<479>(parent, buf),
-        480 => widens_row::<480>(parent, buf),
-        481 => widens_row::<481>(parent, buf),
-        482 => widens_row::<482>(parent, buf),
-        483 => widens_row::<483>(parent, buf),
-        484 => widens_row::<484>(parent, buf),
-        485 => widens_row::<485>(parent, buf),
-        _ => widens_from_486(i, parent, buf),
+        _ => widens_from_463(i, parent, buf),
     }
 }
 
-/// [`widens`] for some rows from 597 on.
+/// [`widens`] for some rows from 575 on.
 #[inline(always)]
-fn widens_from_597(i: usize, parent: Option<usize>, buf: &[u8]) -> bool
+fn widens_from_575(i: usize, parent: Option<usize>, buf: &[u8]) -> bool
     ensures { IsTrue result ↔ WidensAt parent buf.now i }
 {
     match i {
+        575 => widens_row::<575>(parent, buf),
+        576 => widens_row::<576>(parent, buf),
+        577 => widens_row::<577>(parent, buf),
+        578 => widens_row::<578>(parent, buf),
+        579 => widens_row::<579>(parent, buf),
+        580 => widens_row::<580>(parent, buf),
+        581 => widens_row::<581>(parent, buf),
+        582 => widens_row::<582>(parent, buf),
+        583 => widens_row::<583>(parent, buf),
+        584 => widens_row::<584>(parent, buf),
+        585 => widens_row::<585>(parent, buf),
+        586 => widens_row::<586>(parent, buf),
+        587 => widens_row::<587>(parent, buf),
+        588 => widens_row::<588>(parent, buf),
+        589 => widens_row::<589>(parent, buf),
+        590 => widens_row::<590>(parent, buf),
+        591 => widens_row::<591>(parent, buf),
+        592 => widens_row::<592>(parent, buf),
+        593 => widens_row::<593>(parent, buf),
+        594 => widens_row::<594>(parent, buf),
+        595 => widens_row::<595>(parent, buf),
+        596 => widens_row::<596>(parent, buf),
         597 => widens_row::<597>(parent, buf),
         598 => widens_row::<598>(parent, buf),
         599 => widens_row::<599>(parent, buf),
@@ -567,38 +592,39 @@ fn widens_from_597(i: usize, parent: Option<usize>, buf: &[u8]) -> bool
         628 => widens_row::<628>(parent, buf),
         629 => widens_row::<629>(parent, buf),
         630 => widens_row::<630>(parent, buf),
-        631 => widens_row::<631>(parent, buf),
-        632 => widens_row::<632>(parent, buf),
-        633 => widens_row::<633>(parent, buf),
-        634 => widens_row::<634>(parent, buf),
-        635 => widens_row::<635>(parent, buf),
-        636 => widens_row::<636>(parent, buf),
-        637 => widens_row::<637>(parent, buf),
-        638 => widens_row::<638>(parent, buf),
-        639 => widens_row::<639>(parent, buf),
-        640 => widens_row::<640>(parent, buf),
-        641 => widens_row::<641>(parent, buf),
-        642 => widens_row::<642>(parent, buf),
-        643 => widens_row::<643>(parent, buf),
-        644 => widens_row::<644>(parent, buf),
-        645 => widens_row::<645>(parent, buf),
-        646 => widens_row::<646>(parent, buf),
-        647 => widens_row::<647>(parent, buf),
-        648 => widens_row::<648>(parent, buf),
-        649 => widens_row::<649>(parent, buf),
-        650 => widens_row::<650>(parent, buf),
-        651 => widens_row::<651>(parent, buf),
-        652 => widens_row::<652>(parent, buf),
         _ => widens_any(i, parent, buf),
     }
 }
 
-/// [`widens`] for some rows from 542 on.
+/// [`widens`] for some rows from 519 on.
 #[inline(always)]
-fn widens_from_542(i: usize, parent: Option<usize>, buf: &[u8]) -> bool
+fn widens_from_519(i: usize, parent: Option<usize>, buf: &[u8]) -> bool
     ensures { IsTrue result ↔ WidensAt parent buf.now i }
 {
     match i {
+        519 => widens_row::<519>(parent, buf),
+        520 => widens_row::<520>(parent, buf),
+        521 => widens_row::<521>(parent, buf),
+        522 => widens_row::<522>(parent, buf),
+        523 => widens_row::<523>(parent, buf),
+        524 => widens_row::<524>(parent, buf),
+        525 => widens_row::<525>(parent, buf),
+        526 => widens_row::<526>(parent, buf),
+        527 => widens_row::<527>(parent, buf),
+        528 => widens_row::<528>(parent, buf),
+        529 => widens_row::<529>(parent, buf),
+        530 => widens_row::<530>(parent, buf),
+        531 => widens_row::<531>(parent, buf),
+        532 => widens_row::<532>(parent, buf),
+        533 => widens_row::<533>(parent, buf),
+        534 => widens_row::<534>(parent, buf),
+        535 => widens_row::<535>(parent, buf),
+        536 => widens_row::<536>(parent, buf),
+        537 => widens_row::<537>(parent, buf),
+        538 => widens_row::<538>(parent, buf),
+        539 => widens_row::<539>(parent, buf),
+        540 => widens_row::<540>(parent, buf),
+        541 => widens_row::<541>(parent, buf),
         542 => widens_row::<542>(parent, buf),
         543 => widens_row::<543>(parent, buf),
         544 => widens_row::<544>(parent, buf),
@@ -632,29 +658,139 @@ fn widens_from_542(i: usize, parent: Option<usize>, buf: &[u8]) -> bool
         572 => widens_row::<572>(parent, buf),
         573 => widens_row::<573>(parent, buf),
         574 => widens_row::<574>(parent, buf),
-        575 => widens_row::<575>(parent, buf),
-        576 => widens_row::<576>(parent, buf),
-        577 => widens_row::<577>(parent, buf),
-        578 => widens_row::<578>(parent, buf),
-        579 => widens_row::<579>(parent, buf),
-        580 => widens_row::<580>(parent, buf),
-        581 => widens_row::<581>(parent, buf),
-        582 => widens_row::<582>(parent, buf),
-        583 => widens_row::<583>(parent, buf),
-        584 => widens_row::<584>(parent, buf),
-        585 => widens_row::<585>(parent, buf),
-        586 => widens_row::<586>(parent, buf),
-        587 => widens_row::<587>(parent, buf),
-        588 => widens_row::<588>(parent, buf),
-        589 => widens_row::<589>(parent, buf),
-        590 => widens_row::<590>(parent, buf),
-        591 => widens_row::<591>(parent, buf),
-        592 => widens_row::<592>(parent, buf),
-        593 => widens_row::<593>(parent, buf),
-        594 => widens_row::<594>(parent, buf),
-        595 => widens_row::<595>(parent, buf),
-        596 => widens_row::<596>(parent, buf),
-        _ => widens_from_597(i, parent, buf),
+        _ => widens_from_575(i, parent, buf),
+    }
+}
+
+/// [`widens`] for some rows from 755 on.
+#[inline(always)]
+fn widens_from_755(i: usize, parent: Option<usize>, buf: &[u8]) -> bool
+    ensures { IsTrue result ↔ WidensAt parent buf.now i }
+{
+    match i {
+        755 => widens_row::<755>(parent, buf),
+        756 => widens_row::<756>(parent, buf),
+        757 => widens_row::<757>(parent, buf),
+        758 => widens_row::<758>(parent, buf),
+        759 => widens_row::<759>(parent, buf),
+        760 => widens_row::<760>(parent, buf),
+        761 => widens_row::<761>(parent, buf),
+        762 => widens_row::<762>(parent, buf),
+        763 => widens_row::<763>(parent, buf),
+        764 => widens_row::<764>(parent, buf),
+        765 => widens_row::<765>(parent, buf),
+        766 => widens_row::<766>(parent, buf),
+        767 => widens_row::<767>(parent, buf),
+        768 => widens_row::<768>(parent, buf),
+        769 => widens_row::<769>(parent, buf),
+        770 => widens_row::<770>(parent, buf),
+        771 => widens_row::<771>(parent, buf),
+        772 => widens_row::<772>(parent, buf),
+        773 => widens_row::<773>(parent, buf),
+        774 => widens_row::<774>(parent, buf),
+        775 => widens_row::<775>(parent, buf),
+        776 => widens_row::<776>(parent, buf),
+        777 => widens_row::<777>(parent, buf),
+        778 => widens_row::<778>(parent, buf),
+        779 => widens_row::<779>(parent, buf),
+        780 => widens_row::<780>(parent, buf),
+        781 => widens_row::<781>(parent, buf),
+        782 => widens_row::<782>(parent, buf),
+        783 => widens_row::<783>(parent, buf),
+        784 => widens_row::<784>(parent, buf),
+        785 => widens_row::<785>(parent, buf),
+        786 => widens_row::<786>(parent, buf),
+        787 => widens_row::<787>(parent, buf),
+        788 => widens_row::<788>(parent, buf),
+        789 => widens_row::<789>(parent, buf),
+        790 => widens_row::<790>(parent, buf),
+        791 => widens_row::<791>(parent, buf),
+        792 => widens_row::<792>(parent, buf),
+        793 => widens_row::<793>(parent, buf),
+        794 => widens_row::<794>(parent, buf),
+        795 => widens_row::<795>(parent, buf),
+        796 => widens_row::<796>(parent, buf),
+        797 => widens_row::<797>(parent, buf),
+        798 => widens_row::<798>(parent, buf),
+        799 => widens_row::<799>(parent, buf),
+        800 => widens_row::<800>(parent, buf),
+        801 => widens_row::<801>(parent, buf),
+        802 => widens_row::<802>(parent, buf),
+        803 => widens_row::<803>(parent, buf),
+        804 => widens_row::<804>(parent, buf),
+        805 => widens_row::<805>(parent, buf),
+        806 => widens_row::<806>(parent, buf),
+        807 => widens_row::<807>(parent, buf),
+        808 => widens_row::<808>(parent, buf),
+        809 => widens_row::<809>(parent, buf),
+        810 => widens_row::<810>(parent, buf),
+        _ => widens_any(i, parent, buf),
+    }
+}
+
+/// [`widens`] for some rows from 631 on.
+#[inline(always)]
+fn widens_from_631(i: usize, parent: Option<usize>, buf: &[u8]) -> bool
+    ensures { IsTrue result ↔ WidensAt parent buf.now i }
+{
+    match i {
+        631 => widens_row::<631>(parent, buf),
+        632 => widens_row::<632>(parent, buf),
+        633 => widens_row::<633>(parent, buf),
+        634 => widens_row::<634>(parent, buf),
+        635 => widens_row::<635>(parent, buf),
+        636 => widens_row::<636>(parent, buf),
+        637 => widens_row::<637>(parent, buf),
+        638 => widens_row::<638>(parent, buf),
+        639 => widens_row::<639>(parent, buf),
+        640 => widens_row::<640>(parent, buf),
+        641 => widens_row::<641>(parent, buf),
+        642 => widens_row::<642>(parent, buf),
+        643 => widens_row::<643>(parent, buf),
+        644 => widens_row::<644>(parent, buf),
+        645 => widens_row::<645>(parent, buf),
+        646 => widens_row::<646>(parent, buf),
+        647 => widens_row::<647>(parent, buf),
+        648 => widens_row::<648>(parent, buf),
+        649 => widens_row::<649>(parent, buf),
+        650 => widens_row::<650>(parent, buf),
+        651 => widens_row::<651>(parent, buf),
+        652 => widens_row::<652>(parent, buf),
+        653 => widens_row::<653>(parent, buf),
+        654 => widens_row::<654>(parent, buf),
+        655 => widens_row::<655>(parent, buf),
+        656 => widens_row::<656>(parent, buf),
+        657 => widens_row::<657>(parent, buf),
+        658 => widens_row::<658>(parent, buf),
+        659 => widens_row::<659>(parent, buf),
+        660 => widens_row::<660>(parent, buf),
+        661 => widens_row::<661>(parent, buf),
+        662 => widens_row::<662>(parent, buf),
+        663 => widens_row::<663>(parent, buf),
+        664 => widens_row::<664>(parent, buf),
+        665 => widens_row::<665>(parent, buf),
+        666 => widens_row::<666>(parent, buf),
+        667 => widens_row::<667>(parent, buf),
+        668 => widens_row::<668>(parent, buf),
+        669 => widens_row::<669>(parent, buf),
+        670 => widens_row::<670>(parent, buf),
+        671 => widens_row::<671>(parent, buf),
+        740 => widens_row::<740>(parent, buf),
+        741 => widens_row::<741>(parent, buf),
+        742 => widens_row::<742>(parent, buf),
+        743 => widens_row::<743>(parent, buf),
+        744 => widens_row::<744>(parent, buf),
+        745 => widens_row::<745>(parent, buf),
+        746 => widens_row::<746>(parent, buf),
+        747 => widens_row::<747>(parent, buf),
+        748 => widens_row::<748>(parent, buf),
+        749 => widens_row::<749>(parent, buf),
+        750 => widens_row::<750>(parent, buf),
+        751 => widens_row::<751>(parent, buf),
+        752 => widens_row::<752>(parent, buf),
+        753 => widens_row::<753>(parent, buf),
+        754 => widens_row::<754>(parent, buf),
+        _ => widens_from_755(i, parent, buf),
     }
 }
 
@@ -724,58 +860,59 @@ fn widens_from_872(i: usize, parent: Option<usize>, buf: &[u8]) -> bool
     }
 }
 
-/// [`widens`] for some rows from 653 on.
+/// [`widens`] for some rows from 811 on.
 #[inline(always)]
-fn widens_from_653(i: usize, parent: Option<usize>, buf: &[u8]) -> bool
+fn widens_from_811(i: usize, parent: Option<usize>, buf: &[u8]) -> bool
     ensures { IsTrue result ↔ WidensAt parent buf.now i }
 {
     match i {
-        653 => widens_row::<653>(parent, buf),
-        654 => widens_row::<654>(parent, buf),
-        655 => widens_row::<655>(parent, buf),
-        656 => widens_row::<656>(parent, buf),
-        657 => widens_row::<657>(parent, buf),
-        658 => widens_row::<658>(parent, buf),
-        659 => widens_row::<659>(parent, buf),
-        660 => widens_row::<660>(parent, buf),
-        661 => widens_row::<661>(parent, buf),
-        662 => widens_row::<662>(parent, buf),
-        663 => widens_row::<663>(parent, buf),
-        664 => widens_row::<664>(parent, buf),
-        665 => widens_row::<665>(parent, buf),
-        666 => widens_row::<666>(parent, buf),
-        667 => widens_row::<667>(parent, buf),
-        668 => widens_row::<668>(parent, buf),
-        669 => widens_row::<669>(parent, buf),
-        670 => widens_row::<670>(parent, buf),
-        671 => widens_row::<671>(parent, buf),
-        740 => widens_row::<740>(parent, buf),
-        741 => widens_row::<741>(parent, buf),
-        742 => widens_row::<742>(parent, buf),
-        743 => widens_row::<743>(parent, buf),
-        752 => widens_row::<752>(parent, buf),
-        753 => widens_row::<753>(parent, buf),
-        754 => widens_row::<754>(parent, buf),
-        755 => widens_row::<755>(parent, buf),
-        756 => widens_row::<756>(parent, buf),
-        793 => widens_row::<793>(parent, buf),
-        794 => widens_row::<794>(parent, buf),
-        795 => widens_row::<795>(parent, buf),
-        796 => widens_row::<796>(parent, buf),
-        797 => widens_row::<797>(parent, buf),
-        800 => widens_row::<800>(parent, buf),
-        802 => widens_row::<802>(parent, buf),
-        803 => widens_row::<803>(parent, buf),
-        804 => widens_row::<804>(parent, buf),
-        805 => widens_row::<805>(parent, buf),
-        806 => widens_row::<806>(parent, buf),
-        808 => widens_row::<808>(parent, buf),
-        810 => widens_row::<810>(parent, buf),
+        811 => widens_row::<811>(parent, buf),
+        812 => widens_row::<812>(parent, buf),
+        813 => widens_row::<813>(parent, buf),
         814 => widens_row::<814>(parent, buf),
         815 => widens_row::<815>(parent, buf),
+        816 => widens_row::<816>(parent, buf),
+        817 => widens_row::<817>(parent, buf),
+        818 => widens_row::<818>(parent, buf),
+        819 => widens_row::<819>(parent, buf),
         820 => widens_row::<820>(parent, buf),
         821 => widens_row::<821>(parent, buf),
         822 => widens_row::<822>(parent, buf),
+        823 => widens_row::<823>(parent, buf),
+        824 => widens_row::<824>(parent, buf),
+        825 => widens_row::<825>(parent, buf),
+        826 => widens_row::<826>(parent, buf),
+        827 => widens_row::<827>(parent, buf),
+        828 => widens_row::<828>(parent, buf),
+        829 => widens_row::<829>(parent, buf),
+        830 => widens_row::<830>(parent, buf),
+        831 => widens_row::<831>(parent, buf),
+        832 => widens_row::<832>(parent, buf),
+        833 => widens_row::<833>(parent, buf),
+        834 => widens_row::<834>(parent, buf),
+        835 => widens_row::<835>(parent, buf),
+        836 => widens_row::<836>(parent, buf),
+        837 => widens_row::<837>(parent, buf),
+        838 => widens_row::<838>(parent, buf),
+        839 => widens_row::<839>(parent, buf),
+        840 => widens_row::<840>(parent, buf),
+        841 => widens_row::<841>(parent, buf),
+        842 => widens_row::<842>(parent, buf),
+        843 => widens_row::<843>(parent, buf),
+        844 => widens_row::<844>(parent, buf),
+        845 => widens_row::<845>(parent, buf),
+        846 => widens_row::<846>(parent, buf),
+        847 => widens_row::<847>(parent, buf),
+        848 => widens_row::<848>(parent, buf),
+        849 => widens_row::<849>(parent, buf),
+        850 => widens_row::<850>(parent, buf),
+        851 => widens_row::<851>(parent, buf),
+        852 => widens_row::<852>(parent, buf),
+        853 => widens_row::<853>(parent, buf),
+        859 => widens_row::<859>(parent, buf),
+        860 => widens_row::<860>(parent, buf),
+        861 => widens_row::<861>(parent, buf),
+        862 => widens_row::<862>(parent, buf),
         863 => widens_row::<863>(parent, buf),
         864 => widens_row::<864>(parent, buf),
         865 => widens_row::<865>(parent, buf),
@@ -789,30 +926,34 @@ fn widens_from_653(i: usize, parent: Option<usize>, buf: &[u8]) -> bool
     }
 }
 
-/// Whether further row `i` has this parent and accepts the buffer: code of its own for each row that asks for bytes at fixed
-/// places, and the evaluator itself for the others.
+/// Whether further row `i` has this parent and accepts the buffer: code of its own for each row that the index has tried, and
+/// the evaluator itself for those that it tells by names.
 #[inline(never)]
 pub(crate) fn widens(i: usize, parent: Option<usize>, buf: &[u8]) -> bool
     ensures { IsTrue result ↔ WidensAt parent buf.now i }
 {
-    if i < 431 {
-        if i < 145 {
+    if i < 408 {
+        if i < 137 {
             widens_from_0(i, parent, buf)
         } else {
-            if i < 292 {
-                widens_from_145(i, parent, buf)
+            if i < 273 {
+                widens_from_137(i, parent, buf)
             } else {
-                widens_from_292(i, parent, buf)
+                widens_from_273(i, parent, buf)
             }
         }
     } else {
-        if i < 542 {
-            widens_from_431(i, parent, buf)
-        } else {
-            if i < 653 {
-                widens_from_542(i, parent, buf)
+        if i < 631 {
+            if i < 519 {
+                widens_from_408(i, parent, buf)
             } else {
-                widens_from_653(i, parent, buf)
+                widens_from_519(i, parent, buf)
+            }
+        } else {
+            if i < 811 {
+                widens_from_631(i, parent, buf)
+            } else {
+                widens_from_811(i, parent, buf)
             }
         }
     }
