@@ -192,7 +192,6 @@ fn first_fitting(signature: &[Alternative], buf: &[u8]) -> Option<usize>
 }
 
 /// The way by the alternative with that number, which the buffer has, and its guard.
-#[inline(always)]
 fn way_by(row: usize, own: &'static Known, k: usize, guard: &'static Guard, buf: &[u8]) -> Way
     requires signature { signature_of row ≡ fixed (signature_listed own.now.alternatives.now) }
     requires guarded { IsTrue (are_guards row (guards_of own.now) (alternatives_of (signature_of row))) }
@@ -211,7 +210,6 @@ fn way_by(row: usize, own: &'static Known, k: usize, guard: &'static Guard, buf:
 }
 
 /// The same of one of several alternatives, if it is one that has a guard.
-#[inline(always)]
 fn way_at(row: usize, own: &'static Known, k: usize, buf: &[u8]) -> Option<Way>
     requires several { own.now.only ≡ None }
     requires inside { k < length own.now.guards.now }
@@ -229,7 +227,6 @@ fn way_at(row: usize, own: &'static Known, k: usize, buf: &[u8]) -> Option<Way>
 }
 
 /// The way by which the row accepts the buffer, if its only alternative has a guard.
-#[inline(always)]
 fn only_way(row: usize, buf: &[u8]) -> Option<Way>
     requires accepts { RowHas (Accepts buf.now) row }
     requires bound { row < ROW_COUNT }
@@ -244,7 +241,6 @@ fn only_way(row: usize, buf: &[u8]) -> Option<Way>
 }
 
 /// The same, if that one of several has a guard which the buffer's first byte tells from the others.
-#[inline(always)]
 fn led_way(row: usize, buf: &[u8]) -> Option<Way>
     requires accepts { RowHas (Accepts buf.now) row }
     requires bound { row < ROW_COUNT }
@@ -276,7 +272,6 @@ fn fitting_way(row: usize, buf: &[u8]) -> Option<Way>
 }
 
 /// Whether no row is left that could accept a buffer with the way's alternative, and of this length if just that is needed.
-#[inline(always)]
 fn is_alone(way: &Way, exact: bool, buf: &[u8]) -> bool
     requires { IsAlone (alternative_listed way.now.alternative.now) way.now.guard.now }
     ensures { IsTrue result → (b : List ℕ) → HasAlternative b way.now.alternative.now
@@ -288,7 +283,6 @@ fn is_alone(way: &Way, exact: bool, buf: &[u8]) -> bool
 
 /// What lies ready for the way, if the buffer lacks what the probes look for; and if it is to be `alone`, if no row is left that
 /// could accept. A buffer that ends before a probe's place has no byte at any later one.
-#[inline(always)]
 fn ready_of(way: &Way, alone: bool, buf: &[u8]) -> Option<Ready>
     requires has { HasAlternative buf.now way.now.alternative.now }
     requires alone { IsAlone (alternative_listed way.now.alternative.now) way.now.guard.now }
@@ -388,7 +382,6 @@ fn tell_before(row: usize, rows: &[usize], buf: &[u8], evidence: &mut Evidence) 
 
 /// The row, which is the first that accepts the buffer, and asks for what tells that it is: for what lies ready for the way, if
 /// the rows before are ruled out by it.
-#[inline(always)]
 fn tell(row: usize, way: &Way, buf: &[u8], evidence: &mut Evidence) -> Option<usize>
     requires accepts { IsFirstOf (Accepts buf.now) table (Some row) }
     requires within { row < ROW_COUNT }
@@ -431,7 +424,6 @@ fn tell_of_several(row: usize, buf: &[u8], evidence: &mut Evidence) -> Option<us
 }
 
 /// What lies ready for the way, if this decides that the row is the first.
-#[inline(always)]
 fn ready_by(row: usize, way: &Way, buf: &[u8]) -> Option<Ready>
     requires first { IsFirstOf (Accepts buf.now) table (Some row) }
     requires way { IsWay row buf.now way.now }
@@ -444,7 +436,6 @@ fn ready_by(row: usize, way: &Way, buf: &[u8]) -> Option<Ready>
 
 /// What decides that the row is the first built-in one that accepts `buf`, as [`position`] has found, if this lies ready and
 /// the row's signature has one alternative: then [`evidence`] asks for just this.
-#[inline(always)]
 pub fn ready(row: usize, buf: &[u8]) -> Option<Ready>
     requires first { IsFirstOf (Accepts buf.now) table (Some row) }
     requires bound { row < ROW_COUNT }
@@ -455,7 +446,6 @@ pub fn ready(row: usize, buf: &[u8]) -> Option<Ready>
 }
 
 /// The same, if the row's signature has several alternatives. It is apart, so that those of one pay nothing for it.
-#[inline(always)]
 pub fn ready_of_several(row: usize, buf: &[u8]) -> Option<Ready>
     requires first { IsFirstOf (Accepts buf.now) table (Some row) }
     requires bound { row < ROW_COUNT }

@@ -101,7 +101,6 @@ fn after_frames(buf: &[u8]) -> &[u8]
 }
 
 /// What follows the blocks of four empty frames at the front of `buf`. No frames are more a byte.
-#[inline(always)]
 fn after_frame_blocks(mut buf: &[u8]) -> &[u8]
     ensures { LeadsTo IsFrame buf.entry.now result.now }
 {
@@ -112,7 +111,6 @@ fn after_frame_blocks(mut buf: &[u8]) -> &[u8]
 }
 
 #[tactic(auto, using(crate::proofs::JoinedLemmas::leads_past))]
-#[inline(always)]
 fn after_frame_block(buf: &[u8]) -> Option<&[u8]>
     ensures leads { IfSome result (λ rest. LeadsTo IsFrame buf.now rest.now) }
     ensures shorter { IfSome result (λ rest. length rest.now < length buf.now) }
@@ -127,7 +125,6 @@ fn after_frame_block(buf: &[u8]) -> Option<&[u8]>
 }
 
 #[tactic(auto, using(crate::proofs::FrameLemmas::empty_frame))]
-#[inline(always)]
 fn after_empty_frame(buf: &[u8]) -> Option<&[u8]>
     ensures begins { IfSome result (λ rest. BeginsWith IsFrame buf.now rest.now) }
     ensures shorter { IfSome result (λ rest. length rest.now < length buf.now) }
@@ -140,7 +137,6 @@ fn after_empty_frame(buf: &[u8]) -> Option<&[u8]>
 
 /// What follows the skippable frames at the front of `buf`. Each turn takes a frame away, which has at least 8 bytes.
 #[tactic(auto, using(crate::proofs::JoinedLemmas::leads_past))]
-#[inline(always)]
 fn after_any_frames(mut buf: &[u8]) -> &[u8]
     ensures skips { SkipsTo IsFrame buf.entry.now result.now }
     ensures stops { NoneBegins IsFrame result.now }
@@ -168,7 +164,6 @@ fn after_frame(buf: &[u8]) -> Option<&[u8]>
 }
 
 #[tactic(auto, using(crate::proofs::FrameLemmas::number_of_frame))]
-#[inline(always)]
 fn begins_frame(buf: &[u8]) -> bool
     requires { 4 ≤ length buf.now }
     ensures { IsTrue result ↔ BeginsFrame buf.now }

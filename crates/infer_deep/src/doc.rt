@@ -159,7 +159,6 @@ fn root_entry(buf: &[u8]) -> Option<usize>
 }
 
 /// Where the root entry begins, in sectors of that size.
-#[inline(always)]
 fn root_place(buf: &[u8], sector_size: usize) -> usize
     requires long { 52 ≤ length buf.now }
     requires small { sector_size ≤ 4096 }
@@ -200,7 +199,6 @@ pub fn may_become_pptx(buf: &[u8]) -> bool
 }
 
 #[tactic(auto, using(crate::proofs::OpenOfficeLemmas::office_reached, crate::proofs::OpenOfficeLemmas::office_known))]
-#[inline(always)]
 fn may_become_office<const N: usize>(buf: &[u8], folder: &[u8; N]) -> bool
     requires { IsFolder folder.now }
     ensures { IsTrue result ↔ MayBecome (IsOffice folder.now) buf.now }
@@ -312,7 +310,6 @@ fn third_header(buf: &[u8]) -> Option<usize>
 }
 
 /// From where on the second header is searched for: 49 after the size that the first states.
-#[inline(always)]
 fn second_start(buf: &[u8]) -> Option<usize>
     requires { 22 ≤ length buf.now }
     ensures { FindsPlace (λ start. (start ≡ le32 buf.now 18 + 49) × (start ≤ 0xFFFFFFFF)) result }

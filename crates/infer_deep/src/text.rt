@@ -76,7 +76,6 @@ pub fn after_white_space(buf: &[u8]) -> &[u8]
     trim_start_whitespaces(buf)
 }
 
-#[inline(always)]
 fn opens_tag(text: &[u8]) -> bool
     ensures { IsTrue result ↔ ((1 < length text.now) × (slice_index text.now 0 ≡ 0x3C)) }
 {
@@ -115,7 +114,6 @@ fn trim_start_whitespaces(buf: &[u8]) -> &[u8]
 }
 
 /// What follows the blocks of `N` white bytes at the front of `buf`.
-#[inline(always)]
 fn after_white_blocks<const N: usize>(mut buf: &[u8]) -> &[u8]
     requires some { 0 < N }
     requires small { N ≤ 64 }
@@ -131,7 +129,6 @@ fn after_white_blocks<const N: usize>(mut buf: &[u8]) -> &[u8]
 }
 
 /// Whether each byte of the block is white. Mostly all of them are spaces, which is told sooner.
-#[inline(always)]
 fn all_white<const N: usize>(block: &[u8; N]) -> bool
     requires { N ≤ 64 }
     ensures { OnTrue result (AllBelow IsWhite block.now N) }
@@ -139,7 +136,6 @@ fn all_white<const N: usize>(block: &[u8; N]) -> bool
     all_spaces(block) || all_of_any_white(block)
 }
 
-#[inline(always)]
 fn all_spaces<const N: usize>(block: &[u8; N]) -> bool
     requires { N ≤ 64 }
     ensures { OnTrue result (AllBelow IsWhite block.now N) }
@@ -151,7 +147,6 @@ fn all_spaces<const N: usize>(block: &[u8; N]) -> bool
     all
 }
 
-#[inline(always)]
 fn all_of_any_white<const N: usize>(block: &[u8; N]) -> bool
     requires { N ≤ 64 }
     ensures { OnTrue result (AllBelow IsWhite block.now N) }
@@ -186,7 +181,6 @@ fn after_space(buf: &[u8]) -> Option<&[u8]>
     Some(&buf[1..])
 }
 
-#[inline(always)]
 fn is_white(byte: u8) -> bool
     ensures { IsTrue result ↔ IsWhite byte }
 {
@@ -216,7 +210,6 @@ fn after_mark_blocks(mut buf: &[u8]) -> &[u8]
     buf
 }
 
-#[inline(always)]
 fn after_mark_block(buf: &[u8]) -> Option<&[u8]>
     ensures leads { IfSome result (λ rest. LeadsTo IsMark buf.now rest.now) }
     ensures shorter { IfSome result (λ rest. length rest.now < length buf.now) }

@@ -207,7 +207,6 @@ impl Evidence {
     }
 
     /// Asks for what lies ready, and for nothing else.
-    #[inline(always)]
     pub fn take_ready(&mut self, ready: Ready)
         ensures { IsReady self.new ready }
     {

@@ -21,7 +21,6 @@ struct Refusal {
 }
 
 /// Whether `text` stands in `buf` from `place` on.
-#[inline(always)]
 fn stands(buf: &[u8], text: &[u8], place: usize) -> bool
     ensures { IsTrue result ↔ StandsByPlace place text.now buf.now }
 {
@@ -68,7 +67,6 @@ fn longest(texts: &[&[u8]]) -> usize
 }
 
 /// Whether the buffer has what the part asks.
-#[inline(always)]
 fn has_part(part: &Part, buf: &[u8]) -> bool
     ensures { IsTrue result ↔ HasPart buf.now part.now }
 {
@@ -267,7 +265,6 @@ pub fn fits<P: AsPart>(least: usize, parts: &[P], buf: &[u8]) -> bool
 }
 
 /// Asks for that by which the buffer has the length and the parts.
-#[inline(always)]
 pub fn accept<P: AsPart>(
     least: usize,
     parts: &[P],

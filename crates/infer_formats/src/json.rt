@@ -54,7 +54,6 @@ pub fn is_json_lines(buf: &[u8]) -> bool
 }
 
 /// Which of the two a buffer is, and `None` if neither: it is never both. It is read once.
-#[inline(always)]
 pub fn kind_of(buf: &[u8]) -> Option<Kind>
     ensures { IsKind buf.now result }
 {
@@ -66,7 +65,6 @@ pub fn kind_of(buf: &[u8]) -> Option<Kind>
 }
 
 /// Whether white space, a bracket or the first byte of a mark stands first. Most of what is no JSON costs no call.
-#[inline(always)]
 fn may_begin(buf: &[u8]) -> bool
     ensures { OnTrue (not result) (IsKind buf.now None) }
 {
@@ -92,7 +90,6 @@ fn kind_begun(buf: &[u8]) -> Option<Kind>
 }
 
 /// What stands behind the byte order mark, if there is one.
-#[inline(always)]
 fn past_mark(buf: &[u8]) -> &[u8]
     ensures { IsPastMark buf.now result.now }
 {

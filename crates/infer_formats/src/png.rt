@@ -24,7 +24,6 @@ pub fn is_animated(buf: &[u8]) -> bool
 }
 
 /// Whether the chunks are those of an animated image, and none if they go on past the end of `buf`.
-#[inline(always)]
 fn animation(buf: &[u8]) -> Option<bool>
     ensures { TellsMayBecome IsAnimated buf.now result }
 {

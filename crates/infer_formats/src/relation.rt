@@ -191,7 +191,6 @@ static NAMES: &[(&[Token<'static>], Takes)] = &[
 ];
 
 /// What each relation is called, and what it takes. The first name by which a text begins counts.
-#[inline(always)]
 pub fn names() -> &'static [(&'static [Token<'static>], Takes)]
     ensures { map name_listed result.now ≡ names }
 {

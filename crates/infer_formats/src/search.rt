@@ -18,7 +18,6 @@ const NEAR_WINDOWS: usize = 2;
 const NEAR_MISSES: usize = 8;
 
 /// Which of the 32 bytes from that place on are this one: bit `k` tells of the byte `k` places on.
-#[inline(always)]
 fn hits(buf: &[u8], byte: u8, place: usize) -> u64
     requires { place + 32 ≤ length buf.now }
     ensures { (k : ℕ) → (bit_at result k ≡ 1) ↔ (k < 32)
@@ -30,7 +29,6 @@ fn hits(buf: &[u8], byte: u8, place: usize) -> u64
 }
 
 /// Where the first such byte from `start` on is, which is mostly near.
-#[inline(always)]
 pub(crate) fn find_near(buf: &[u8], byte: u8, start: usize) -> Option<usize>
     requires { start ≤ length buf.now }
     ensures { MatchOption result ((k : ℕ) → start ≤ k → k < length buf.now
@@ -62,7 +60,6 @@ fn find_far(buf: &[u8], byte: u8, start: usize) -> Option<usize>
 }
 
 /// The first place from `start` on at which `text` stands: mostly the first one of its last byte.
-#[inline(always)]
 pub(crate) fn find_closing<const N: usize>(
     buf: &[u8],
     text: &[u8; N],

@@ -222,7 +222,6 @@ fn is_folder_entry(buf: &[u8], place: usize) -> bool
 }
 
 /// Whether the folder of an application stands at the place.
-#[inline(always)]
 fn is_folder(buf: &[u8], place: usize) -> bool
     ensures { IsTrue result ↔ IsFolder buf.now place }
 {

@@ -23,7 +23,6 @@ pub fn least(bytes: &[u8]) -> u8
 }
 
 /// The least of bytes of which at least one vector is filled.
-#[inline(always)]
 fn least_of_many(bytes: &[u8]) -> u8
     requires { LANES ≤ length bytes.now }
     ensures { IsLeast bytes.now result }
@@ -47,7 +46,6 @@ fn least_of_blocks(first: u8x16, bytes: &[u8]) -> u8x16
 }
 
 /// The least of each lane and of the bytes of whole vectors.
-#[inline(always)]
 fn least_lanes(first: u8x16, bytes: &[u8]) -> u8x16
     ensures least { IsLeastOf result first (take (length bytes.now / LANES * LANES) bytes.now) }
     ensures lanes { length result ≡ LANES }
@@ -60,7 +58,6 @@ fn least_lanes(first: u8x16, bytes: &[u8]) -> u8x16
 }
 
 /// The least of few bytes.
-#[inline(always)]
 fn least_of_few(bytes: &[u8]) -> u8
     ensures { IsLeast bytes.now result }
 {

@@ -56,7 +56,6 @@ pub enum Effect {
 }
 
 /// Where the reading goes on behind the token, and what it adds for the buffer.
-#[inline(always)]
 #[tactic(auto, unfolding(crate::specs::Fixed::step))]
 pub fn step(cursor: Cursor, token: Token<'_>, buf: &[u8]) -> Result<(Cursor, Effect), Reason>
     ensures found { found_by result ≡ option_map (step_seen buf.now)
@@ -122,7 +121,6 @@ fn or_read(token: Token<'_>) -> Result<(Cursor, Effect), Reason>
     }
 }
 
-#[inline(always)]
 fn length_read(token: Token<'_>, buf: &[u8]) -> Result<(Cursor, Effect), Reason>
     ensures found { found_by result ≡ option_map (step_seen buf.now)
         (length_read (token_listed token.entry)) }
@@ -145,7 +143,6 @@ fn length_read(token: Token<'_>, buf: &[u8]) -> Result<(Cursor, Effect), Reason>
 }
 
 /// What follows on a separator that is wanted.
-#[inline(always)]
 fn behind_separator(
     separator: u8,
     wanted: Wanted,
@@ -166,7 +163,6 @@ fn behind_separator(
     }
 }
 
-#[inline(always)]
 fn place_read(cursor: Cursor, token: Token<'_>) -> Result<(Cursor, Effect), Reason>
     ensures found { found_by result ≡ option_map (step_seen [])
         (place_read cursor.least cursor.place (token_listed token.entry)) }
@@ -193,7 +189,6 @@ fn place_read(cursor: Cursor, token: Token<'_>) -> Result<(Cursor, Effect), Reas
     }
 }
 
-#[inline(always)]
 fn more_read(cursor: Cursor, token: Token<'_>, buf: &[u8]) -> Result<(Cursor, Effect), Reason>
     ensures found { found_by result ≡ option_map (step_seen buf.now)
         (more_read cursor.least cursor.place (token_listed token.entry)) }
@@ -228,7 +223,6 @@ fn other_byte(cursor: Cursor, token: Token<'_>, buf: &[u8]) -> Result<(Cursor, E
 }
 
 /// What a token asks for at the place.
-#[inline(always)]
 fn piece(cursor: Cursor, token: Token<'_>, buf: &[u8]) -> Result<(Cursor, Effect), Reason>
     ensures found { found_by result ≡ option_map (step_seen buf.now)
         (piece cursor.least cursor.place (token_listed token.entry)) }
@@ -263,7 +257,6 @@ fn set_read(cursor: Cursor, digits: &[u8], buf: &[u8]) -> Result<(Cursor, Effect
 }
 
 /// The bytes that a bare word writes, or one of a range.
-#[inline(always)]
 fn word_part(cursor: Cursor, word: &[u8], buf: &[u8]) -> Result<(Cursor, Effect), Reason>
     ensures found { found_by result ≡ option_map (step_seen buf.now)
         (word_part cursor.least cursor.place word.now (range_of word.now)) }
@@ -298,7 +291,6 @@ pub fn range(word: &[u8]) -> Option<(u8, u8)>
 }
 
 /// A part of that many bytes, all of them within the least length.
-#[inline(always)]
 fn within(cursor: Cursor, size: usize, has: bool) -> Result<(Cursor, Effect), Reason>
     ensures found { found_by result ≡ within_seen cursor.least cursor.place size has }
     ensures kind { IfErr result (λ reason. is_of_token reason ≡ false) }

@@ -96,7 +96,6 @@ fn start() -> State
 /// Whether the buffer lacks what was read last, and no "or" follows, since no "o" does. The text is looked through once an
 /// alternative.
 #[tactic(auto, using(crate::proofs::RefusedLemmas::no_or))]
-#[inline(always)]
 fn is_refused(before: State, after: State, text: &[u8]) -> bool
     ensures any { IsTrue result → after.any ≡ false }
     ensures last { IsTrue result → after.last ≡ false }
@@ -116,7 +115,6 @@ fn is_refused(before: State, after: State, text: &[u8]) -> bool
 }
 
 /// Whether an alternative is to begin.
-#[inline(always)]
 fn is_length(wanted: Wanted) -> bool
     ensures { IsTrue result ↔ (wanted ≡ Length) }
 {
@@ -127,7 +125,6 @@ fn is_length(wanted: Wanted) -> bool
 }
 
 /// The state behind the token at the front, and how many bytes it takes behind its first.
-#[inline(always)]
 fn next(state: State, text: &[u8], buf: &[u8]) -> Result<(State, usize), Reason>
     requires some { 0 < length text.now }
     requires no_blank { is_blank (slice_index text.now 0) ≡ false }
@@ -144,7 +141,6 @@ fn next(state: State, text: &[u8], buf: &[u8]) -> Result<(State, usize), Reason>
 }
 
 /// The state with what a token adds.
-#[inline(always)]
 fn taken(state: State, cursor: Cursor, effect: Effect) -> State
     ensures { result ≡ state_taken state cursor effect }
 {

@@ -155,7 +155,6 @@ fn with_bytes(joined: Joined, digits: &[u8]) -> Option<Joined>
 }
 
 /// And a byte.
-#[inline(always)]
 fn with_byte(joined: Joined, byte: u8) -> Option<Joined>
     ensures { option_map joined_listed result ≡ in_room (joined_listed joined ++ byte ∷ []) }
 {

@@ -19,7 +19,6 @@ enum Run {
 }
 
 /// The token at the front of a text, and how many bytes it takes behind its first.
-#[inline(always)]
 #[tactic(auto, unfolding(crate::specs::Tokens::token_at))]
 pub fn token_at(text: &[u8]) -> Result<(Token<'_>, usize), Reason>
     ensures value { option_map pair_listed (found_by result) ≡ token_at text.now }
@@ -99,7 +98,6 @@ fn bare_at(text: &[u8]) -> Result<(Token<'_>, usize), Reason>
 }
 
 /// How many bytes at the front of the text are of the run.
-#[inline(always)]
 fn run_len(run: Run, text: &[u8]) -> usize
     ensures value { result ≡ prefix_len (is_of run) text.now }
     ensures bound { result ≤ length text.now }
@@ -112,7 +110,6 @@ fn run_len(run: Run, text: &[u8]) -> usize
     text.len()
 }
 
-#[inline(always)]
 fn is_of(run: Run, byte: u8) -> bool
     ensures { result ≡ is_of run byte }
 {
@@ -127,7 +124,6 @@ fn is_of(run: Run, byte: u8) -> bool
     }
 }
 
-#[inline(always)]
 fn is_separator(byte: u8) -> bool
     ensures { result ≡ is_separator byte }
 {

@@ -14,7 +14,6 @@ pub struct Hex {
 }
 
 /// Whether the byte is a space, a tab or 0D.
-#[inline(always)]
 pub fn is_blank(byte: u8) -> bool
     ensures { result ≡ is_blank byte }
 {
@@ -61,7 +60,6 @@ fn word_len(text: &[u8]) -> usize
 }
 
 /// Whether the byte is a decimal digit.
-#[inline(always)]
 fn is_digit(byte: u8) -> bool
     ensures { result ≡ is_digit byte }
 {
@@ -69,7 +67,6 @@ fn is_digit(byte: u8) -> bool
 }
 
 /// The number with these decimal digits.
-#[inline(always)]
 pub fn number(digits: &[u8]) -> Result<usize, Reason>
     ensures value { found_by result ≡ number_of digits.now }
     ensures bound { IfSome (found_by result) (λ n. n < 1_000_000_000) }

@@ -38,7 +38,6 @@ pub fn may_become_mp3(buf: &[u8]) -> bool
 }
 
 /// Apple's sound M4A: at least 11 bytes, "ftypM4A" at 4, or "M4A " first.
-#[inline(always)]
 pub fn is_m4a(buf: &[u8]) -> bool
     ensures { result ≡ accepts m4a buf.now }
 {

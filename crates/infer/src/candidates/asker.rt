@@ -97,7 +97,6 @@ pub fn walk<A: Ask>(asker: &mut A, wanted: Option<&str>) -> Option<usize>
 
 /// The first candidate that accepts the asker's buffer.
 #[tactic(auto, using(crate::proofs::AskLemmas::every_asked))]
-#[inline(always)]
 fn walk_every<A: Ask>(asker: &mut A) -> Option<usize>
     requires { A.has_asked asker.old [] }
     ensures first { IsFirstAmong (RowHas (Takes (HasGiven None) (A.buffer asker.old)))
@@ -139,7 +138,6 @@ fn walk_extension<A: Ask>(asker: &mut A, extension: &str) -> Option<usize>
 }
 
 /// Whether the row has the extension and accepts the buffer. It is asked if it has it and is one of the candidates.
-#[inline(always)]
 fn ask_named<A: Ask>(asker: &mut A, row: RowName, extension: &str, candidates: &[usize]) -> bool
     requires all { candidates.now ≡ candidates_of (A.buffer asker.old) }
     requires room { (before : List ℕ) × A.has_asked asker.old before × (length before < ROW_COUNT) }
@@ -158,7 +156,6 @@ fn ask_named<A: Ask>(asker: &mut A, row: RowName, extension: &str, candidates: &
 }
 
 /// The rows that can accept the asker's buffer, ascending.
-#[inline(always)]
 fn candidates_of<A: Ask>(asker: &A) -> &'static [usize]
     ensures rows { result.now ≡ candidates_of (A.buffer asker.now) }
     ensures few { length result.now ≤ MOST_CANDIDATES }
@@ -171,7 +168,6 @@ fn candidates_of<A: Ask>(asker: &A) -> &'static [usize]
 
 /// What a [`walk`] about `buf` answers, and how many rows it asks.
 #[tactic(auto, using(crate::proofs::CandidateLemmas::first_of_buffer))]
-#[inline(always)]
 fn count(buf: &[u8], wanted: Option<&str>) -> (Option<usize>, u32)
     ensures first { IsFirstOf (Takes (HasGiven wanted.entry) buf.now) table result.0 }
     ensures among { IsFirstAmong (RowHas (Takes (HasGiven wanted.entry) buf.now))

@@ -31,7 +31,6 @@ pub struct OfClass<C>(pub PhantomData<C>);
 impl<C: Class> Question for OfClass<C> {
     ghost asked = { λ _ t. t.class ≡ C.CLASS };
 
-    #[inline(always)]
     fn asks_for(&self, file_type: &FileType) -> bool {
         file_type.matcher_type == C::CLASS
     }
@@ -87,7 +86,6 @@ impl Class for App {
 
     const CLASS: MatcherType = MatcherType::App;
 
-    #[inline(always)]
     fn some(arm: Arm, buf: &[u8]) -> bool {
         some_of! { arm buf // App
             B00
@@ -124,7 +122,6 @@ impl Class for Archive {
 
     const CLASS: MatcherType = MatcherType::Archive;
 
-    #[inline(always)]
     fn some(arm: Arm, buf: &[u8]) -> bool {
         some_of! { arm buf // Archive
             B00 B09 B1A B23 B2D B38 B41 B44 B47 B4F B64 B66 B77 B7F B89 BCA BCE BEF BFE BFF Other
@@ -180,7 +177,6 @@ impl Class for Audio {
 
     const CLASS: MatcherType = MatcherType::Audio;
 
-    #[inline(always)]
     fn some(arm: Arm, buf: &[u8]) -> bool {
         some_of! { arm buf // Audio
             B00 B04 B09 B1A B1F B21 B25 B28 B2D B30 B37 B38 B41 B42 B43 B47 B4C B4E B50 B51 B53 B54 B64 B71
@@ -213,7 +209,6 @@ impl Class for Book {
 
     const CLASS: MatcherType = MatcherType::Book;
 
-    #[inline(always)]
     fn some(arm: Arm, buf: &[u8]) -> bool {
         some_of! { arm buf // Book
             B00 B04 B09 B1A B1F B21 B23 B25 B28 B2D B30 B37 B38 B41 B42 B43 B44 B46 B47 B49 B4C B4D B4E B4F
@@ -230,7 +225,6 @@ impl Class for Doc {
 
     const CLASS: MatcherType = MatcherType::Doc;
 
-    #[inline(always)]
     fn some(arm: Arm, buf: &[u8]) -> bool {
         some_of! { arm buf // Doc
             B00 B04 B09 B1A B1F B21 B23 B25 B28 B2D B30 B37 B38 B41 B42 B43 B44 B46 B47 B49 B4C B4D B4E B4F
@@ -249,7 +243,6 @@ impl Class for Font {
 
     const CLASS: MatcherType = MatcherType::Font;
 
-    #[inline(always)]
     fn some(arm: Arm, buf: &[u8]) -> bool {
         some_of! { arm buf // Font
             B00
@@ -270,7 +263,6 @@ impl Class for Image {
 
     const CLASS: MatcherType = MatcherType::Image;
 
-    #[inline(always)]
     fn some(arm: Arm, buf: &[u8]) -> bool {
         some_of! { arm buf // Image
             B00
@@ -305,7 +297,6 @@ impl Class for Video {
 
     const CLASS: MatcherType = MatcherType::Video;
 
-    #[inline(always)]
     fn some(arm: Arm, buf: &[u8]) -> bool {
         some_of! { arm buf // Video
             B00
@@ -330,7 +321,6 @@ impl Class for Custom {
 
     const CLASS: MatcherType = MatcherType::Custom;
 
-    #[inline(always)]
     fn some(arm: Arm, buf: &[u8]) -> bool {
         some_of! { arm buf // Custom
             B00 B04 B09 B1A B1F B21 B23 B25 B28 B2D B30 B37 B38 B41 B42 B43 B44 B46 B47 B49 B4C B4D B4E B4F

@@ -8,7 +8,6 @@ use crate::table::slots::{extensions, mime_types};
 
 /// Rows, ascending, among which are all with this extension.
 #[tactic(auto, using(crate::proofs::SlotLemmas::asked_in_slot))]
-#[inline(always)]
 pub fn rows_for_extension(text: &[u8]) -> &'static [RowName]
     ensures { HoldAsked (λ t. t.extension ≡ text.now) (map number_of result.now) }
 {
@@ -17,7 +16,6 @@ pub fn rows_for_extension(text: &[u8]) -> &'static [RowName]
 
 /// Rows, ascending, among which are all with this MIME type.
 #[tactic(auto, using(crate::proofs::SlotLemmas::asked_in_slot))]
-#[inline(always)]
 pub fn rows_for_mime_type(text: &[u8]) -> &'static [RowName]
     ensures { HoldAsked (λ t. t.mime_type ≡ text.now) (map number_of result.now) }
 {
@@ -25,7 +23,6 @@ pub fn rows_for_mime_type(text: &[u8]) -> &'static [RowName]
 }
 
 /// The slot of a text.
-#[inline(always)]
 fn slot_of(text: &[u8]) -> usize
     ensures value { result ≡ slot_of text.now }
     ensures bound { result < 128 }

@@ -49,14 +49,12 @@ static BY_MIME_TYPE: [&[RowName]; 128] = slots![
     (Mp3) (Shellscript) () (Crx) (Bmp) () (Midi Aiff Xls) (Gz)
 ];
 
-#[inline(always)]
 pub(crate) fn extensions() -> &'static [&'static [RowName]; 128]
     ensures { ListSlots extension_of result.now }
 {
     &BY_EXTENSION
 }
 
-#[inline(always)]
 pub(crate) fn mime_types() -> &'static [&'static [RowName]; 128]
     ensures { ListSlots mime_type_of result.now }
 {

@@ -379,7 +379,6 @@ fn known_from_96() -> &'static [Option<Known>; ROWS_OF_A_LIST]
 }
 
 /// The row with which the list begins in which this one stands, and the list.
-#[inline(always)]
 fn list_of(row: usize) -> (usize, &'static [Option<Known>; ROWS_OF_A_LIST])
     requires { row < ROW_COUNT }
     ensures place { result.0 + row % 8 ≡ row }
@@ -410,7 +409,6 @@ fn list_of(row: usize) -> (usize, &'static [Option<Known>; ROWS_OF_A_LIST])
 }
 
 /// What is known of a row that asks for bytes at fixed places alone.
-#[inline(always)]
 pub(super) fn known_at(row: usize) -> Option<&'static Known>
     requires { row < ROW_COUNT }
     ensures signature { IfSome result (λ k. signature_of row ≡ fixed (signature_listed k.now.alternatives.now)) }

@@ -73,7 +73,6 @@ pub(super) fn past_blanks(buf: &[u8]) -> &[u8]
 }
 
 /// Where the white space from that place on ends.
-#[inline(always)]
 pub(super) fn blanks_end(buf: &[u8], at: usize) -> usize
     requires { at ≤ length buf.now }
     ensures low { at ≤ result }
@@ -94,7 +93,6 @@ pub(super) fn is_bracket(byte: u8) -> bool
     matches!(byte, b'[' | b'{')
 }
 
-#[inline(always)]
 pub(super) fn is_blank(byte: u8) -> bool
     ensures { IsTrue result ↔ IsBlank byte }
 {

@@ -82,7 +82,6 @@ fn is_space_from(buf: &[u8], from: usize) -> bool
     true
 }
 
-#[inline(always)]
 fn is_same(name: &[u8], other: &[u8]) -> bool
     ensures { IsTrue result ↔ (name.now ≡ other.now) }
 {

@@ -24,7 +24,6 @@ pub fn may_become_program(buf: &[u8], name: &[u8]) -> bool
     }
 }
 
-#[inline(always)]
 pub(super) fn is_same(name: &[u8], other: &[u8]) -> bool
     ensures { IsTrue result ↔ (name.now ≡ other.now) }
 {
