@@ -414,7 +414,6 @@ pub fn named(name: &[u8], buf: &[u8]) -> NamedAnswer {
 }
 
 /// The length of the line of a name and bytes, which is written to `out`, with a zero after it.
-#[cfg(feature = "std")]
 pub fn line(name: &[u8], buf: &[u8], out: &mut [u8]) -> usize {
     let (mut standing, mut is_known) = (0, false);
     // SAFETY: as above, with room for as many bytes as it says; the two answers are written.

@@ -28,8 +28,8 @@ pub use evidence::{evidence, Evidence, Range};
 pub use file_type::{Matcher, MatcherType, Type};
 pub use matchers::{app, archive, audio, book, doc, font, image, odf, text, video};
 #[cfg(feature = "std")]
-pub use named::{line, named_path};
-pub use named::{named, Named, NamedType, Standing};
+pub use named::named_path;
+pub use named::{line, named, Named, NamedType, Standing};
 #[cfg(feature = "std")]
 pub use read::{get_from_path, get_from_reader, whole};
 pub use types::{Found, Mistake, Types};

@@ -1,5 +1,7 @@
 use crate::ffi::{self, NamedTexts};
 use crate::Type;
+use alloc::string::String;
+use alloc::vec;
 use core::fmt;
 #[cfg(feature = "std")]
 use std::{io, path::Path};
@@ -129,7 +131,6 @@ pub fn named(name: &[u8], buf: &[u8]) -> Named {
 /// ```
 /// assert_eq!(infer::line(b"main.py", b"import os"), "main.py: text/x-python py, us-ascii, name refines");
 /// ```
-#[cfg(feature = "std")]
 pub fn line(name: &[u8], buf: &[u8]) -> String {
     let mut out = vec![0; 1 + ffi::line(name, buf, &mut [])];
     let size = ffi::line(name, buf, &mut out);
