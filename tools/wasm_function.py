@@ -7,6 +7,7 @@ from __future__ import annotations
 
 import collections
 import dataclasses
+import itertools
 import re
 from typing import NamedTuple, Protocol
 
@@ -17,10 +18,10 @@ from wasm_loops import by_words
 SMALL = 1 << 32
 # Of a local that may be a pointer to the stack or something else.
 UNKNOWN = -1
-# Blocks stand in one another so deep that more would only be wide.
-DEEPEST = 6
-# Compilers need not take more than 127 blocks inside each other. A deeper one has a label and no braces.
+# Compilers need not take more than 127 blocks inside each other. So a deeper block has a label and no braces, and more loops
+# and conditions are refused.
 MOST_BRACES = 100
+MOST_NESTED = 120
 # What an expression can read beside locals.
 MEMORY = -1
 LONGEST = 120
@@ -138,12 +139,14 @@ class Translation:
 
     def tidy(self) -> None:
         """Takes away the labels of loops that begin again by `continue` alone, and variables that nobody reads."""
-        self.lines = [re.sub(r"^( *)(again\d+): ", lambda it: it[0] if it[2] in self.jumped_to else it[1], line) for line in self.lines]
+        self.lines = [re.sub(r"^(again\d+): ", lambda it: it[0] if it[1] in self.jumped_to else "", line) for line in self.lines]
+        if max(itertools.accumulate(line.count("{") - line.count("}") for line in self.lines), default=0) > MOST_NESTED:
+            refuse(f"{self.name()} has more than {MOST_NESTED} blocks inside each other")
         self.lines = by_words(self.lines)
         while (kept := self.without_unread()) != self.lines:
             self.lines = kept
-        read = set(re.findall(r"\bl\d+\b", re.sub(r"^ *l\d+ = ", "", "\n".join(self.lines), flags=re.MULTILINE)))
-        of_stack = re.compile(r"^ *(l\d+) = sp( - \d+)?;$")
+        read = set(re.findall(r"\bl\d+\b", re.sub(r"^l\d+ = ", "", "\n".join(self.lines), flags=re.MULTILINE)))
+        of_stack = re.compile(r"^(l\d+) = sp( - \d+)?;$")
         self.lines = [line for line in self.lines if not (found := of_stack.match(line)) or found[1] in read]
         self.uses_stack = any(re.search(r"\bsp\b", line) for line in self.lines)
 
@@ -152,11 +155,11 @@ class Translation:
         read = collections.Counter(re.findall(r"\bt\d+\b", "\n".join(self.lines)))
         kept = []
         for line in self.lines:
-            found = re.match(r"( *)const u\d+ (t\d+) = (.*)$", line)
-            if not found or read[found[2]] > 1:
+            found = re.match(r"const u\d+ (t\d+) = (.*)$", line)
+            if not found or read[found[1]] > 1:
                 kept.append(line)
-            elif found[3].startswith(("f_", "by_table_")):
-                kept.append(found[1] + found[3])
+            elif found[2].startswith(("f_", "by_table_")):
+                kept.append(found[2])
         return kept
 
     def only_stack_pointer(self, number: int) -> None:
@@ -169,7 +172,7 @@ class Translation:
     # Lines, and values.
 
     def emit(self, line: str) -> None:
-        self.lines.append("    " * min(len(self.blocks), DEEPEST) + line)
+        self.lines.append(line)
 
     def new(self, prefix: str) -> str:
         self.count += 1
@@ -410,21 +413,17 @@ class Translation:
         self.blocks.append(block)
         return block
 
-    def open(self, line: str) -> None:
-        """A line that stands with what is around the innermost block."""
-        self.lines.append("    " * min(len(self.blocks) - 1, DEEPEST) + line)
-
     def on_block(self, results: list[str]) -> None:
         self.enter("block", results)
         if len(self.blocks) <= MOST_BRACES:
-            self.open("{")
+            self.emit("{")
 
     def on_loop(self, results: list[str]) -> None:
         lost = self.lost.get(self.at, set())
         known = {local: UNKNOWN if local in lost else below for local, below in self.state.locals.items()}
         self.state = self.state._replace(locals=known | {local: UNKNOWN for local in lost})
         block = self.enter("loop", results)
-        self.open(f"{block.label}: for (;;) {{")
+        self.emit(f"{block.label}: for (;;) {{")
 
     def begin_again(self, block: Block) -> None:
         """Notes which locals are other pointers now than when the loop began."""
@@ -436,7 +435,7 @@ class Translation:
         [condition] = self.pop(1)
         condition = self.settled(condition) if len(condition.text) > LONGEST else condition
         self.enter("if", results)
-        self.open(f"if ({bare(condition.text)}) {{")
+        self.emit(f"if ({bare(condition.text)}) {{")
 
     def hand_over(self, block: Block) -> None:
         """Gives the block's variable what stands uppermost, where the block's end is reached."""
@@ -449,7 +448,7 @@ class Translation:
         if self.is_live:
             self.hand_over(block)
         del self.stack[block.height :]
-        self.open("} else {")
+        self.emit("} else {")
         block.kind, self.state, self.is_live = "else", block.state, True
 
     def on_end(self) -> None:
@@ -466,7 +465,7 @@ class Translation:
             block.states.append(block.state)
         del self.stack[block.height :]
         if block.kind != "block" or len(self.blocks) <= MOST_BRACES:
-            self.open("}")
+            self.emit("}")
         self.blocks.pop()
         self.is_live = bool(block.states)
         if block.label in self.jumped_to and block.kind != "loop":

@@ -5,7 +5,7 @@ from __future__ import annotations
 import re
 
 LOAD = r"\(u32\)\(\(u32\)load8\({at}(?: \+ UINT64_C\((\d+)\))?\) == (\d+)u\)"
-BEGIN, END = re.compile(r"^( *)for \(;;\) \{$"), ["break;", "}"]
+BEGIN, END = "for (;;) {", ["break;", "}"]
 MOST_LINES = 12
 
 
@@ -56,12 +56,11 @@ def by_words(lines: list[str]) -> list[str]:
     kept: list[str] = []
     at = 0
     while at < len(lines):
-        begin = BEGIN.match(lines[at])
-        body = [line.strip() for line in lines[at + 1 : at + 1 + MOST_LINES]] if begin else []
+        body = lines[at + 1 : at + 1 + MOST_LINES] if lines[at] == BEGIN else []
         end = next((it for it in range(3, len(body) - 1) if body[it : it + 2] == END), 0)
-        instead = searched([line.strip() for line in kept[-2:]], body[:end]) if end > 3 else None
-        if begin and instead:
-            kept += [begin[1] + line for line in instead]
+        instead = searched(kept[-2:], body[:end]) if end > 3 else None
+        if instead:
+            kept += instead
             at += end + 3
         else:
             kept.append(lines[at])
