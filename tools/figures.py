@@ -219,6 +219,7 @@ def versions():
         ("README.md", r"infer-tools_(\d+\.\d+\.\d+)_amd64"),
         ("bindings/javascript/README.md", r"hoarvelt-infer-(\d+\.\d+\.\d+)\.tgz"),
         ("bindings/java/README.md", r"hoarvelt-infer-(\d+\.\d+\.\d+)\.jar"),
+        *([("dist/MADE", r"^infer (\S+) for wasm64-unknown-unknown, ")] if os.path.isdir("dist") else []),
     ]:
         found = re.search(pattern, text_of(path), re.M)
         yield path, found[1] if found else "none"
