@@ -19,7 +19,8 @@ def sources():
     for at, folders, files in os.walk("."):
         folders[:] = sorted(it for it in folders if it not in PRUNED)
         found += (os.path.normpath(f"{at}/{it}") for it in sorted(files) if not it.endswith((".md", ".png", ".svg", ".jpg", ".wasm", ".a")))
-    return [it for it in found if not it.endswith("/stdin")]
+    # (what make compiles is no text)
+    return [it for it in found if not it.endswith("/stdin") and it != "infer_label"]
 
 
 def without_blocks(page):
