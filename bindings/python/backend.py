@@ -1,5 +1,6 @@
-"""Makes the wheel for pip, without a network and without a package: the files of src/infer, the aliases and the library. In
-the repository this is what c/build made. In a source distribution it is compiled of infer_portable.c, by CC and CFLAGS."""
+"""Makes the wheel for pip, without a network and without a package: the files of src/infer, the aliases and the library. This is
+what c/build made. Without that it is compiled by CC and CFLAGS, of dist/infer.c, or in a source distribution of
+infer_portable.c."""
 from __future__ import annotations
 
 import base64
@@ -19,6 +20,8 @@ HERE = os.path.dirname(os.path.abspath(__file__))
 ROOT = os.path.dirname(os.path.dirname(HERE))
 # What a source distribution has beside this file, and the repository elsewhere.
 PORTABLE = os.path.join(HERE, "infer_portable.c")
+# What c/build made, and what is compiled without it.
+ARCHIVE, DIST = os.path.join(ROOT, "c", "out", "libinfer.a"), os.path.join(ROOT, "dist", "infer.c")
 NAME, VERSION = "hoarvelt_infer", "0.1.0"
 METADATA = f"""Metadata-Version: 2.1
 Name: hoarvelt-infer
@@ -44,10 +47,18 @@ NAMES = {"win": "infer.dll", "macosx": "libinfer.dylib"}
 OF_EVERY_LIBC = {"memcpy", "memmove", "memset"}
 
 
+def _source() -> str:
+    """The C file to compile, or nothing if the library is built."""
+    if os.path.exists(PORTABLE):
+        return PORTABLE
+    is_built = "INFER_LIBRARY" in os.environ or os.path.exists(os.environ.get("INFER_ARCHIVE") or ARCHIVE)
+    return DIST if os.path.exists(DIST) and not is_built else ""
+
+
 def _compiled(folder: str) -> str:
     """The library by this machine's compiler of C."""
     library = os.path.join(folder, "libinfer.so")
-    words = [os.environ.get("CC", "cc"), *os.environ.get("CFLAGS", "-O1").split(), "-shared", "-fPIC", "-I", HERE, PORTABLE, "-o", library]
+    words = [os.environ.get("CC", "cc"), *os.environ.get("CFLAGS", "-O1").split(), "-shared", "-fPIC", _source(), "-o", library]
     subprocess.run(words, check=True)
     return library
 
@@ -57,12 +68,12 @@ def _library(folder: str) -> str:
     made. This one names no C library, so that it is for glibc and for musl."""
     if "INFER_LIBRARY" in os.environ:
         return os.environ["INFER_LIBRARY"]
-    if os.path.exists(PORTABLE):
+    if _source():
         return _compiled(folder)
-    archive = os.environ.get("INFER_ARCHIVE") or os.path.join(ROOT, "c", "out", "libinfer.a")
+    archive = os.environ.get("INFER_ARCHIVE") or ARCHIVE
     names, library = os.path.join(folder, "names"), os.path.join(folder, "libinfer.so")
     if not os.path.exists(archive):
-        raise FileNotFoundError(f"no {archive}: run c/build first")
+        raise FileNotFoundError(f"no {archive} and no {DIST}: run c/build first")
     with open(names, "w", encoding="ascii") as file:
         file.write("{ global: infer_*; local: *; };\n")
     safe = ["-Wl,-z,now", "-Wl,-z,relro", "-Wl,-z,noexecstack"]
@@ -100,7 +111,7 @@ def _platforms(library: str) -> list[str]:
     musllinux too if it names no C library. The machine is that of the library, which has to be the one that the wheel is made
     for: that of this Python, unless _PYTHON_HOST_PLATFORM says another."""
     plain = [sysconfig.get_platform().replace("-", "_").replace(".", "_")]
-    if os.path.exists(PORTABLE):
+    if _source():
         return plain
     system, machine = _machine(library)
     if (system, machine) != _wanted():
