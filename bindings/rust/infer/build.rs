@@ -1,7 +1,9 @@
 //! Writes the table of the aliases, and links with the library for C, from the folder that `INFER_LIB_DIR` names, or from
-//! this one if it is here, or from `c/out` of the repository. Without the library all goes but linking.
+//! this one if it is here, or from `c/out` of the repository. Where it is in none of them, `CC` compiles the C file of the
+//! repository's `dist`. Without that too all goes but linking.
 
 use std::path::{Path, PathBuf};
+use std::process::Command;
 use std::{env, fs};
 
 /// The words of the lines, and the kinds of `src/aliases.rs`, in their order.
@@ -13,8 +15,37 @@ fn main() {
     println!("cargo:rerun-if-changed={}", lines.display());
     let text = fs::read_to_string(&lines).expect("aliases.def is part of the package");
     fs::write(Path::new(&variable("OUT_DIR")).join("aliases.rs"), table(&text)).expect("Cargo's folder can be written to");
-    let beside = if here.join("libinfer.a").exists() { here } else { here.join("../../../c/out") };
-    link(env::var_os("INFER_LIB_DIR").map_or(beside, PathBuf::from));
+    link(env::var_os("INFER_LIB_DIR").map_or_else(|| built(&here), PathBuf::from));
+}
+
+/// The folder that has the library, or would have it if it were built.
+fn built(here: &Path) -> PathBuf {
+    let (made, source) = (here.join("../../../c/out"), here.join("../../../dist/infer.c"));
+    if here.join("libinfer.a").exists() {
+        here.to_path_buf()
+    } else if made.join("libinfer.a").exists() || !source.exists() {
+        made
+    } else {
+        compiled(&source)
+    }
+}
+
+/// The folder of the library that the C compiler makes of that file.
+fn compiled(source: &Path) -> PathBuf {
+    let to = PathBuf::from(variable("OUT_DIR"));
+    println!("cargo:rerun-if-changed={}", source.display());
+    run(tool("CC", "cc").args(["-std=c99", "-O1", "-fPIC", "-c"]).arg(source).arg("-o").arg(to.join("infer.o")));
+    run(tool("AR", "ar").arg("rc").arg(to.join("libinfer.a")).arg(to.join("infer.o")));
+    to
+}
+
+fn tool(variable: &str, otherwise: &str) -> Command {
+    Command::new(env::var_os(variable).unwrap_or(otherwise.into()))
+}
+
+fn run(command: &mut Command) {
+    let ended = command.status().unwrap_or_else(|fault| panic!("{command:?}: {fault}"));
+    assert!(ended.success(), "{command:?}: {ended}");
 }
 
 fn variable(name: &str) -> String {
