@@ -1,3 +1,5 @@
+//go:build ignore
+
 /* Compares each line of aliases.def with the rows of the library. */
 #include "infer_aliases.h"
 #include "infer.h"

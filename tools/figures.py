@@ -219,7 +219,7 @@ def versions():
         ("README.md", r"infer-tools_(\d+\.\d+\.\d+)_amd64"),
         ("bindings/javascript/README.md", r"hoarvelt-infer-(\d+\.\d+\.\d+)\.tgz"),
         ("bindings/java/README.md", r"hoarvelt-infer-(\d+\.\d+\.\d+)\.jar"),
-        *([("dist/MADE", r"^infer (\S+) for wasm64-unknown-unknown, ")] if os.path.isdir("dist") else []),
+        *([("dist/MADE", r"^infer (\S+) for wasm64-unknown-unknown, ")] if os.path.isfile("dist/infer.c") else []),
     ]:
         found = re.search(pattern, text_of(path), re.M)
         yield path, found[1] if found else "none"
@@ -244,12 +244,12 @@ def check_versions(pages):
     yield f"Requires-Python: >={python}\n" in text_of("bindings/python/backend.py"), f"bindings/python/backend.py wants another Python than {python}"
     for page, asked, name in [
         ("bindings/python/README.md", python, "Python"),
-        ("bindings/go/README.md", re.search(r"^go (.*)$", text_of("bindings/go/go.mod"), re.M)[1], "Go"),
+        ("bindings/go/README.md", re.search(r"^go (.*)$", text_of("go.mod"), re.M)[1], "Go"),
         ("bindings/rust/infer/README.md", re.search(r'^rust-version = "(.*)"$', text_of("bindings/rust/infer/Cargo.toml"), re.M)[1], "Rust"),
         ("bindings/javascript/README.md", json.loads(text_of("bindings/javascript/package.json"))["engines"]["node"].lstrip(">="), "Node"),
         ("bindings/java/README.md", re.search(r"--release (\d+) -Xlint:all -Werror", text_of("bindings/java/fill"))[1], "Java"),
     ]:
-        source = os.path.dirname(page) + {"Python": "/pyproject.toml", "Go": "/go.mod", "Rust": "/Cargo.toml", "Node": "/package.json", "Java": "/fill"}[name]
+        source = os.path.dirname(page) + {"Python": "/pyproject.toml", "Go": "/../../go.mod", "Rust": "/Cargo.toml", "Node": "/package.json", "Java": "/fill"}[name]
         yield f"{name} {asked} or later" in text_of(page).replace("\n", " "), f"{page} does not ask for {name} {asked} or later, as {source} does"
     named = [sorted(set(re.findall(r"rattle-kit-\w+", text_of(it)))) for it in ("README.md", "tools/toolchain")]
     yield named[0] == named[1] and len(named[0]) == 1, f"README.md names the toolchain {named[0]}, and tools/toolchain {named[1]}"

@@ -2,6 +2,7 @@
 package infer
 
 /*
+#cgo CFLAGS: -O1 -g0
 #include "library.h"
 
 // For an argument of the type void * Go allocates, and for one that C writes to. These have none.
@@ -55,6 +56,9 @@ import (
 	"sync"
 	"syscall"
 	"unsafe"
+
+	_ "hoarvelt.example/infer/aliases"
+	_ "hoarvelt.example/infer/dist"
 )
 
 // Front is how many bytes of a reader or a file are looked at.

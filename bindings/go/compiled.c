@@ -1,0 +1,4 @@
+/* The library, where fill put none here that is built. */
+#ifndef INFER_IS_BUILT
+#include "../../dist/infer.c"
+#endif
