@@ -213,6 +213,7 @@ def versions():
         ("bindings/rust/infer/Cargo.toml", r'^version = "(.*?)\+infer\.\d+\.\d+\.\d+"$'),
         ("bindings/rust/infer/Cargo.lock", r'^version = "(.*?)\+infer\.'),
         ("CHANGELOG.md", r"^## (\d+\.\d+\.\d+)"),
+        ("debian/changelog", r"^infer \((\S+)\)"),
         ("bindings/rust/infer/README.md", r"`(\d+\.\d+\.\d+)\+infer"),
         ("bindings/python/README.md", r"hoarvelt-infer==(\d+\.\d+\.\d+)"),
         ("bindings/go/README.md", r"infer-go-(\d+\.\d+\.\d+)\.tar"),
