@@ -66,6 +66,34 @@ static inline u32 has_byte(u64 at, size_t size, u32 byte) {
         if (*from == byte) found = ones << 7;
     return (found & ones << 7) != 0;
 }
+/* The least of another byte and of so many, each less a number. By vectors of bytes with a sign, which most processors compare: the
+ * last is looked at first, and has some bytes that another one has too. */
+static inline u32 least_byte(u64 at, size_t size, uint8_t less, u32 least) {
+    const unsigned char *from = source(at), *const end = from + size;
+#if defined(__GNUC__) && !defined(__TINYC__)
+    typedef uint8_t bytes __attribute__((vector_size(16)));
+    typedef int8_t with_sign __attribute__((vector_size(16)));
+    if (size >= sizeof(bytes)) {
+        const bytes by = (bytes){0} + (uint8_t)(less + 128);
+        bytes some;
+        memcpy(&some, end - sizeof some, sizeof some);
+        with_sign all = (with_sign)(some - by);
+        for (; from <= end - sizeof some; from += sizeof some) {
+            memcpy(&some, from, sizeof some);
+            const with_sign told = (with_sign)(some - by);
+            all ^= (all ^ told) & (told < all);
+        }
+        for (size_t lane = 0; lane < sizeof all; lane++)
+            least = (u32)(all[lane] + 128) < least ? (u32)(all[lane] + 128) : least;
+        return least;
+    }
+#endif
+    for (; from < end; from++) {
+        const uint8_t it = (uint8_t)(*from - less);
+        least = it < least ? it : least;
+    }
+    return least;
+}
 static inline void copy(u64 to, u64 from, u64 size) { if (size) memmove(target(to), source(from), (size_t)size); }
 static inline void fill(u64 to, u32 value, u64 size) { if (size) memset(target(to), (int)(value & 0xFF), (size_t)size); }
 
