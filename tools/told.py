@@ -149,7 +149,7 @@ def check_compiling(page, rest):
             yield found, f"{page}: {source} does not find {header}"
         called = set(re.findall(r"\binfer_\w+(?=\()", text_of(source)))
         yield not called or "c/out/libinfer.a" in parts, f"{page}: {source} is compiled without c/out/libinfer.a"
-    known = ("-I", "-o", "-O2", "-L", "-l", "-std=c11")
+    known = ("-I", "-o", "-O", "-c", "-L", "-l", "-std=c11")
     for option in (it for it in rest if it.startswith("-")):
         yield option.startswith(known), f"{page}: `cc` is given {option}"
     yield not parts or "-o" in rest, f"{page}: `cc` is not told what to write"
