@@ -17,16 +17,15 @@ pub struct Parameters<'a> {
 }
 
 impl<'a> Parameters<'a> {
-    ghost use Rattle.std.specs.Prelude.{◌<◌, ◌++◌, ◌∷◌, [], IfSome, MatchOption, option_map, option_to_list};
-    ghost use Rattle.mime_types.specs.Parameters.{StandsFirst, parameters};
-    ghost use Rattle.mime_types.specs.Left.{left, text_read};
-    ghost use Rattle.mime_types.specs.Segment.{stands, written, written_by};
-    ghost use Rattle.mime_types.specs.Seen.{parameter_seen, written_seen};
+    ghost use Rattle.std.specs.Prelude.{◌<◌, ◌++◌, ◌∷◌, [], MatchOption, option_map, option_to_list};
+    ghost use Rattle.mime_types.specs.Parameters.{parameters};
+    ghost use Rattle.mime_types.specs.Left.{left};
+    ghost use Rattle.mime_types.specs.Segment.{written, written_by};
+    ghost use Rattle.mime_types.specs.Seen.{parameter_seen};
 
     /// All of what stands behind a subtype.
     pub(crate) fn new(tail: &'a [u8]) -> Self
-        ensures all { left result ≡ parameters tail.now }
-        ensures text { text_read result ≡ tail.now }
+        ensures { left result ≡ parameters tail.now }
     {
         Parameters {
             tail,
@@ -35,12 +34,10 @@ impl<'a> Parameters<'a> {
         }
     }
 
-    /// The next one, as it was written. Behind the last there is none, however often it is asked for.
+    /// The next one.
     pub fn next(&mut self) -> Option<Parameter<'a>>
-        ensures left { MatchOption result ((left self.old ≡ []) × (left self.new ≡ []))
+        ensures { MatchOption result (left self.old ≡ [])
             (λ p. left self.old ≡ parameter_seen p ∷ left self.new) }
-        ensures stands { IfSome result (λ p. StandsFirst (text_read self.old) (written_seen p)) }
-        ensures text { text_read self.new ≡ text_read self.old }
     {
         while !self.rest.is_empty() {
             let count = self.count;
@@ -58,7 +55,6 @@ impl<'a> Parameters<'a> {
         requires { 0 < length self.old.rest.now }
         ensures tail { self.new.tail.now ≡ self.old.tail.now }
         ensures shorter { length self.new.rest.now < length self.old.rest.now }
-        ensures stands { option_map written_seen result ≡ (stands self.old.rest.now).parameter }
         ensures later { written self.old.rest.now
             ≡ option_to_list (option_map parameter_seen result) ++ written self.new.rest.now }
         ensures earlier { written_by self.new.count self.new.tail.now

@@ -1,5 +1,4 @@
-//! The text of a MIME type, written into a buffer. What stands behind the text stays. Without room for all of it, as much of it
-//! as there is room for is written.
+//! The text of a MIME type, written into a buffer.
 ghost use Rattle.std.specs.Prelude.{◌≡◌, ◌↔◌, ◌≤◌, ◌∷◌, ◌+◌, ◌<◌, [], length, option_map, option_to_list, IsTrue, IsSome};
 ghost use Rattle.mime_types.specs.Segment.{left_by};
 ghost use Rattle.mime_types.specs.Parameters.{parameters};
@@ -18,8 +17,7 @@ use crate::value::{is_token_value, split_value};
 /// Why a text was not written.
 #[derive(Clone, Copy, Debug, Drop)]
 pub enum WriteError {
-    /// There are more than 256 segments behind the subtype, each of which would be compared with those before it. Nothing is
-    /// written.
+    /// There are more than 256 segments behind the subtype, each of which would be compared with those before it.
     TooManyParameters,
     /// The text is longer than the buffer.
     NoRoom,
@@ -130,7 +128,7 @@ pub const MOST_SEGMENTS: usize = 256;
 
 impl<'a> MimeType<'a> {
     ghost use Rattle.std.specs.Prelude.{IfSome};
-    ghost use Rattle.mime_types.specs.Left.{left, text_read};
+    ghost use Rattle.mime_types.specs.Left.{left};
     ghost use Rattle.mime_types.specs.Groups.{essence};
     ghost use Rattle.mime_types.specs.Seen.{kind_of, mime_of};
     ghost use Rattle.mime_types.specs.Serialize.{serialize};
@@ -140,7 +138,6 @@ impl<'a> MimeType<'a> {
     pub fn parameters(&self) -> Option<Parameters<'a>>
         ensures few { IsSome result ↔ HasFew MOST_SEGMENTS self.now.tail.now }
         ensures all { IfSome result (λ p. left p ≡ parameters self.now.tail.now) }
-        ensures text { IfSome result (λ p. text_read p ≡ self.now.tail.now) }
     {
         if has_few(self.tail) {
             return Some(Parameters::new(self.tail));
