@@ -4,6 +4,7 @@
 #include <errno.h>
 #include <fcntl.h>
 #include <limits.h>
+#include <stdint.h>
 #include <stdlib.h>
 #include <string.h>
 #include <sys/stat.h>
@@ -32,14 +33,17 @@ static ssize_t read_again(int fd, unsigned char *to, size_t size) {
     return got;
 }
 
-/* Fills what is read up to so many bytes, from the `count` that are there. How many are there then, or -1. A pipe is waited
- * for once: what was written to it together comes together. */
-static ssize_t read_up_to(struct magic_set *it, int fd, size_t count, size_t size, bool is_pipe) {
+/* The least that a read brings after which there is another. What was written to a pipe together comes together, and of a
+ * socket or a terminal nobody knows whether more will come. */
+static size_t least_of(mode_t mode) { return S_ISREG(mode) || S_ISBLK(mode) ? 1 : S_ISFIFO(mode) ? PIPE_BUF : SIZE_MAX; }
+
+/* Fills what is read up to so many bytes, from the `count` that are there. How many are there then, or -1. */
+static ssize_t read_up_to(struct magic_set *it, int fd, size_t count, size_t size, size_t least) {
     while (count < size) {
         ssize_t got = read_again(fd, it->read + count, size - count);
         if (got < 0) return count == 0 ? -1 : (ssize_t)count;
         count += (size_t)got;
-        if (got == 0 || (is_pipe && got < PIPE_BUF)) break;
+        if ((size_t)got < least) break;
     }
     return (ssize_t)count;
 }
@@ -56,17 +60,18 @@ static size_t wanted(const struct magic_set *it, size_t count) {
 
 /* The number of bytes that were read, or -1. */
 static ssize_t read_front(struct magic_set *it, int fd) {
-    struct stat about;
-    bool is_pipe = fstat(fd, &about) == 0 && S_ISFIFO(about.st_mode);
+    struct stat about = {0};
+    fstat(fd, &about);
+    size_t least = least_of(about.st_mode);
     size_t first = it->params[MAGIC_PARAM_BYTES_MAX] < FRONT ? it->params[MAGIC_PARAM_BYTES_MAX] : FRONT;
     if (!has_room(it, FRONT)) return -1;
-    ssize_t count = read_up_to(it, fd, 0, first, is_pipe);
-    if (count < (ssize_t)first || first < FRONT) return count;
+    ssize_t count = read_up_to(it, fd, 0, first, least);
+    if (count < (ssize_t)first || first < FRONT || least == SIZE_MAX) return count;
     size_t all = wanted(it, (size_t)count);
     /* A regular file says how long it is, so that no room is taken for more. */
     if (S_ISREG(about.st_mode) && (uintmax_t)about.st_size < all) all = (size_t)about.st_size;
     if (all <= (size_t)count || !has_room(it, all)) return count;
-    return read_up_to(it, fd, (size_t)count, all, is_pipe);
+    return read_up_to(it, fd, (size_t)count, all, least);
 }
 
 /* The path is null if it does not count. */
@@ -88,10 +93,10 @@ static int say_read(struct magic_set *it, int fd, const char *shown_as, const ch
 
 int say_descriptor(struct magic_set *it, int fd, const char *shown_as) { return say_read(it, fd, shown_as, NULL); }
 
-/* Gives the file the times back that it had. */
-static void restore_times(const char *path, const struct stat *about) {
+/* Gives the file the times back that it had: the one that was read, whatever its path leads to by now. */
+static void restore_times(int fd, const struct stat *about) {
     struct timespec times[2] = {about->st_atim, about->st_mtim};
-    utimensat(AT_FDCWD, path, times, 0);
+    futimens(fd, times);
 }
 
 int say_path(struct magic_set *it, const char *path) {
@@ -108,7 +113,7 @@ int say_path(struct magic_set *it, const char *path) {
     }
     bool restores = it->flags & MAGIC_PRESERVE_ATIME && fstat(fd, &about) == 0;
     int answer = say_read(it, fd, path, it->asks_names ? path : NULL);
+    if (restores) restore_times(fd, &about);
     close(fd);
-    if (restores) restore_times(path, &about);
     return answer;
 }

@@ -6,7 +6,7 @@
 #include <stdlib.h>
 #include <string.h>
 
-/* A text of types is read up to this. */
+/* The most that all texts of types have together. */
 #define TEXT_MAX ((size_t)1 << 20)
 
 /* The first four bytes of a compiled magic(5) file, in either order. */
@@ -45,6 +45,10 @@ static int take_text(struct magic_set *it, const char *from, const char *text, s
         fail(it, 0, "%s is a compiled magic(5) file, which is not taken: types are taken in the notation of infer", from);
         return -1;
     }
+    if (len > TEXT_MAX || it->types_len > TEXT_MAX - len) {
+        fail(it, EFBIG, "the types of `%s' are too long", from);
+        return -1;
+    }
     if (infer_types_check(text, len, &line, &column, reason, sizeof reason) != 0) {
         fail(it, 0, "%s, line %zu, column %zu: %s: types are taken in the notation of infer, and a magic(5) file is not", from, line, column, reason);
         return -1;
@@ -63,7 +67,6 @@ static int take_file(struct magic_set *it, const char *path) {
     int answer = -1;
     if (text == NULL) fail(it, ENOMEM, "cannot keep the types of %s", path);
     else if (ferror(file)) fail(it, errno, "cannot read `%s'", path);
-    else if (len > TEXT_MAX) fail(it, EFBIG, "the types of `%s' are too long", path);
     else if (take_text(it, path, text, len) == 0) answer = 1;
     free(text);
     fclose(file);
