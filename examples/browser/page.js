@@ -354,10 +354,11 @@ const savedOf = (result) => ({
     fault: result.fault ?? null,
 });
 
-/** A cell of CSV. A program for tables takes a text that begins so for a formula, and a stranger chose the name. */
+/** A cell of CSV. A program for tables takes a text that begins so for a formula, also one in wide letters, and may take
+ *  a semicolon for its end. A stranger chose the name. */
 const csvCell = (value) => {
-    const text = typeof value === "string" ? visible(value).replace(/^[=+\-@]/, "'$&") : `${value ?? ""}`;
-    return /[",]/.test(text) ? `"${text.replaceAll('"', '""')}"` : text;
+    if (typeof value !== "string") return `${value ?? ""}`;
+    return `"${visible(value).replace(/^[=+\-@\uFF1D\uFF0B\uFF0D\uFF20]/, "'$&").replaceAll('"', '""')}"`;
 };
 
 const csvOf = (all) => [SAVED, ...all.map((it) => SAVED.map((key) => savedOf(it)[key]))].map((cells) => `${cells.map(csvCell).join(",")}\r\n`).join("");
