@@ -1,4 +1,4 @@
-"""HTTP for the example servers. h11 reads and writes it; what stands here are bounds on time, size and places."""
+"""HTTP for the example servers. h11 reads and writes it; what stands here are bounds on time and size."""
 from __future__ import annotations
 
 import asyncio
@@ -6,14 +6,14 @@ import email.utils
 import errno
 import itertools
 import re
-import resource
-from collections import OrderedDict
+import socket
 from collections.abc import Awaitable, Callable, Iterable
 from http import HTTPStatus
-from typing import BinaryIO
+from typing import BinaryIO, TypeVar
 
 import h11
 from loopback import listen
+from places import Place, places_for, serve
 
 # The status if the system has no more of something.
 SHORT = dict.fromkeys((errno.EMFILE, errno.ENFILE, errno.ENOBUFS, errno.ENOMEM, errno.EAGAIN), 503)
@@ -25,6 +25,7 @@ PLAIN = re.compile(rb"[A-Za-z]+ [!-~]+ HTTP/1\.[01]\r\n(?:[-0-9A-Za-z]+:[\t -~\x
 DOUBLE = re.compile(rb"\n(content-length|content-type|host):(?s:.*)\n\1:|\ncontent-(?:length|type):.*,", re.IGNORECASE)
 # A page of a site whose name leads here is of that site, and is to read and put nothing.
 OWN_HOST = re.compile(r"(?:127\.0\.0\.1|localhost|\[::1\])(?::[0-9]+)?", re.IGNORECASE)
+T = TypeVar("T")
 
 
 class Refusal(Exception):
@@ -34,9 +35,16 @@ class Refusal(Exception):
 class Client:
     """A connection, with the request that is to be answered. Of headers with one name it has a list."""
 
-    def __init__(self, server: Server, reader: asyncio.StreamReader, writer: asyncio.StreamWriter) -> None:
-        self.server, self.reader, self.writer, self.http = server, reader, writer, h11.Connection(h11.SERVER)
+    def __init__(self, server: Server, place: Place, reader: asyncio.StreamReader, writer: asyncio.StreamWriter) -> None:
+        self.server, self.place, self.reader, self.writer, self.http = server, place, reader, writer, h11.Connection(h11.SERVER)
         writer.transport.set_write_buffer_limits(0)  # so that what was drained is with the system
+
+    async def in_time(self, work: Awaitable[T], status: int) -> T:
+        """What the work gives, or the status if it takes too long."""
+        try:
+            return await asyncio.wait_for(work, self.server.seconds)
+        except asyncio.TimeoutError:
+            raise Refusal(status) from None
 
     async def next_request(self) -> bool:
         """Whether a request has come. Who is silent before one is let go, and within one is told so."""
@@ -59,7 +67,7 @@ class Client:
             raise Refusal(501)
         if not OWN_HOST.fullmatch(self.headers.get("host", "localhost")):
             raise Refusal(421)
-        self.server.moved(self.writer)
+        self.place.moved(len(head))
         return True
 
     async def receive(self, file: BinaryIO) -> None:
@@ -69,18 +77,18 @@ class Client:
         while not isinstance(event := self.http.next_event(), h11.EndOfMessage):
             if event is h11.NEED_DATA:
                 self.http.receive_data(await self.reader.read(PIECE))
-                self.server.moved(self.writer)
             else:
                 file.write(event.data)
+                self.place.moved(len(event.data))
         file.flush()
 
     async def send(self, status: int, fields: Iterable[tuple[str, str]], body: Iterable[bytes] = ()) -> None:
         fields = [*fields, ("Date", email.utils.formatdate(usegmt=True)), ("X-Content-Type-Options", "nosniff")]
         head = h11.Response(status_code=status, headers=fields, reason=HTTPStatus(status).phrase)
         for event in itertools.chain([head], (h11.Data(data=piece) for piece in body), [h11.EndOfMessage()]):
-            self.writer.write(self.http.send(event))
+            self.writer.write(piece := self.http.send(event))
             await asyncio.wait_for(self.writer.drain(), self.server.seconds)
-            self.server.moved(self.writer)
+            self.place.moved(len(piece))
 
     async def end(self, status: int, why: str = "", *fields: tuple[str, str], beside: str = "") -> None:
         """Answers a line, and ends the connection. The server's own line has something beside."""
@@ -91,7 +99,7 @@ class Client:
         await self.send(status, fields, [] if self.method == "HEAD" else [line.encode() + b"\n"])
         # If a socket is closed with bytes unread, its sender can see a reset and never the answer.
         self.writer.write_eof()
-        self.server.moved(self.writer, is_over=True)
+        self.place.leave()
         await asyncio.wait_for(self.drop(), LINGER)
 
     async def drop(self) -> None:
@@ -114,36 +122,20 @@ class Client:
 
 
 class Server:
-    """So many connections at most, in the order in which they last brought a request or a piece, or took one."""
+    """Answers so many clients at once."""
 
     def __init__(self, answer: Callable[[Client], Awaitable[None]], seconds: int, tell: Callable[[str], None]) -> None:
-        self.answer, self.seconds, self.tell = answer, seconds, tell
         # Each client takes two descriptors, its own and that of a file.
-        self.places = max(1, min(PLACES, resource.getrlimit(resource.RLIMIT_NOFILE)[0] // 2 - 16))
-        self.clients: OrderedDict[asyncio.StreamWriter, None] = OrderedDict()
+        self.answer, self.seconds, self.tell, self.places = answer, seconds, tell, places_for(PLACES, 2)
 
-    def moved(self, writer: asyncio.StreamWriter, is_over: bool = False) -> None:
-        """A client whose connection is over goes before all others."""
-        if writer in self.clients:
-            self.clients.move_to_end(writer, last=not is_over)
-
-    async def serve(self, reader: asyncio.StreamReader, writer: asyncio.StreamWriter) -> None:
-        if len(self.clients) >= self.places:
-            self.clients.popitem(last=False)[0].transport.abort()
-        self.clients[writer] = None
+    async def attend(self, connection: socket.socket, port: int, place: Place) -> None:
+        reader, writer = await asyncio.open_connection(sock=connection, limit=HEAD)
         try:
-            await Client(self, reader, writer).answer_all()
+            await Client(self, place, reader, writer).answer_all()
         except (OSError, asyncio.TimeoutError, h11.LocalProtocolError):
             pass  # a client that leaves or takes nothing, or a file that became shorter
         finally:
-            self.clients.pop(writer, None)
             writer.transport.abort()
 
     async def run(self, port: int) -> None:
-        def report(loop: asyncio.AbstractEventLoop, about: dict[str, object]) -> None:
-            # A client that leaves is no fault of this program, and without a descriptor asyncio tries again.
-            if not isinstance(about.get("exception"), OSError):
-                loop.default_exception_handler(about)
-
-        asyncio.get_running_loop().set_exception_handler(report)
-        await (await asyncio.start_server(self.serve, sock=listen(port), limit=HEAD)).serve_forever()
+        await serve(listen(port), self.places, self.attend)

@@ -11,20 +11,21 @@ import time
 import infer
 from infer import mimesniff
 from loopback import Lines, fail, listen, number_of
+from places import Place, places_for, serve
 
-ROOM, STREAMS, REST, TURN = 65536, 256, 0.1, 1
+ROOM, STREAMS, TURN = 65536, 256, 1
 AT_ONCE, IN_ORDER = struct.pack("ii", 1, 0), struct.pack("ii", 0, 0)
 
 
 class Stream:
     """A client and its server, and what is known of what the client sends."""
 
-    def __init__(self, client: socket.socket, server: socket.socket, port: int, lines: Lines, by_browser: bool) -> None:
-        self.client, self.server, self.port, self.lines = client, server, port, lines
+    def __init__(self, client: socket.socket, place: Place, port: int, lines: Lines, by_browser: bool) -> None:
+        self.client, self.server, self.place, self.port, self.lines = client, socket.socket(), place, port, lines
         self.sniffer, self.count, self.is_told, self.is_broken = mimesniff.Sniffer() if by_browser else infer.Sniffer(), 0, False, False
-        self.moved, self.ended = time.monotonic(), set[socket.socket]()
-        server.setsockopt(socket.IPPROTO_TCP, socket.TCP_NODELAY, 1)
-        for side in (client, server):
+        self.ended = set[socket.socket]()
+        self.server.setsockopt(socket.IPPROTO_TCP, socket.TCP_NODELAY, 1)
+        for side in (client, self.server):
             side.setblocking(False)
             side.setsockopt(socket.SOL_SOCKET, socket.SO_OOBINLINE, 1)
             # What is closed is reset, or an end of this program would tell a server that an upload is whole.
@@ -59,7 +60,7 @@ class Stream:
                 self.is_broken = True  # the other side may still have bytes that came before
                 return
             finally:
-                self.moved = time.monotonic()
+                self.place.moved(len(piece))
                 if source is self.client:
                     self.label(piece)
         self.ended.add(source)
@@ -71,7 +72,7 @@ class Stream:
     async def watch(self, seconds: int) -> None:
         """Fails once nothing has moved for so long, or a side is reset that has sent all and so is no longer read."""
         while not any(it.getsockopt(socket.SOL_SOCKET, socket.SO_ERROR) for it in self.ended):
-            if time.monotonic() - self.moved > seconds:
+            if time.monotonic() - self.place.at > seconds:
                 raise TimeoutError
             await asyncio.sleep(TURN)
         raise ConnectionResetError
@@ -85,7 +86,7 @@ class Stream:
                     ways.create_task(self.pass_on(self.client, self.server))
                     ways.create_task(self.pass_on(self.server, self.client))
                 watching.cancel()
-        except* OSError:
+        except* (OSError, asyncio.CancelledError):  # or its place was another's
             self.is_broken = True
         self.tell("cut")
         # What is broken is reset at both sides, so that neither takes what it got for all.
@@ -94,21 +95,17 @@ class Stream:
             side.close()
 
 
-async def serve(port: int, to_port: int, seconds: int, by_browser: bool) -> None:
-    listening, lines, running = listen(port), Lines(), set[asyncio.Task[None]]()
-    while True:
-        while len(running) >= STREAMS:
-            await asyncio.wait(running, return_when=asyncio.FIRST_COMPLETED)
+async def run(port: int, to_port: int, seconds: int, by_browser: bool) -> None:
+    lines, count = Lines(), places_for(STREAMS, 2)
+
+    async def attend(client: socket.socket, client_port: int, place: Place) -> None:
         try:
-            # Before a client is taken its server has a socket.
-            with socket.socket() as server:
-                client, (_, client_port) = await asyncio.get_running_loop().sock_accept(listening)
-                stream = Stream(client, socket.socket(fileno=server.detach()), client_port, lines, by_browser)
+            stream = Stream(client, place, client_port, lines, by_browser)
         except OSError:  # there is no descriptor
-            await asyncio.sleep(REST)
-            continue
-        running.add(task := asyncio.create_task(stream.run(to_port, seconds)))
-        task.add_done_callback(running.discard)
+            return client.close()
+        await stream.run(to_port, seconds)
+
+    await serve(listen(port), count, attend)
 
 
 def main() -> None:
@@ -117,7 +114,7 @@ def main() -> None:
     port, to_port, seconds = (*words, "60")[:3] if 2 <= len(words) <= 3 else ("", "", "")
     if number_of(port, 65535) < 0 or number_of(to_port, 65535) < 0 or number_of(seconds, 86400) < 1:
         fail("usage: labelling_proxy.py [--browser] PORT TO_PORT [SECONDS]")
-    asyncio.run(serve(int(port), int(to_port), int(seconds), by_browser))
+    asyncio.run(run(int(port), int(to_port), int(seconds), by_browser))
 
 
 if __name__ == "__main__":

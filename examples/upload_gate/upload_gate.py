@@ -40,8 +40,8 @@ def upload_of(method: str, target: str, headers: dict[str, str]) -> tuple[str, s
 
 
 class Gate:
-    def __init__(self, folder: str, seconds: int, judge: Judge) -> None:
-        self.folder, self.seconds, self.judge = os.open(folder, os.O_RDONLY | os.O_DIRECTORY), seconds, judge
+    def __init__(self, folder: str, judge: Judge) -> None:
+        self.folder, self.judge = os.open(folder, os.O_RDONLY | os.O_DIRECTORY), judge
 
     def unnamed(self) -> BinaryIO:
         """A file without a name: whatever ends this program, no part of it is left."""
@@ -51,25 +51,22 @@ class Gate:
         name, claim = upload_of(client.method, client.target, client.headers)
         try:
             with self.unnamed() as file:
-                await asyncio.wait_for(client.receive(file), self.seconds)
-                status, why, beside = await asyncio.to_thread(self.judged, file, name, claim)
-        except asyncio.TimeoutError:
-            raise Refusal(408) from None
+                await client.in_time(client.receive(file), 408)
+                path = f"/proc/self/fd/{file.fileno()}"
+                with client.place.waiting():
+                    status, why, beside = await client.in_time(asyncio.to_thread(self.judged, path, name, claim), 503)
+                    if status == 201:
+                        await asyncio.to_thread(self.keep, file, path, name)
         except OSError as fault:
             raise Refusal(STATUS_OF.get(fault.errno, 500)) from None
         except RuntimeError:  # there is no thread
             raise Refusal(503) from None
         await client.end(status, why, beside=beside)
 
-    def judged(self, file: BinaryIO, name: str, claim: str) -> tuple[int, str, str]:
-        """The status and the reason, after the file has got its name if it is let through. If it is not, the log has its name
-        too, and which bytes made it what it is."""
-        path = f"/proc/self/fd/{file.fileno()}"
+    def judged(self, path: str, name: str, claim: str) -> tuple[int, str, str]:
+        """The status and the reason. If the file is refused, the log has its name too, and which bytes made it what it is."""
         status, why = self.judge.judge(path, name, claim)
-        if status == 201:
-            self.keep(file, path, name)
-            return status, why, ""
-        return status, why, f", {name}: {reasons(path)}"
+        return status, why, "" if status == 201 else f", {name}: {reasons(path)}"
 
     def keep(self, file: BinaryIO, path: str, name: str) -> None:
         """The file is on the disk before it gets its name, and that before the sender is told. Nothing is replaced."""
@@ -87,7 +84,7 @@ def main() -> None:
     if number_of(port, 65535) < 0 or number_of(seconds, 86400) < 1 or types[:1] not in ([], ["--types"]):
         fail("usage: upload_gate.py PORT FOLDER SECONDS [--types FILE] CLASS|MIME_TYPE,..")
     try:
-        gate = Gate(folder, int(seconds), Judge(allowed, *types[1:]))
+        gate = Gate(folder, Judge(allowed, *types[1:]))
         gate.unnamed().close()
         asyncio.run(Server(gate.answer, int(seconds), Lines().tell).run(int(port)))
     except (OSError, ValueError) as fault:
