@@ -25,6 +25,9 @@ PLAIN = re.compile(rb"[A-Za-z]+ [!-~]+ HTTP/1\.[01]\r\n(?:[-0-9A-Za-z]+:[\t -~\x
 DOUBLE = re.compile(rb"\n(content-length|content-type|host):(?s:.*)\n\1:|\ncontent-(?:length|type):.*,", re.IGNORECASE)
 # A page of a site whose name leads here is of that site, and is to read and put nothing.
 OWN_HOST = re.compile(r"(?:127\.0\.0\.1|localhost|\[::1\])(?::[0-9]+)?", re.IGNORECASE)
+# Where a browser says so, a page of another site, or of another port, may lead here and use nothing from here.
+FOREIGN = {"cross-site", "same-site"}
+GUARDS = [("X-Content-Type-Options", "nosniff"), ("Cross-Origin-Resource-Policy", "same-origin")]
 T = TypeVar("T")
 
 
@@ -67,6 +70,8 @@ class Client:
             raise Refusal(501)
         if not OWN_HOST.fullmatch(self.headers.get("host", "localhost")):
             raise Refusal(421)
+        if self.headers.get("sec-fetch-site") in FOREIGN and self.headers.get("sec-fetch-mode") != "navigate":
+            raise Refusal(403)
         self.place.moved(len(head))
         return True
 
@@ -83,7 +88,7 @@ class Client:
         file.flush()
 
     async def send(self, status: int, fields: Iterable[tuple[str, str]], body: Iterable[bytes] = ()) -> None:
-        fields = [*fields, ("Date", email.utils.formatdate(usegmt=True)), ("X-Content-Type-Options", "nosniff")]
+        fields = [*fields, ("Date", email.utils.formatdate(usegmt=True)), *GUARDS]
         head = h11.Response(status_code=status, headers=fields, reason=HTTPStatus(status).phrase)
         for event in itertools.chain([head], (h11.Data(data=piece) for piece in body), [h11.EndOfMessage()]):
             self.writer.write(piece := self.http.send(event))

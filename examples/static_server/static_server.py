@@ -1,7 +1,7 @@
 #!/usr/bin/env python3
 """A static file server on the loopback, which takes the type of a file from its name and its bytes together.
 
-usage: static_server.py PORT FOLDER [SECONDS]"""
+usage: static_server.py [--sandbox] PORT FOLDER [SECONDS]"""
 import asyncio
 import contextlib
 import email.utils
@@ -16,6 +16,7 @@ from collections.abc import Iterator
 from typing import BinaryIO
 
 import infer
+from infer import mimesniff
 from infer.aliases import BROWSER_OF
 from loopback import number_of
 from serving import PIECE, SHORT, Client, Refusal, Server
@@ -23,7 +24,9 @@ from serving import PIECE, SHORT, Client, Refusal, Server
 WHOLE = 1 << 20
 STATUS_OF = SHORT | {errno.EIO: 500}
 TARGET = re.compile(r"/(?:[!$&-\[\]-~]|%[0-9A-Fa-f]{2})*")
-UNKNOWN, PAGE = "application/octet-stream", "application/xhtml+xml"
+UNKNOWN = "application/octet-stream"
+# What may run scripts in the server's name, unless strangers fill the folder.
+OWN = {"text/html", "application/xhtml+xml", "application/pdf"}
 # What no browser runs, but for what is a text too, as an image in SVG is.
 SHOWN = {"image", "audio", "video", "font"}
 BELIEVED = {infer.Standing.AGREE, infer.Standing.NAME_REFINES, infer.Standing.BYTES_REFINE}
@@ -103,7 +106,7 @@ def is_known(headers: dict[str, str], tag: str, modified: str) -> bool:
     return headers.get("if-modified-since") == modified
 
 
-def type_fields(file: BinaryIO, name: str, size: int) -> list[tuple[str, str]]:
+def type_fields(file: BinaryIO, name: str, size: int, own: set[str]) -> list[tuple[str, str]]:
     """The headers that say what a file is. A charset is said of a text that was looked at as a whole."""
     front = file.read(infer.FRONT)
     mime_type, charset = content_type(name, front), ""
@@ -112,8 +115,9 @@ def type_fields(file: BinaryIO, name: str, size: int) -> list[tuple[str, str]]:
             (front + file.read(WHOLE)).decode()
             charset = "; charset=utf-8"
     # An image in SVG that is opened by itself is a page, whose scripts this stops.
-    is_drawing = mime_type.endswith("xml") and mime_type != PAGE
-    return [("Content-Type", mime_type + charset)] + [("Content-Security-Policy", "sandbox")] * is_drawing
+    kind = mimesniff.MimeType.parse(mime_type)
+    is_foreign = mime_type not in own and kind is not None and mimesniff.Group.SCRIPTABLE in kind.groups
+    return [("Content-Type", mime_type + charset)] + [("Content-Security-Policy", "sandbox")] * is_foreign
 
 
 def span_of(value: str, size: int) -> tuple[int, int]:
@@ -137,7 +141,7 @@ def pieces(file: BinaryIO, begin: int, end: int) -> Iterator[bytes]:
         begin += len(piece)
 
 
-async def answer(folder: int, client: Client) -> None:
+async def answer(folder: int, own: set[str], client: Client) -> None:
     headers, is_get = client.headers, client.method == "GET"
     if "expect" in headers:
         raise Refusal(417)
@@ -155,7 +159,7 @@ async def answer(folder: int, client: Client) -> None:
         # A part is sent of the file that the client has another part of.
         is_part = is_get and headers.get("if-range", tag) == tag
         begin, end = span_of(headers.get("range", ""), size) if is_part else (0, size)
-        fields = [*type_fields(file, name, size), ("Content-Length", str(end - begin)), ("Accept-Ranges", "bytes")]
+        fields = [*type_fields(file, name, size, own), ("Content-Length", str(end - begin)), ("Accept-Ranges", "bytes")]
         fields += [("ETag", tag), ("Last-Modified", modified)]
         if end - begin < size:
             fields.append(("Content-Range", f"bytes {begin}-{end - 1}/{size}"))
@@ -163,11 +167,12 @@ async def answer(folder: int, client: Client) -> None:
 
 
 def main() -> None:
-    port, folder, seconds = (*sys.argv[1:], "30")[:3] if 3 <= len(sys.argv) <= 4 else ("", "", "")
+    own, words = (set(), sys.argv[2:]) if sys.argv[1:2] == ["--sandbox"] else (OWN, sys.argv[1:])
+    port, folder, seconds = (*words, "30")[:3] if 2 <= len(words) <= 3 else ("", "", "")
     if number_of(port, 65535) < 0 or number_of(seconds, 86400) < 1 or not os.path.isdir(folder):
-        sys.exit("usage: static_server.py PORT FOLDER [SECONDS]")
+        sys.exit("usage: static_server.py [--sandbox] PORT FOLDER [SECONDS]")
     top = os.open(folder, os.O_PATH | os.O_DIRECTORY)
-    asyncio.run(Server(lambda client: answer(top, client), int(seconds), lambda line: None).run(int(port)))
+    asyncio.run(Server(lambda client: answer(top, own, client), int(seconds), lambda line: None).run(int(port)))
 
 
 if __name__ == "__main__":
