@@ -96,13 +96,16 @@ static unsigned long number(const char *word, unsigned long least, unsigned long
     return value;
 }
 
+/* A text of types is read up to this, as a device has no end. */
+#define TYPES_MAX ((size_t)1 << 20)
+
 /* Reads the text of one's own types, or tells why it describes none. */
 static void read_types(struct options *options, const char *path) {
     FILE *file = fopen(path, "rb");
     size_t got = 1, line, column;
     char reason[INFER_TEXT_SIZE], why[INFER_TEXT_SIZE + 64];
     options->types.size = 0;
-    while (file && got > 0) {
+    while (file && got > 0 && options->types.size <= TYPES_MAX) {
         char *room = make_room(&options->types, 4096);
         got = fread(room, 1, 4096, file);
         options->types.size += got;
@@ -112,6 +115,8 @@ static void read_types(struct options *options, const char *path) {
         refuse_file(path, why);
     }
     fclose(file);
+    if (options->types.size > TYPES_MAX)
+        refuse_file(path, ": more than 1 MiB of types");
     if (infer_types_check(options->types.bytes, options->types.size, &line, &column, reason, sizeof reason)) {
         snprintf(why, sizeof why, ":%zu:%zu: %s", line, column, reason);
         refuse_file(path, why);
