@@ -288,6 +288,9 @@ enum infer_standing {
     INFER_NOTHING = 6       /* neither says anything: there is no type */
 };
 
+/* The text of a standing, such as "name refines", and the empty text if no standing has this number. */
+static inline const char *infer_standing_text(int32_t standing);
+
 /* A type, as texts with a zero after them. The MIME type is empty if there is none, and the extension if no row has the
  * type. An own name is a name that nobody else uses for the type: it keeps files apart, but do not send it. */
 struct infer_named_type {
@@ -404,6 +407,11 @@ static inline size_t infer_label_line(const void *name, size_t name_len, const v
     infer_label_told unused;
     infer_label_told *it = told ? told : &unused;
     return infer_label_write(name, name_len, buf, len, options->look, options->form, options->flags, options->types, options->types_len, options->content_type, options->content_type_len, options->size, &it->standing, &it->is_known, out, size);
+}
+
+static inline const char *infer_standing_text(int32_t standing) {
+    static const char *const texts[] = {"agree", "name refines", "bytes refine", "bytes alone", "name alone", "contradicts", "nothing"};
+    return standing >= INFER_AGREE && standing <= INFER_NOTHING ? texts[standing] : "";
 }
 
 static inline const char *infer_mime_type_text(int32_t row) {

@@ -76,6 +76,13 @@ inline std::optional<type> get_more(bytes of) noexcept { return of_row(infer_mor
 inline bool is_decided(bytes of) noexcept { return infer_is_decided(of.data(), of.size()); }
 inline bool is_more_decided(bytes of) noexcept { return infer_more_is_decided(of.data(), of.size()); }
 
+/* The answer, and whether it is final. It is never final below 1024 bytes. */
+inline std::pair<std::optional<type>, bool> verdict(bytes of) noexcept {
+    bool is_final = false;
+    const auto row = infer_verdict(of.data(), of.size(), &is_final);
+    return {of_row(row), is_final};
+}
+
 /* Whether some built-in type with that extension or MIME type matches the bytes. It need not be the answer. */
 inline bool is(bytes of, std::string_view extension) noexcept { return infer_is(of.data(), of.size(), extension.data(), extension.size()); }
 inline bool is_mime(bytes of, std::string_view mime_type) noexcept { return infer_is_mime(of.data(), of.size(), mime_type.data(), mime_type.size()); }
@@ -124,12 +131,60 @@ public:
         size_ += count;
     }
     bytes kept() const noexcept { return {kept_.data(), size_}; }
+    std::optional<type> get() const noexcept { return infer::get(kept()); }
+    std::optional<type> get_more() const noexcept { return infer::get_more(kept()); }
+    bool is_decided() const noexcept { return infer::is_decided(kept()); }
     bool is_full() const noexcept { return size_ == kept_.size(); }
 
 private:
     std::array<unsigned char, INFER_FRONT> kept_{};
     std::size_t size_ = 0;
 };
+
+/* A type that a name and bytes give. The extension is empty if no row has the type; see infer_named_type for an own name. */
+struct named_type {
+    std::string mime_type, extension;
+    bool is_own_name;
+};
+
+/* What a name and bytes give: what the name did, the resulting type, the first type that the name stands for, and the wider
+ * answer, which the bytes have whatever the name is. */
+struct named_answer {
+    infer_standing standing;
+    std::optional<named_type> type, type_of_name;
+    std::optional<infer::type> type_of_bytes;
+
+    std::string_view standing_text() const noexcept { return infer_standing_text(standing); }
+};
+
+namespace detail {
+inline std::optional<named_type> of_named(const infer_named_type &it) {
+    if (it.mime_type[0] == '\0') return std::nullopt;
+    return named_type{it.mime_type, it.extension, it.is_own_name};
+}
+
+inline named_answer of_answer(const infer_named_answer &it) {
+    return {static_cast<infer_standing>(it.standing), of_named(it.told), of_named(it.name), of_row(it.row)};
+}
+} // namespace detail
+
+/* The answer by a file's name and its first bytes. The bytes win: a name only chooses among what they leave open. */
+inline named_answer named(std::string_view name, bytes of) {
+    infer_named_answer answer{};
+    infer_named(name.data(), name.size(), of.data(), of.size(), &answer);
+    return detail::of_answer(answer);
+}
+
+/* The same by a path and the first 8192 bytes of its regular file. An errno of infer_named_path is thrown as a
+ * std::system_error. */
+inline named_answer named_path(const std::string &path) {
+    infer_named_answer answer{};
+    if (infer_named_path(path.c_str(), &answer) != 0) throw std::system_error(errno, std::generic_category(), path);
+    return detail::of_answer(answer);
+}
+
+/* What is odd about a name: a sum of `enum infer_oddity`, and 0 if nothing is. */
+inline std::uint32_t oddities(std::string_view name) noexcept { return infer_oddities(name.data(), name.size()); }
 
 /* A text that describes no types: line and column of its first mistake, both from 1, and the reason as what(). */
 class types_error : public std::invalid_argument {

@@ -80,6 +80,28 @@ static void calls() {
     wants("many of these buffers have a type", known > 5000);
 }
 
+static void names() {
+    const auto found = infer::named("main.py", "import os"sv);
+    wants("a name refines", found.standing == INFER_NAME_REFINES && found.standing_text() == "name refines" && found.type->mime_type == "text/x-python" && found.type->extension == "py");
+    wants("what each says alone", found.type_of_name->mime_type == "text/x-python" && found.type_of_bytes->mime_type == "text/plain");
+    wants("a name contradicts", infer::named("photo.jpg", "GIF89a"sv).standing == INFER_CONTRADICTS);
+    const auto none = infer::named("x.unknown", "\0\1"sv);
+    wants("nothing", none.standing == INFER_NOTHING && !none.type && !none.type_of_name && !none.type_of_bytes);
+    wants("an own name", infer::named("x.dz", "\x1F\x8B\b"sv).type->is_own_name && infer::named("x.dz", "\x1F\x8B\b"sv).type->extension.empty());
+    wants("oddities", infer::oddities("shell.php.jpg") == INFER_ODD_TWO && infer::oddities("a\0.png "sv) == (INFER_ODD_CONTROL | INFER_ODD_END) && infer::oddities({}) == 0);
+    wants("no standing", *infer_standing_text(-1) == 0 && *infer_standing_text(7) == 0 && std::string_view(infer_standing_text(INFER_NOTHING)) == "nothing");
+    wants("verdicts", is_jpeg(infer::verdict("\xFF\xD8\xFF"sv).first) && !infer::verdict("\xFF\xD8\xFF"sv).second && infer::verdict(std::string("\xFF\xD8\xFF") + std::string(1021, '\0')).second);
+    std::ofstream("main.jpg", std::ios::binary) << "GIF89a";
+    wants("a path has a name", infer::named_path("main.jpg").standing == INFER_CONTRADICTS);
+    bool threw = false;
+    try {
+        infer::named_path("none");
+    } catch (const std::system_error &fault) {
+        threw = fault.code().value() == ENOENT;
+    }
+    wants("a path without a file", threw);
+}
+
 /* A buffer of a stream that gives a byte at a time and cannot go back. */
 class once : public std::streambuf {
 public:
@@ -186,6 +208,7 @@ int main(int argc, char **argv) {
     views();
     calls();
     streams_and_files();
+    names();
     pieces();
     own_types();
     lines();
