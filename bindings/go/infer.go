@@ -49,11 +49,13 @@ import "C"
 
 import (
 	"bufio"
+	"encoding/json"
 	"errors"
 	"io"
 	"io/fs"
 	"os"
 	"sync"
+	"sync/atomic"
 	"syscall"
 	"unsafe"
 
@@ -89,6 +91,15 @@ type Type struct {
 
 // String gives the MIME type.
 func (t Type) String() string { return t.MIMEType }
+
+// MarshalJSON gives null for no type.
+func (t Type) MarshalJSON() ([]byte, error) {
+	type plain Type
+	if t == (Type{}) {
+		return []byte("null"), nil
+	}
+	return json.Marshal(plain(t))
+}
 
 var version = readVersion()
 
@@ -180,7 +191,28 @@ func Encoding(b []byte) (name string, ok bool) {
 // does, byte for byte.
 func DetectContentType(b []byte) string {
 	found := C.content_type(first(b), C.size_t(len(b)))
-	return string(unsafe.Slice((*byte)(unsafe.Pointer(&found.text[0])), int(found.size)))
+	return contentType(unsafe.Slice((*byte)(unsafe.Pointer(&found.text[0])), int(found.size)))
+}
+
+// The content types that were told so far. There are few, and each is allocated once.
+var contentTypes atomic.Pointer[map[string]string]
+
+func contentType(text []byte) string {
+	known := map[string]string{}
+	if all := contentTypes.Load(); all != nil {
+		known = *all
+	}
+	if told, ok := known[string(text)]; ok {
+		return told
+	}
+	more := map[string]string{}
+	for name := range known {
+		more[name] = name
+	}
+	told := string(text)
+	more[told] = told
+	contentTypes.Store(&more)
+	return told
 }
 
 // Verdict tells what Detect does, and whether it is final: no bytes that may follow can change it then.

@@ -488,6 +488,43 @@ func TestNames(t *testing.T) {
 	}
 }
 
+func TestNamedJSON(t *testing.T) {
+	for wanted, found := range map[string]Named{
+		`{"standing":"agree","type":{"mime":"image/jpeg","extension":"jpg","own":false},"type_of_name":{"mime":"image/jpeg","extension":"jpg","own":false},"type_of_bytes":{"mime":"image/jpeg","extension":"jpg","class":"image"}}`: DetectNamed("a.jpg", jpeg),
+		`{"standing":"nothing","type":null,"type_of_name":null,"type_of_bytes":null}`: DetectNamed("x.unknown", []byte("\x00\x01")),
+	} {
+		text, err := json.Marshal(found)
+		if string(text) != wanted || err != nil {
+			t.Error(string(text), err)
+		}
+		var back Named
+		if err := json.Unmarshal(text, &back); back != found || err != nil {
+			t.Error(back, err)
+		}
+	}
+	if text, err := json.Marshal(DetectNamed("a.dz", []byte("\x1F\x8B\x08")).Type); string(text) != `{"mime":"application/x-dictzip","extension":null,"own":true}` || err != nil {
+		t.Error(string(text), err)
+	}
+	var standing Standing
+	if err := json.Unmarshal([]byte(`"lies"`), &standing); err == nil {
+		t.Error("a standing that is none")
+	}
+}
+
+func TestOddities(t *testing.T) {
+	for name, wanted := range map[string]Oddity{
+		"": 0, "a.png": 0, "a.tar.gz": 0, "a\n.png": OddControl, "a\x00.png": OddControl, "\u202egnp.exe": OddDirection, "a.png ": OddEnd, "shell.php.": OddEnd,
+		"shell.php.jpg": OddTwoExtensions, "\x7f\u2066.php.jpg": OddControl | OddDirection | OddTwoExtensions,
+	} {
+		if got := Oddities(name); got != wanted {
+			t.Errorf("%q: %v", name, got)
+		}
+	}
+	if got := (OddEnd | OddTwoExtensions).String() + Oddity(0).String(); got != "an odd end, two extensions" {
+		t.Error(got)
+	}
+}
+
 func TestNamedFiles(t *testing.T) {
 	folder := t.TempDir()
 	path := filepath.Join(folder, "a.png")
@@ -685,7 +722,7 @@ func TestAllocations(t *testing.T) {
 		"Detect":              {0, func() { Detect(jpeg) }},
 		"DetectMore":          {0, func() { DetectMore(jpeg) }},
 		"Encoding":            {0, func() { Encoding(text) }},
-		"DetectContentType":   {1, func() { DetectContentType(jpeg) }},
+		"DetectContentType":   {0, func() { DetectContentType(jpeg) }},
 		"IsDecided":           {0, func() { IsDecided(jpeg) }},
 		"IsMoreDecided":       {0, func() { IsMoreDecided(jpeg) }},
 		"MayBecome":           {0, func() { MayBecome(jpeg, extension) }},
