@@ -22,11 +22,20 @@ fn main() {
 fn built(here: &Path) -> PathBuf {
     let (made, source) = (here.join("../../../c/out"), here.join("../../../dist/infer.c"));
     if here.join("libinfer.a").exists() {
+        warn_unless_it_is_for_the_target();
         here.to_path_buf()
     } else if made.join("libinfer.a").exists() || !source.exists() {
         made
     } else {
         compiled(&source)
+    }
+}
+
+/// The library beside this file is that of a release, for one platform.
+fn warn_unless_it_is_for_the_target() {
+    let target = (variable("CARGO_CFG_TARGET_OS"), variable("CARGO_CFG_TARGET_ARCH"));
+    if (target.0.as_str(), target.1.as_str()) != ("linux", "x86_64") {
+        println!("cargo:warning=this crate has the library for x86-64 Linux alone: use a clone of the repository, or name the folder of another library by INFER_LIB_DIR");
     }
 }
 

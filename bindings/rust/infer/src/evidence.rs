@@ -12,6 +12,9 @@ pub struct Range {
     /// How far each other is behind the one before: 1 but for a search.
     pub step: usize,
     /// The type of which they tell. `None` is that of the first byte, which rules out all types that begin with another.
+    pub file_type: Option<Type>,
+    /// The older name of `file_type`.
+    #[deprecated(note = "the next version has `file_type` alone")]
     pub of: Option<Type>,
     /// Whether it accepts by these bytes: this is the answer, or the built-in one that it makes more exact. Otherwise they
     /// rule it out.
@@ -22,6 +25,9 @@ pub struct Range {
 #[derive(Debug, Clone, Eq, PartialEq, Hash)]
 pub struct Evidence {
     /// The answer.
+    pub file_type: Option<Type>,
+    /// The older name of `file_type`.
+    #[deprecated(note = "the next version has `file_type` alone")]
     pub told: Option<Type>,
     /// Which bytes.
     pub ranges: Vec<Range>,
@@ -34,11 +40,20 @@ pub struct Evidence {
 }
 
 impl Evidence {
+    #[allow(deprecated)]
     pub(crate) fn of(why: &Why) -> Evidence {
         let of_row = |row: i32| usize::try_from(row).ok().map(|row| ffi::all_rows()[row]);
         let accepts = |row: i32| row >= 0 && (row == why.row || row == why.built_in);
-        let range = |it: &ffi::Range| Range { place: it.place, len: it.len, step: it.step, of: of_row(it.row), accepts: accepts(it.row) };
+        let range = |it: &ffi::Range| Range {
+            place: it.place,
+            len: it.len,
+            step: it.step,
+            file_type: of_row(it.row),
+            of: of_row(it.row),
+            accepts: accepts(it.row),
+        };
         Evidence {
+            file_type: of_row(why.row),
             told: of_row(why.row),
             ranges: why.ranges().iter().map(range).collect(),
             wanted: why.needs.wanted,
@@ -53,7 +68,7 @@ impl Evidence {
 ///
 /// ```
 /// let found = infer::evidence(b"GIF89a");
-/// let of = |range: &infer::Range| (range.place, range.len, range.of.map(|kind| kind.extension()));
+/// let of = |range: &infer::Range| (range.place, range.len, range.file_type.map(|kind| kind.extension()));
 /// assert_eq!(found.ranges.iter().map(of).collect::<Vec<_>>(), [(0, 3, Some("gif"))]);
 /// ```
 pub fn evidence(buf: &[u8]) -> Evidence {

@@ -28,11 +28,14 @@ pub use evidence::{evidence, Evidence, Range};
 pub use file_type::{Matcher, MatcherType, Type};
 pub use matchers::{app, archive, audio, book, doc, font, image, odf, text, video};
 #[cfg(feature = "std")]
-pub use named::named_path;
-pub use named::{line, named, Named, NamedType, Standing};
+#[allow(deprecated)]
+pub use named::{named_from_path, named_path};
+pub use named::{line, named, oddities, Named, NamedType, Oddities, Standing};
 #[cfg(feature = "std")]
 pub use read::{get_from_path, get_from_reader, whole};
-pub use types::{Found, Mistake, Types};
+#[allow(deprecated)]
+pub use types::Mistake;
+pub use types::{Found, Types, TypesError};
 
 /// The built-in types, and those that the caller added, which are asked first.
 #[derive(Default)]

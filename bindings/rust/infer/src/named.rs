@@ -3,6 +3,7 @@ use crate::Type;
 use alloc::string::String;
 use alloc::vec;
 use core::fmt;
+use core::ops::BitOr;
 #[cfg(feature = "std")]
 use std::{io, path::Path};
 
@@ -102,10 +103,19 @@ pub struct Named {
     /// What the name did.
     pub standing: Standing,
     /// The type, if one is told.
-    pub told: Option<NamedType>,
+    pub file_type: Option<NamedType>,
     /// The type that the name has first, whatever the bytes are.
-    pub of_name: Option<NamedType>,
+    pub type_of_name: Option<NamedType>,
     /// The wider answer, which the bytes have whatever the name is.
+    pub type_of_bytes: Option<Type>,
+    /// The older name of `file_type`.
+    #[deprecated(note = "the next version has `file_type` alone")]
+    pub told: Option<NamedType>,
+    /// The older name of `type_of_name`.
+    #[deprecated(note = "the next version has `type_of_name` alone")]
+    pub of_name: Option<NamedType>,
+    /// The older name of `type_of_bytes`.
+    #[deprecated(note = "the next version has `type_of_bytes` alone")]
     pub of_bytes: Option<Type>,
 }
 
@@ -113,16 +123,65 @@ pub struct Named {
 ///
 /// ```
 /// let found = infer::named(b"main.py", b"import os");
-/// assert_eq!(found.told.unwrap().mime_type(), "text/x-python");
+/// assert_eq!(found.file_type.unwrap().mime_type(), "text/x-python");
 /// ```
+#[allow(deprecated)]
 pub fn named(name: &[u8], buf: &[u8]) -> Named {
     let found = ffi::named(name, buf);
+    let (file_type, type_of_name) = (NamedType::of(found.told), NamedType::of(found.name));
+    let type_of_bytes = usize::try_from(found.row).ok().map(|row| ffi::all_rows()[row]);
     Named {
         standing: standing_of(found.standing),
-        told: NamedType::of(found.told),
-        of_name: NamedType::of(found.name),
-        of_bytes: usize::try_from(found.row).ok().map(|row| ffi::all_rows()[row]),
+        file_type,
+        type_of_name,
+        type_of_bytes,
+        told: file_type,
+        of_name: type_of_name,
+        of_bytes: type_of_bytes,
     }
+}
+
+/// What is odd about a name. A name with one of the first two misleads whoever sees it, so a gate should refuse it. Honest
+/// names have two extensions too, such as `initial.json.gz`.
+#[derive(Debug, Copy, Clone, Default, Eq, PartialEq, Hash)]
+pub struct Oddities(u32);
+
+impl Oddities {
+    /// A control character of ASCII.
+    pub const CONTROL: Oddities = Oddities(1);
+    /// A mark of writing direction: after one, gnp.exe is shown as exe.png.
+    pub const DIRECTION: Oddities = Oddities(2);
+    /// A dot or a blank at the end of the base name, which Windows removes.
+    pub const END: Oddities = Oddities(4);
+    /// Another extension before the last, as in shell.php.jpg.
+    pub const TWO_EXTENSIONS: Oddities = Oddities(8);
+
+    /// Whether nothing is odd.
+    pub const fn is_empty(self) -> bool {
+        self.0 == 0
+    }
+
+    /// Whether all of these are among them.
+    pub const fn contains(self, other: Oddities) -> bool {
+        self.0 & other.0 == other.0
+    }
+}
+
+impl BitOr for Oddities {
+    type Output = Oddities;
+
+    fn bitor(self, other: Oddities) -> Oddities {
+        Oddities(self.0 | other.0)
+    }
+}
+
+/// What is odd about a name. It changes nothing of what [`named`] tells.
+///
+/// ```
+/// assert!(infer::oddities(b"shell.php.jpg").contains(infer::Oddities::TWO_EXTENSIONS));
+/// ```
+pub fn oddities(name: &[u8]) -> Oddities {
+    Oddities(ffi::oddities(name))
 }
 
 /// The line that the program `infer_label` prints of a file's name and its first bytes, without its end. Nothing of a name
@@ -140,7 +199,14 @@ pub fn line(name: &[u8], buf: &[u8]) -> String {
 
 /// What the path, as a name, and the first 8192 bytes of that regular file tell, or its fault.
 #[cfg(feature = "std")]
-pub fn named_path<P: AsRef<Path>>(path: P) -> io::Result<Named> {
+pub fn named_from_path<P: AsRef<Path>>(path: P) -> io::Result<Named> {
     let front = crate::read::front_of_path(path.as_ref())?;
     Ok(named(path.as_ref().as_os_str().as_encoded_bytes(), &front))
+}
+
+/// The older name of [`named_from_path`].
+#[cfg(feature = "std")]
+#[deprecated(note = "the next version has `named_from_path` alone")]
+pub fn named_path<P: AsRef<Path>>(path: P) -> io::Result<Named> {
+    named_from_path(path)
 }

@@ -10,11 +10,11 @@ pub struct Types<'text> {
 
 impl<'text> Types<'text> {
     /// The types that the text describes, or its first mistake.
-    pub fn new<T: AsRef<[u8]> + ?Sized>(text: &'text T) -> Result<Types<'text>, Mistake> {
+    pub fn new<T: AsRef<[u8]> + ?Sized>(text: &'text T) -> Result<Types<'text>, TypesError> {
         let text = text.as_ref();
         match ffi::types_mistake(text) {
             None => Ok(Types { text }),
-            Some((line, column, reason)) => Err(Mistake { line, column, reason }),
+            Some((line, column, reason)) => Err(TypesError { line, column, reason }),
         }
     }
 
@@ -76,13 +76,13 @@ impl fmt::Display for Found {
 
 /// The first mistake of a text that describes no types.
 #[derive(Copy, Clone, Eq, PartialEq, Hash)]
-pub struct Mistake {
+pub struct TypesError {
     line: usize,
     column: usize,
     reason: Text<TEXT_SIZE>,
 }
 
-impl Mistake {
+impl TypesError {
     /// The line, from 1.
     pub const fn line(&self) -> usize {
         self.line
@@ -99,16 +99,20 @@ impl Mistake {
     }
 }
 
-impl fmt::Debug for Mistake {
+impl fmt::Debug for TypesError {
     fn fmt(&self, f: &mut fmt::Formatter<'_>) -> fmt::Result {
-        f.debug_struct("Mistake").field("line", &self.line).field("column", &self.column).field("reason", &self.reason()).finish()
+        f.debug_struct("TypesError").field("line", &self.line).field("column", &self.column).field("reason", &self.reason()).finish()
     }
 }
 
-impl fmt::Display for Mistake {
+impl fmt::Display for TypesError {
     fn fmt(&self, f: &mut fmt::Formatter<'_>) -> fmt::Result {
         write!(f, "line {}, column {}: {}", self.line, self.column, self.reason())
     }
 }
 
-impl core::error::Error for Mistake {}
+impl core::error::Error for TypesError {}
+
+/// The older name of [`TypesError`].
+#[deprecated(note = "the next version has `TypesError` alone")]
+pub type Mistake = TypesError;

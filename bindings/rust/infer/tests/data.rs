@@ -303,9 +303,9 @@ fn names_and_bytes_are_those_of_the_data() {
     for line in &all {
         let buf = decode(&line[1]);
         let found = infer::named(&name_of(&line[0]), &buf);
-        let told = found.told.map_or("-".to_string(), |it| it.mime_type().to_string());
+        let told = found.file_type.map_or("-".to_string(), |it| it.mime_type().to_string());
         assert_eq!((found.standing.to_string(), told), (line[2].clone(), line[3].clone()), "{} {}", line[0], line[1]);
-        assert_eq!(found.of_bytes, infer::more::get(&buf));
+        assert_eq!(found.type_of_bytes, infer::more::get(&buf));
     }
     assert!(all.len() > 900);
 }

@@ -195,7 +195,7 @@ fn more_bytes_change_what_is_not_decided() {
 
 /// Each range as its length, its place and the extension of its type, and what is needed of the length.
 fn told_of(found: &Evidence) -> (Vec<(usize, usize, &'static str)>, usize, bool) {
-    let range = |it: &infer::Range| (it.len, it.place, it.of.map_or("", |kind| kind.extension()));
+    let range = |it: &infer::Range| (it.len, it.place, it.file_type.map_or("", |kind| kind.extension()));
     (found.ranges.iter().map(range).collect(), found.least, found.is_exact)
 }
 
@@ -218,15 +218,18 @@ fn evidence_names_the_bytes_that_decide() {
     for (buf, ranges, least, is_exact) in told {
         let found = infer::evidence(buf);
         assert_eq!(told_of(&found), (ranges.to_vec(), least, is_exact), "{buf:?}");
-        assert_eq!((found.told, found.wanted), (infer::get(buf), ranges.len()));
-        assert_eq!(found.ranges.iter().filter(|it| it.accepts).map(|it| it.of).collect::<Vec<_>>(), Vec::from_iter(found.told.map(Some)));
+        assert_eq!((found.file_type, found.wanted), (infer::get(buf), ranges.len()));
+        assert_eq!(
+            found.ranges.iter().filter(|it| it.accepts).map(|it| it.file_type).collect::<Vec<_>>(),
+            Vec::from_iter(found.file_type.map(Some))
+        );
     }
     let found = infer::more::evidence(JPEG);
     assert_eq!(told_of(&found), (vec![(3, 0, "jpg"), (1, 3, "jls")], 3, true));
     assert_eq!(told_of(&infer::more::evidence(&png)).0[2], (300, 0, "apng"));
     assert!(told_of(&infer::evidence(&[0; 300])).0.contains(&(1, 257, "tar")));
     // No "%PDF" begins before the place 1021 where one byte in four is none of its letters.
-    let search = infer::evidence(&[0; 1100]).ranges.into_iter().find(|it| it.of.is_some_and(|kind| kind.extension() == "pdf"));
+    let search = infer::evidence(&[0; 1100]).ranges.into_iter().find(|it| it.file_type.is_some_and(|kind| kind.extension() == "pdf"));
     assert_eq!(search.map(|it| (it.len, it.place, it.step, it.accepts)), Some((256, 3, 4, false)));
 }
 
@@ -250,14 +253,14 @@ fn what_is_no_evidence_changes_no_answer() {
         let buf = infer::more::sample(row);
         for (get, evidence) in asks {
             let found = evidence(&buf);
-            assert_eq!((found.told, found.wanted), (get(&buf), found.ranges.len()));
+            assert_eq!((found.file_type, found.wanted), (get(&buf), found.ranges.len()));
             let needed = found.ranges.iter().flat_map(places).map(|place| place + 1).fold(found.least, usize::max);
             assert!(needed <= buf.len());
             for _ in 0..8 {
                 let len = if found.is_exact { buf.len() } else { needed + next(&mut state) % 400 };
                 let mut other: Vec<u8> = (0..len).map(|_| next(&mut state) as u8).collect();
                 found.ranges.iter().flat_map(places).for_each(|place| other[place] = buf[place]);
-                assert_eq!(get(&other), found.told, "{other:?} beside {buf:?}");
+                assert_eq!(get(&other), found.file_type, "{other:?} beside {buf:?}");
             }
         }
     }
@@ -393,6 +396,43 @@ fn mistakes_have_a_place_and_a_reason() {
         assert_eq!((mistake.line(), mistake.column(), mistake.reason()), (line, column, reason), "{text:?}");
         assert_eq!(mistake.to_string(), format!("line {line}, column {column}: {reason}"));
         let error: Box<dyn std::error::Error + Send + Sync> = mistake.into();
-        assert!(format!("{error:?}").starts_with("Mistake { line: "));
+        assert!(format!("{error:?}").starts_with("TypesError { line: "));
     }
+}
+
+#[test]
+fn odd_names_are_told() {
+    use infer::{oddities, Oddities};
+    let none = Oddities::default();
+    let all = Oddities::CONTROL | Oddities::DIRECTION | Oddities::TWO_EXTENSIONS;
+    let told: [(&str, Oddities); 10] = [
+        ("", none),
+        ("a.png", none),
+        ("a.tar.gz", none),
+        ("a\n.png", Oddities::CONTROL),
+        ("a\0.png", Oddities::CONTROL),
+        ("\u{202e}gnp.exe", Oddities::DIRECTION),
+        ("a.png ", Oddities::END),
+        ("shell.php.", Oddities::END),
+        ("shell.php.jpg", Oddities::TWO_EXTENSIONS),
+        ("\x7f\u{2066}.php.jpg", all),
+    ];
+    for (name, wanted) in told {
+        assert_eq!(oddities(name.as_bytes()), wanted, "{name}");
+        assert_eq!(wanted.is_empty(), wanted == none);
+        assert!(wanted.contains(none) && wanted.contains(wanted));
+    }
+    assert!(!Oddities::END.contains(all) && all.contains(Oddities::DIRECTION));
+}
+
+#[test]
+#[allow(deprecated)]
+fn older_names_are_the_newer_ones() {
+    let found = infer::named(b"a.jpg", b"GIF89a");
+    assert_eq!((found.told, found.of_name, found.of_bytes), (found.file_type, found.type_of_name, found.type_of_bytes));
+    let found = infer::evidence(b"GIF89a");
+    assert_eq!((found.told, found.ranges[0].of), (found.file_type, found.ranges[0].file_type));
+    let mistake: infer::Mistake = infer::Types::new("qoi").unwrap_err();
+    assert_eq!(Err::<infer::Types, infer::TypesError>(mistake), infer::Types::new("qoi"));
+    assert!(infer::named_path("/no/such").is_err() && infer::named_from_path("/no/such").is_err());
 }
