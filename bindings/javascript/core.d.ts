@@ -11,7 +11,7 @@ export type Bytes = ArrayBufferView | ArrayBufferLike;
 /** A detector of your own: what the first bytes, 8192 at most, are, or undefined. */
 export type Detector = (front: Uint8Array) => FileTypeResult | undefined | Promise<FileTypeResult | undefined>;
 
-/** What is asked. */
+/** What is asked. An option of another name throws a TypeError. */
 export interface Options {
     /** Whether the wider answer is told, which knows the further types too. */
     readonly more?: boolean;
@@ -26,6 +26,8 @@ export function fileTypeFromBuffer(bytes: Bytes, options?: Options): Promise<Fil
 export function fileTypeFromBlob(blob: Blob, options?: Options): Promise<FileTypeResult | undefined>;
 
 /** The wider answer by the first 8192 bytes: that of fileTypeFromBuffer, or a further type that is more exact. */
+export function getMore(bytes: Bytes): FileTypeResult | undefined;
+/** @deprecated The older name of getMore. */
 export function wider(bytes: Bytes): FileTypeResult | undefined;
 
 /**
@@ -37,13 +39,17 @@ export function encoding(bytes: Bytes): "us-ascii" | "utf-8" | "utf-16le" | "utf
 /** Whether no bytes that may follow can change the answer of fileTypeFromBuffer. */
 export function isDecided(bytes: Bytes): boolean;
 
-/** Whether no bytes that may follow can change the answer of wider. It can be false although none can. */
+/** Whether no bytes that may follow can change the answer of getMore. It can be false although none can. */
+export function isMoreDecided(bytes: Bytes): boolean;
+/** @deprecated The older name of isMoreDecided. */
 export function isWiderDecided(bytes: Bytes): boolean;
 
 /** Whether some bytes that may follow make a type that fileTypeFromBuffer knows, with this extension, accept. */
 export function mayBecome(bytes: Bytes, ext: string): boolean;
 
-/** The same of the types that wider knows. Of a further type it can be true although no bytes do. */
+/** The same of the types that getMore knows. Of a further type it can be true although no bytes do. */
+export function moreMayBecome(bytes: Bytes, ext: string): boolean;
+/** @deprecated The older name of moreMayBecome. */
 export function mayBecomeWider(bytes: Bytes, ext: string): boolean;
 
 /** Bytes that decide an answer. */
@@ -80,7 +86,9 @@ export interface Evidence {
  */
 export function evidence(bytes: Bytes): Evidence;
 
-/** What decides the answer of wider, in the same way. */
+/** What decides the answer of getMore, in the same way. */
+export function moreEvidence(bytes: Bytes): Evidence;
+/** @deprecated The older name of moreEvidence. */
 export function widerEvidence(bytes: Bytes): Evidence;
 
 /** What is wrong with a text that describes no types, and where: the line and the column, both from 1, a column by bytes. */
@@ -98,11 +106,13 @@ export class Types {
 
     /**
      * The first of these types that stands below the answer of fileTypeFromBuffer and accepts the first 8192 bytes, and the
-     * answer of wider if there is none.
+     * answer of getMore if there is none.
      */
+    get(bytes: Bytes): FileTypeResult | undefined;
+    /** @deprecated The older name of get. */
     wider(bytes: Bytes): FileTypeResult | undefined;
 
-    /** The number of the line, from 1, whose type that is, and undefined if it is that of the function wider, or none. */
+    /** The number of the line, from 1, whose type that is, and undefined if it is that of getMore, or none. */
     line(bytes: Bytes): number | undefined;
 }
 
@@ -140,7 +150,7 @@ export interface Named {
     readonly type: NamedType | undefined;
     /** The type that the name has first, whatever the bytes are. */
     readonly typeOfName: NamedType | undefined;
-    /** The answer of wider, which the bytes have whatever the name is. */
+    /** The answer of getMore, which the bytes have whatever the name is. */
     readonly typeOfBytes: FileTypeResult | undefined;
 }
 
@@ -149,6 +159,12 @@ export interface Named {
  * may be bytes.
  */
 export function named(name: string | Bytes, bytes: Bytes): Named;
+
+/** What can be odd about a name. Whoever sees one with a control character or a mark of direction is misled. */
+export type Oddity = "control" | "direction" | "end" | "two extensions";
+
+/** What is odd about a name, which may be bytes. It changes nothing of what named tells. */
+export function oddities(name: string | Bytes): Oddity[];
 
 /**
  * The line that infer_label prints of a file's name and its first 8192 bytes, without its end. Nothing of a name moves a
@@ -251,7 +267,7 @@ export interface KnownType extends FileTypeResult {
     readonly class: string;
 }
 
-/** The types that wider knows, in the order in which they are asked: those of fileTypeFromBuffer and the further types. */
+/** The types that getMore knows, in the order in which they are asked: those of fileTypeFromBuffer and the further types. */
 export const knownTypes: readonly KnownType[];
 
 /** A short buffer of which the type with that number in knownTypes is the answer, or the wider answer, if there is one. */

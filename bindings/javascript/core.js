@@ -30,7 +30,7 @@ let builtIn;
 
 export const supportedExtensions = new Set();
 export const supportedMimeTypes = new Set();
-/** The types that wider knows, by their rows. */
+/** The types that getMore knows, by their rows. */
 export let knownTypes = [];
 /** The version of the library. */
 export let version = "";
@@ -59,7 +59,7 @@ const textOf = (write, ...asked) => {
 };
 
 const noModule = (fault) =>
-    new Error(`hoarvelt-infer has no module infer.wasm, which bindings/javascript/fill copies to it: ${fault.message}`, { cause: fault });
+    new Error(`hoarvelt-infer does not find infer.wasm. Copy it from the package's folder to where a bundle stands: ${fault.message}`, { cause: fault });
 
 const refuseUnlessValid = (bytes) => {
     if (!WebAssembly.validate(WIDE) && !WebAssembly.validate(bytes)) throw new Error(NO_WIDE_MEMORY);
@@ -113,7 +113,7 @@ const answerOf = (row) => {
 };
 const typeOf = (input) => answerOf(ask(infer.infer_position, input));
 
-export const wider = (input) => answerOf(ask(infer.infer_more_position, input));
+export const getMore = (input) => answerOf(ask(infer.infer_more_position, input));
 
 /** Whether a question says yes of one of the first rows with that extension. */
 const someRow = (question, input, ext, count) => {
@@ -121,7 +121,7 @@ const someRow = (question, input, ext, count) => {
     return knownTypes.slice(0, count).some((known, row) => known.ext === ext && question(place, size, row) !== 0);
 };
 export const mayBecome = (input, ext) => someRow(infer.infer_may_become, input, ext, builtIn);
-export const mayBecomeWider = (input, ext) => someRow(infer.infer_more_may_become, input, ext);
+export const moreMayBecome = (input, ext) => someRow(infer.infer_more_may_become, input, ext);
 
 export const sample = (number) => {
     if (!Number.isInteger(number) || !(number in knownTypes)) return undefined;
@@ -135,22 +135,37 @@ export const sample = (number) => {
 };
 export const encoding = (input) => textOf(infer.infer_encoding, place, hand(input)) || undefined;
 export const isDecided = (input) => ask(infer.infer_is_decided, input) !== 0;
-export const isWiderDecided = (input) => ask(infer.infer_more_is_decided, input) !== 0;
+export const isMoreDecided = (input) => ask(infer.infer_more_is_decided, input) !== 0;
 
 /** Whether no bytes that may follow can change what is told. Of detectors of the caller's nobody knows that. */
-const isEnough = (front, { more = false, detectors = [] } = {}) => detectors.length === 0 && (more ? isWiderDecided(front) : isDecided(front));
+const isEnough = (front, { more, detectors }) => detectors.length === 0 && (more ? isMoreDecided(front) : isDecided(front));
+
+/** The options, of which none has another name: what is not known would be left out in silence. */
+export const optionsOf = (given) => {
+    for (const name of Object.keys(given ?? {})) {
+        if (name !== "more" && name !== "detectors") throw new TypeError(`there is no option ${name}: hand over more or detectors`);
+    }
+    return { more: given?.more ?? false, detectors: given?.detectors ?? [] };
+};
 
 /** What the first of the caller's detectors says that says something, and else the library. */
-const tell = async (input, { more = false, detectors = [] } = {}) => {
+const tell = async (input, { more, detectors }) => {
     for (const detect of detectors) {
         // A copy of its own, so that none changes what the next is asked about.
         const found = await detect(frontOf(input, FRONT).slice());
         if (found !== undefined) return found;
     }
-    return more ? wider(input) : typeOf(input);
+    return more ? getMore(input) : typeOf(input);
 };
 
-export const fileTypeFromBuffer = async (input, options) => (options === undefined ? typeOf(input) : tell(input, options));
+export const fileTypeFromBuffer = async (input, options) => (options === undefined ? typeOf(input) : tell(input, optionsOf(options)));
+
+/** The same at once, where no detector is asked. */
+export const fileTypeAtOnce = (input, options) => {
+    const { more, detectors } = optionsOf(options);
+    if (detectors.length > 0) throw new TypeError("a detector can be asked of what is awaited alone");
+    return more ? getMore(input) : typeOf(input);
+};
 
 /** The mistake of a text that describes no types. */
 export class TypesError extends SyntaxError {
@@ -163,10 +178,18 @@ export class TypesError extends SyntaxError {
 /** The place of what stands so far behind the bytes that the module is asked about. */
 const at = (distance) => place + BigInt(distance);
 
-/** The text up to its zero. */
-const written = (distance) => {
-    const text = room.slice(distance, distance + TEXT);
-    return new TextDecoder().decode(text.subarray(0, text.indexOf(0)));
+/** Whether that text stands there, with its zero. */
+const isAt = (distance, text) => {
+    for (let i = 0; i < text.length; i++) if (room[distance + i] !== text.charCodeAt(i)) return false;
+    return room[distance + text.length] === 0;
+};
+
+/** The text up to its zero, which is of ASCII. For so few bytes a loop is faster than a TextDecoder, and to make none is faster still. */
+const written = (distance, likely) => {
+    if (likely !== undefined && isAt(distance, likely)) return likely;
+    let text = "";
+    for (let from = distance; room[from] > 0; from++) text += String.fromCharCode(room[from]);
+    return text;
 };
 
 /** Copies the text to where the module sees it, and gives where that is and its length. */
@@ -194,7 +217,7 @@ const evidenceOf = (question, input) => {
     return { type: answerOf(row), ranges, wanted, least: numberAt(NEEDS + 8), isExact: room[NEEDS + 16] !== 0 };
 };
 export const evidence = (input) => evidenceOf(infer.infer_evidence, input);
-export const widerEvidence = (input) => evidenceOf(infer.infer_more_evidence, input);
+export const moreEvidence = (input) => evidenceOf(infer.infer_more_evidence, input);
 
 export const Standing = Object.freeze({
     AGREE: "agree",
@@ -211,28 +234,37 @@ const standings = Object.values(Standing);
 const NAMED_TEXT = 74;
 const NAMED_TYPE = 2 * NAMED_TEXT + 1;
 
-/** A type whose texts stand so far behind the bytes that the module is asked about. */
-const namedTypeAt = (distance) => {
-    const mime = written(distance);
-    const ext = written(distance + NAMED_TEXT) || undefined;
+/** A type whose texts stand so far behind the bytes that the module is asked about, and are likely those of another. */
+const namedTypeAt = (distance, likely) => {
+    const mime = written(distance, likely?.mime);
+    const ext = written(distance + NAMED_TEXT, likely?.ext) || undefined;
     return mime ? { ext, mime, isOwnName: room[distance + 2 * NAMED_TEXT] !== 0 } : undefined;
 };
 
+const encoder = new TextEncoder();
+const bytesOfName = (name) => (typeof name === "string" ? encoder.encode(name) : frontOf(name, Infinity).slice());
+
+/** What can be odd about a name, in the order of the bits. */
+const ODDITIES = ["control", "direction", "end", "two extensions"];
+export const oddities = (name) => {
+    const found = infer.infer_oddities(...hold(bytesOfName(name)));
+    return ODDITIES.filter((_, bit) => (found >> bit) & 1);
+};
+
 export const named = (name, input) => {
-    const text = typeof name === "string" ? new TextEncoder().encode(name) : frontOf(name, Infinity).slice();
+    const text = bytesOfName(name);
     const size = hand(input);
-    infer.infer_named(...hold(text), place, size, at(FRONT));
-    const numbers = new DataView(room.buffer, room.byteOffset + FRONT, 8);
-    return {
-        standing: standings[numbers.getInt32(0, true)],
-        type: namedTypeAt(FRONT + 8),
-        typeOfName: namedTypeAt(FRONT + 8 + NAMED_TYPE),
-        typeOfBytes: answerOf(numbers.getInt32(4, true)),
-    };
+    const [given, length] = hold(text);
+    infer.infer_named(given, length, place, size, at(FRONT));
+    // To make a DataView takes longer than to read these.
+    const row = room[FRONT + 4] | (room[FRONT + 5] << 8) | (room[FRONT + 6] << 16) | (room[FRONT + 7] << 24);
+    const typeOfBytes = answerOf(row);
+    const type = namedTypeAt(FRONT + 8, typeOfBytes);
+    return { standing: standings[room[FRONT]], type, typeOfName: namedTypeAt(FRONT + 8 + NAMED_TYPE, type), typeOfBytes };
 };
 
 export const line = (name, input) => {
-    const text = typeof name === "string" ? new TextEncoder().encode(name) : frontOf(name, Infinity).slice();
+    const text = bytesOfName(name);
     const size = hand(input);
     const none = hold(new Uint8Array());
     const given = hold(text);
@@ -253,11 +285,16 @@ export class Types {
         throw new TypesError(Number(numbers.getBigUint64(0, true)), Number(numbers.getBigUint64(8, true)), written(FRONT));
     }
 
-    wider(input) {
+    get(input) {
         const text = hold(this.#text);
         const size = BigInt(TEXT);
         const group = infer.infer_types_get(...text, place, hand(input), at(FRONT), size, at(FRONT + TEXT), size);
         return group < 0 ? undefined : { ext: written(FRONT + TEXT), mime: written(FRONT) };
+    }
+
+    /** The older name of get. */
+    wider(input) {
+        return this.get(input);
     }
 
     line(input) {
@@ -412,7 +449,8 @@ export const isNosniff = (value) => infer.infer_mime_is_nosniff(...hold(bytesOfT
 export const isBlocked = (value, destination) => infer.infer_mime_is_blocked(...hold(bytesOfText(value)), numberIn(destinations, destination)) !== 0;
 export const isOldServer = (value) => infer.infer_mime_is_old_server(...hold(bytesOfText(value))) !== 0;
 
-export const fileTypeFromBlob = async (blob, options) => {
+export const fileTypeFromBlob = async (blob, given) => {
+    const options = optionsOf(given);
     if (typeof blob?.slice !== "function" || typeof blob.arrayBuffer !== "function") throw new TypeError("hand over a Blob or a File");
     const first = frontOf(await blob.slice(0, FIRST).arrayBuffer(), FRONT);
     if (first.length < FIRST || isEnough(first, options)) return tell(first, options);
@@ -420,7 +458,8 @@ export const fileTypeFromBlob = async (blob, options) => {
 };
 
 /** Reads until the type is decided, the bytes looked at are there, or the end. Gives the type and what was read. */
-export const readFront = async (read, options) => {
+export const readFront = async (read, given) => {
+    const options = optionsOf(given);
     const front = new Uint8Array(FRONT);
     const pieces = [];
     let length = 0;
@@ -466,7 +505,8 @@ const wholeOf = (pieces, reader) =>
         { highWaterMark: 0 },
     );
 
-export const fileTypeStream = async (stream, options) => {
+export const fileTypeStream = async (stream, given) => {
+    const options = optionsOf(given);
     const reader = readerOf(stream);
     try {
         const { fileType, pieces } = await readFront(() => reader.read(), options);
@@ -477,3 +517,6 @@ export const fileTypeStream = async (stream, options) => {
         throw fault;
     }
 };
+
+/** The older names, which the next version leaves out. */
+export { getMore as wider, isMoreDecided as isWiderDecided, moreEvidence as widerEvidence, moreMayBecome as mayBecomeWider };

@@ -9,6 +9,9 @@ export * from "./core.js";
 /** The type of a file, of which 8192 bytes are read at most. */
 export function fileTypeFromFile(path: PathLike, options?: Options): Promise<FileTypeResult | undefined>;
 
+/** The same at once. Options with detectors throw a TypeError. */
+export function fileTypeFromFileSync(path: PathLike, options?: Options): FileTypeResult | undefined;
+
 /** What the path, as a name, and the first 8192 bytes of that file tell. */
 export function namedFromFile(path: PathLike): Promise<Named>;
 

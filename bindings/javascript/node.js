@@ -1,5 +1,5 @@
 // The package as Node takes it: with files and Node's own streams.
-import { constants, readFileSync } from "node:fs";
+import { closeSync, constants, fstatSync, openSync, readFileSync, readSync, statSync } from "node:fs";
 import { open, stat } from "node:fs/promises";
 import { Readable } from "node:stream";
 import { fileURLToPath } from "node:url";
@@ -21,18 +21,23 @@ export {
     extractMIMEType,
     fileTypeFromBlob,
     fileTypeFromBuffer,
+    getMore,
     isBlocked,
     isComputeDecided,
     isDecided,
+    isMoreDecided,
     isNosniff,
     isOldServer,
     isWiderDecided,
     knownTypes,
+    line,
     mayBeScriptable,
     mayBecome,
     mayBecomeWider,
-    line,
+    moreEvidence,
+    moreMayBecome,
     named,
+    oddities,
     sample,
     supportedExtensions,
     supportedMimeTypes,
@@ -48,11 +53,13 @@ const refuseUnlessRegular = (about, path) => {
     throw Object.assign(new Error(`${code}: ${why}, open '${path}'`), { code, syscall: "open", path });
 };
 
+const AT_ONCE = constants.O_RDONLY | constants.O_NONBLOCK | constants.O_NOCTTY;
+
 /** The first bytes of a regular file. */
 const frontOfFile = async (path) => {
     // A device can act as soon as it is opened. By then the path may name another file, so that is asked again.
     refuseUnlessRegular(await stat(path), path);
-    const file = await open(path, constants.O_RDONLY | constants.O_NONBLOCK | constants.O_NOCTTY);
+    const file = await open(path, AT_ONCE);
     try {
         refuseUnlessRegular(await file.stat(), path);
         const front = new Uint8Array(FRONT);
@@ -67,6 +74,27 @@ const frontOfFile = async (path) => {
         await file.close();
     }
 };
+
+/** The same at once. */
+const frontOfFileSync = (path) => {
+    refuseUnlessRegular(statSync(path), path);
+    const file = openSync(path, AT_ONCE);
+    try {
+        refuseUnlessRegular(fstatSync(file), path);
+        const front = new Uint8Array(FRONT);
+        let length = 0;
+        while (length < FRONT) {
+            const count = readSync(file, front, length, FRONT - length, null);
+            if (count === 0) break;
+            length += count;
+        }
+        return front.subarray(0, length);
+    } finally {
+        closeSync(file);
+    }
+};
+
+export const fileTypeFromFileSync = (path, options) => core.fileTypeAtOnce(frontOfFileSync(path), options);
 
 export const fileTypeFromFile = async (path, options) => core.fileTypeFromBuffer(await frontOfFile(path), options);
 
@@ -92,7 +120,8 @@ async function* wholeOf(read, rest, stream) {
     }
 }
 
-export const fileTypeStream = async (stream, options) => {
+export const fileTypeStream = async (stream, given) => {
+    const options = core.optionsOf(given);
     if (!(stream instanceof Readable)) return core.fileTypeStream(stream, options);
     const rest = stream.iterator();
     try {

@@ -3,7 +3,7 @@
 import { readFileSync } from "node:fs";
 import { pathToFileURL } from "node:url";
 
-const { fileTypeFromBuffer, isDecided, wider } = await import("hoarvelt-infer");
+const { fileTypeFromBuffer, isDecided, getMore } = await import("hoarvelt-infer");
 
 const MAGIC = [
     ["jpg", "image/jpeg", [0xff, 0xd8, 0xff]],
@@ -51,7 +51,7 @@ const rateOf = async (call) => {
 
 const calls = {
     "`await fileTypeFromBuffer`": fileTypeFromBuffer,
-    "`wider`": wider,
+    "`getMore`": getMore,
     "`isDecided`": isDecided,
     "ten magics compared in JavaScript": compare,
 };

@@ -1,11 +1,14 @@
 // The answers, by the test data of the repository, and what callers can hand over as bytes.
 import assert from "node:assert/strict";
+import { mkdtempSync, rmSync, writeFileSync } from "node:fs";
+import { tmpdir } from "node:os";
+import { join } from "node:path";
 import { test } from "node:test";
 import * as infer from "hoarvelt-infer";
 import * as aliases from "hoarvelt-infer/aliases";
 import { furtherRows, furtherVectors, generator, mimeTypes, namedVectors, rows, samples, sniffed, vectors } from "./support.mjs";
 
-const { fileTypeFromBuffer, isDecided, isWiderDecided, wider } = infer;
+const { fileTypeFromBuffer, isDecided, isMoreDecided, getMore } = infer;
 const JPEG = { ext: "jpg", mime: "image/jpeg" };
 const jpeg = new Uint8Array([0xff, 0xd8, 0xff, 0xe0]);
 
@@ -30,25 +33,25 @@ test("samples have their types, and what can come of a beginning is said", () =>
         const data = infer.sample(number);
         const [row, isFurther] = [rows[number], number >= rows.length];
         if (!isFurther) assert.deepEqual(data, row.sample && new Uint8Array(row.sample), ext);
-        else if (data.length <= 8192) assert.deepEqual(wider(data), { ext, mime });
+        else if (data.length <= 8192) assert.deepEqual(getMore(data), { ext, mime });
         for (let at = 0; at <= Math.min(data?.length ?? -1, 8193); at += 1) {
             const front = data.subarray(0, at);
-            assert.ok(infer.mayBecomeWider(front, ext) && (isFurther || infer.mayBecome(front, ext)), `${ext} ${at}`);
+            assert.ok(infer.moreMayBecome(front, ext) && (isFurther || infer.mayBecome(front, ext)), `${ext} ${at}`);
         }
     }
     for (const wrong of [-1, infer.knownTypes.length, 1.5, NaN, "length", undefined]) assert.equal(infer.sample(wrong), undefined);
     const bytes = (text) => new TextEncoder().encode(text);
     assert.deepEqual([infer.mayBecome(bytes("G"), "jpg"), infer.mayBecome(bytes(" <"), "html"), infer.mayBecome(bytes(""), "svg")], [false, true, false]);
-    assert.deepEqual([infer.mayBecomeWider(bytes(""), "svg"), infer.mayBecomeWider(bytes(""), "none")], [true, false]);
+    assert.deepEqual([infer.moreMayBecome(bytes(""), "svg"), infer.moreMayBecome(bytes(""), "none")], [true, false]);
     assert.throws(() => infer.mayBecome("text", "jpg"), TypeError);
     assert.match(infer.version, /^\d+\.\d+\.\d+$/);
 });
 
 test("the wider answer is given where it is asked for", async () => {
     for (const { name, data } of furtherVectors) {
-        assert.deepEqual(await fileTypeFromBuffer(data, { more: true }), wider(data), name);
-        assert.deepEqual(await infer.fileTypeFromBlob(new Blob([data]), { more: true }), wider(data), name);
-        assert.deepEqual(await infer.fileTypeFromStream(new Blob([data]).stream(), { more: true }), wider(data), name);
+        assert.deepEqual(await fileTypeFromBuffer(data, { more: true }), getMore(data), name);
+        assert.deepEqual(await infer.fileTypeFromBlob(new Blob([data]), { more: true }), getMore(data), name);
+        assert.deepEqual(await infer.fileTypeFromStream(new Blob([data]).stream(), { more: true }), getMore(data), name);
         for (const options of [undefined, {}, { more: false }]) assert.deepEqual(await fileTypeFromBuffer(data, options), await fileTypeFromBuffer(data), name);
     }
 });
@@ -86,7 +89,7 @@ test("each vector has its type", async () => {
 test("each vector of the further rows has its wider answer", () => {
     for (const { name, data, shown } of furtherVectors) {
         if (data.length > 8192) continue;
-        const found = wider(data);
+        const found = getMore(data);
         assert.equal(found ? `${found.mime} ${found.ext}` : "unknown", shown, name);
     }
 });
@@ -95,7 +98,7 @@ test("each name and its bytes have their standing and their type", () => {
     assert.ok(namedVectors.length > 900);
     for (const { name, data, standing, mime } of namedVectors) {
         const found = infer.named(name, data);
-        assert.deepEqual([found.standing, found.type?.mime ?? "-", found.typeOfBytes], [standing, mime, wider(data)], Buffer.from(name).toString());
+        assert.deepEqual([found.standing, found.type?.mime ?? "-", found.typeOfBytes], [standing, mime, getMore(data)], Buffer.from(name).toString());
         if (Buffer.from(Buffer.from(name).toString()).equals(name)) assert.deepEqual(infer.named(Buffer.from(name).toString(), data), found);
     }
     assert.deepEqual(new Set(namedVectors.map((it) => it.standing)), new Set(Object.values(infer.Standing)));
@@ -135,20 +138,20 @@ test("types of a text answer before the further ones", () => {
     const none = new infer.Types("");
     const large = new infer.Types(bytes("# a remark that is longer than a page of memory\n".repeat(5000) + OWN_TYPES));
     for (const types of [own, large]) {
-        assert.deepEqual(types.wider(bytes("qoif0123456789")), { ext: "qoi", mime: "image/qoi" });
-        assert.deepEqual(types.wider(bytes(`PK\x03\x04${"0".repeat(26)}manifest.my?`)), { ext: "myapp", mime: "application/x-my" });
-        assert.deepEqual(types.wider(bytes("<?xml version='1.0'?><flows>")), { ext: "flow", mime: "text/x-flow" });
-        assert.equal(types.wider(new ArrayBuffer(0)), undefined);
+        assert.deepEqual(types.get(bytes("qoif0123456789")), { ext: "qoi", mime: "image/qoi" });
+        assert.deepEqual(types.get(bytes(`PK\x03\x04${"0".repeat(26)}manifest.my?`)), { ext: "myapp", mime: "application/x-my" });
+        assert.deepEqual(types.get(bytes("<?xml version='1.0'?><flows>")), { ext: "flow", mime: "text/x-flow" });
+        assert.equal(types.get(new ArrayBuffer(0)), undefined);
         const lines = types === own ? 0 : 5000;
         const told = ["qoif0123456789", "<?xml version='1.0'?><flows>", "GIF89a", ""].map((text) => types.line(bytes(text)));
         assert.deepEqual(told, [lines + 2, lines + 4, undefined, undefined]);
     }
     for (const { name, data } of furtherVectors) {
-        for (const types of [own, none]) if (types.line(data) === undefined) assert.deepEqual(types.wider(data), wider(data), name);
+        for (const types of [own, none]) if (types.line(data) === undefined) assert.deepEqual(types.get(data), getMore(data), name);
     }
     const name = "x".repeat(127);
-    assert.deepEqual(new infer.Types(`${name} ${name}/${name} doc - 1: @0 00`).wider(new Uint8Array(1)), { ext: name, mime: `${name}/${name}` });
-    assert.throws(() => own.wider("text"), TypeError);
+    assert.deepEqual(new infer.Types(`${name} ${name}/${name} doc - 1: @0 00`).get(new Uint8Array(1)), { ext: name, mime: `${name}/${name}` });
+    assert.throws(() => own.get("text"), TypeError);
 });
 
 test("a mistake in a text of types has a place and a reason", () => {
@@ -200,16 +203,16 @@ test("what is decided stays the answer, whatever follows", async () => {
     }
     let decided = 0;
     for (const { data } of furtherVectors) {
-        if (!isWiderDecided(data)) continue;
+        if (!isMoreDecided(data)) continue;
         decided += 1;
         const longer = new Uint8Array(data.length + 300).map(() => below(256));
         longer.set(data);
-        assert.deepEqual(wider(longer), wider(data));
+        assert.deepEqual(getMore(longer), getMore(data));
     }
     assert.ok(decided > 20, `${decided}`);
     // XML is settled by its first bytes, and what kind of XML it is by its root element.
     const xml = new TextEncoder().encode('<?xml version="1.0"?>'.padEnd(1100));
-    assert.deepEqual([isDecided(xml), isWiderDecided(xml)], [true, false]);
+    assert.deepEqual([isDecided(xml), isMoreDecided(xml)], [true, false]);
     assert.equal(isDecided(new Uint8Array()), false);
     assert.equal(isDecided(new Uint8Array(1 << 20)), true);
 });
@@ -227,12 +230,12 @@ test("evidence names the bytes that decide", () => {
         [infer.evidence, new Uint8Array(), [], 0, true],
         [infer.evidence, new TextEncoder().encode("MZ"), [[2, 0, "exe"]], 2, false],
         [infer.evidence, jpeg, [[3, 0, "jpg"]], 3, true],
-        [infer.widerEvidence, jpeg, [[3, 0, "jpg"], [1, 3, "jls"]], 3, true],
+        [infer.moreEvidence, jpeg, [[3, 0, "jpg"], [1, 3, "jls"]], 3, true],
         // From 61 bytes on there is one at 60, which is no B of BOOKMOBI.
         [infer.evidence, png.subarray(0, 60), [byPNG], 4, true],
         [infer.evidence, png.subarray(0, 61), [byPNG, byMobi], 4, false],
         [infer.evidence, png, [byPNG, byMobi], 4, false],
-        [infer.widerEvidence, png, [byPNG, byMobi, [300, 0, "apng"]], 4, true],
+        [infer.moreEvidence, png, [byPNG, byMobi, [300, 0, "apng"]], 4, true],
         [infer.evidence, tar, [first, byMobi, [1, 1, "png"], [1, 8, "webp"], [5, 0, "heif"], [1, 12, "mov"], [5, 257, "tar"]], 262, false],
     ];
     for (const [tell, data, ranges, least, isExact] of told) {
@@ -246,7 +249,7 @@ test("evidence names the bytes that decide", () => {
     // A text of types that was asked before is asked again.
     const types = new infer.Types('own own/own app - 1: @0 "o"');
     infer.evidence(png);
-    assert.deepEqual(types.wider(new TextEncoder().encode("o")), { ext: "own", mime: "own/own" });
+    assert.deepEqual(types.get(new TextEncoder().encode("o")), { ext: "own", mime: "own/own" });
 });
 
 const placesOf = ({ place, length, step }) => Array.from({ length }, (_, at) => place + at * step);
@@ -255,7 +258,7 @@ test("what is no evidence changes no answer", async () => {
     const next = generator(68);
     for (const number of infer.knownTypes.keys()) {
         const data = infer.sample(number) ?? new Uint8Array();
-        for (const [ask, tell] of [[fileTypeFromBuffer, infer.evidence], [wider, infer.widerEvidence]]) {
+        for (const [ask, tell] of [[fileTypeFromBuffer, infer.evidence], [getMore, infer.moreEvidence]]) {
             const found = tell(data);
             assert.deepEqual([found.type, found.wanted], [await ask(data), found.ranges.length]);
             const needed = Math.max(found.least, ...found.ranges.map((it) => placesOf(it).at(-1) + 1));
@@ -292,9 +295,9 @@ test("a detached buffer and its views are refused", async () => {
     structuredClone(buffer, { transfer: [buffer] });
     for (const gone of [buffer, data, view]) {
         await assert.rejects(fileTypeFromBuffer(gone), TypeError);
-        assert.throws(() => wider(gone), TypeError);
+        assert.throws(() => getMore(gone), TypeError);
         assert.throws(() => isDecided(gone), TypeError);
-        assert.throws(() => isWiderDecided(gone), TypeError);
+        assert.throws(() => isMoreDecided(gone), TypeError);
     }
 });
 
@@ -303,7 +306,7 @@ test("what is no bytes is refused", async () => {
         Object.create(Uint8Array.prototype), Object.create(ArrayBuffer.prototype), () => jpeg, Symbol("bytes"), new Blob([jpeg]), new Map()];
     for (const other of others) {
         await assert.rejects(fileTypeFromBuffer(other), (fault) => fault instanceof TypeError && fault.message.startsWith("hand over bytes: "));
-        assert.throws(() => wider(other), TypeError);
+        assert.throws(() => getMore(other), TypeError);
         assert.throws(() => isDecided(other), TypeError);
     }
 });
@@ -345,7 +348,7 @@ test("100,000 hostile buffers are answered, and no answer depends on the buffers
     const known = new Set(rows.map((row) => `${row.type.mime} ${row.type.ext}`).concat(furtherVectors.map((it) => it.shown)));
     let [recognised, last, lastShown] = [0, new Uint8Array(), "unknown"];
     const shownOf = (data) => {
-        const found = wider(data);
+        const found = getMore(data);
         return found ? `${found.mime} ${found.ext}` : "unknown";
     };
     for (let count = 0; count < 100_000; count += 1) {
@@ -353,7 +356,7 @@ test("100,000 hostile buffers are answered, and no answer depends on the buffers
         const shown = shownOf(data);
         assert.ok(shown === "unknown" || known.has(shown), shown);
         assert.equal(typeof isDecided(data), "boolean");
-        assert.equal(typeof isWiderDecided(data), "boolean");
+        assert.equal(typeof isMoreDecided(data), "boolean");
         // The buffer before, once more, after other bytes stood in its place.
         assert.equal(shownOf(last), lastShown);
         [last, lastShown, recognised] = [data, shown, recognised + (shown !== "unknown")];
@@ -441,4 +444,48 @@ test("computed types are those of other programs", () => {
     assert.ok(told >= due - due / 4);
     assert.throws(() => compute(new Uint8Array(), { context: "window" }), RangeError);
     assert.throws(() => compute("text"), TypeError);
+});
+
+test("an option of another name is refused, and null is none", async () => {
+    const gif = new TextEncoder().encode("GIF89a");
+    for (const options of [{ customDetectors: [] }, { signal: undefined }, { more: true, x: 1 }]) {
+        const asked = [() => fileTypeFromBuffer(gif, options), () => infer.fileTypeFromBlob(new Blob([gif]), options), () => infer.fileTypeFromStream(new Blob([gif]).stream(), options)];
+        for (const ask of asked) await assert.rejects(ask, /^TypeError: there is no option/);
+        const stream = new Blob([gif]).stream();
+        await assert.rejects(() => infer.fileTypeStream(stream, options), TypeError);
+        assert.equal((await infer.fileTypeFromStream(stream)).ext, "gif");
+    }
+    for (const options of [null, undefined, {}, { more: undefined }]) assert.equal((await fileTypeFromBuffer(gif, options)).ext, "gif");
+});
+
+test("a name is odd by what misleads", () => {
+    const known = [["", []], ["a.png", []], ["a\n.png", ["control"]], ["\u202egnp.exe", ["direction"]], ["a.png ", ["end"]], ["shell.php.", ["end"]], ["shell.php.jpg", ["two extensions"]]];
+    for (const [name, wanted] of [...known, ["\x7f\u2066.php.jpg", ["control", "direction", "two extensions"]]]) {
+        assert.deepEqual(infer.oddities(name), wanted, name);
+        assert.deepEqual(infer.oddities(new TextEncoder().encode(name)), wanted, name);
+    }
+    assert.throws(() => infer.oddities(5), TypeError);
+});
+
+test("the older names are those that took their place", () => {
+    const older = { wider: "getMore", isWiderDecided: "isMoreDecided", widerEvidence: "moreEvidence", mayBecomeWider: "moreMayBecome" };
+    for (const [name, newer] of Object.entries(older)) assert.equal(infer[name], infer[newer], name);
+    assert.deepEqual(new infer.Types("").wider(new TextEncoder().encode("GIF89a")), getMore(new TextEncoder().encode("GIF89a")));
+});
+
+test("a file is told at once as it is awaited", async () => {
+    const folder = mkdtempSync(join(tmpdir(), "infer-test-"));
+    try {
+        for (const { type, sample } of samples) {
+            const path = join(folder, "file");
+            writeFileSync(path, sample);
+            assert.deepEqual(infer.fileTypeFromFileSync(path), await infer.fileTypeFromFile(path), type.mime);
+            assert.deepEqual(infer.fileTypeFromFileSync(path, { more: true }), await infer.fileTypeFromFile(path, { more: true }), type.mime);
+        }
+        assert.throws(() => infer.fileTypeFromFileSync(folder), { code: "EISDIR" });
+        assert.throws(() => infer.fileTypeFromFileSync(join(folder, "none")), { code: "ENOENT" });
+        assert.throws(() => infer.fileTypeFromFileSync(join(folder, "file"), { detectors: [() => undefined] }), TypeError);
+    } finally {
+        rmSync(folder, { recursive: true });
+    }
 });

@@ -23,7 +23,7 @@ const folderFor = (name) => {
 
 /** The first program of the page, what the page says that it prints, and the second. */
 const page = readFileSync(join(here, "README.md"), "utf8");
-const [program, printed, storing] = [...page.matchAll(/```(?:js|text)\n(.*?)```/gs)].map((found) => found[1]);
+const [program, printed, checking, storing] = [...page.matchAll(/```(?:js|text)\n(.*?)```/gs)].map((found) => found[1]);
 
 /** An empty folder in which the package is, by its files alone. */
 const folderWith = (name, change = () => {}) => {
@@ -45,6 +45,10 @@ test("npm packs all that is needed, and an empty folder takes it", { skip: isThe
     const kept = readdirSync(join(folder, "node_modules/hoarvelt-infer"));
     for (const name of ["infer.wasm", "aliases.def", "LICENSE", "README.md", "index.js", "index.d.ts"]) assert.ok(kept.includes(name), name);
     assert.ok(!kept.includes("tests") && !kept.includes("fill"));
+    // npm asks a network for every package that this one names.
+    const described = JSON.parse(readFileSync(join(folder, "node_modules/hoarvelt-infer/package.json"), "utf8"));
+    for (const name of ["dependencies", "peerDependencies", "optionalDependencies"]) assert.equal(described[name], undefined, name);
+    for (const name of ["author", "homepage", "license", "keywords"]) assert.ok(described[name], name);
     writeFileSync(join(folder, "program.mjs"), program);
     writeFileSync(join(folder, "photo.jpg"), Buffer.from("ffd8ffe0", "hex"));
     const ended = node(folder, "program.mjs");
@@ -62,14 +66,45 @@ test("the page's program stores an image, and nothing else", () => {
     assert.equal(ended.stdout, "GIF89a rest not an image false\n", ended.stderr);
 });
 
+test("the page's check refuses a name that lies", () => {
+    const folder = folderWith("checking");
+    writeFileSync(join(folder, "check.mjs"), checking);
+    const source = `import { check } from "./check.mjs";
+        const photo = new Uint8Array([255, 216, 255]);
+        check("a.jpg", photo);
+        for (const [name, bytes] of [["a.php.jpg", photo], ["a.jpg", Buffer.from("GIF89a")], ["a.gif", Buffer.from("GIF89a")]]) {
+            try { check(name, bytes); } catch (fault) { console.log(fault.message); }
+        }`;
+    const ended = node(folder, "--input-type=module", "-e", source);
+    assert.equal(ended.stdout, "the name has two extensions\ncontradicts: no JPEG image\nagree: no JPEG image\n", ended.stderr);
+});
+
+test("what a bundler copies is exported", () => {
+    const folder = folderWith("exported");
+    const source = `import { createRequire } from "node:module"; const require = createRequire(process.cwd() + "/x.js");
+        console.log(import.meta.resolve("hoarvelt-infer/infer.wasm").endsWith("/hoarvelt-infer/infer.wasm"), require("hoarvelt-infer/package.json").name);`;
+    const ended = node(folder, "--input-type=module", "-e", source);
+    assert.equal(ended.stdout, "true hoarvelt-infer\n", ended.stderr);
+});
+
+test("a bundle by esbuild starts beside infer.wasm, and says what is missing without it", { skip: isThere("esbuild") ? false : "no esbuild that runs" }, () => {
+    const folder = folderWith("bundled");
+    writeFileSync(join(folder, "asks.mjs"), 'import { fileTypeFromBuffer } from "hoarvelt-infer"; console.log((await fileTypeFromBuffer(new Uint8Array([255, 216, 255]))).mime);');
+    const ended = run(folder, "esbuild", "asks.mjs", "--bundle", "--format=esm", "--platform=node", "--outfile=dist/asks.mjs");
+    assert.equal(ended.status, 0, ended.stderr);
+    assert.match(node(folder, "dist/asks.mjs").stderr, /does not find infer\.wasm\. Copy it from the package's folder/);
+    cpSync(join(folder, "node_modules/hoarvelt-infer/infer.wasm"), join(folder, "dist/infer.wasm"));
+    assert.equal(node(folder, "dist/asks.mjs").stdout, "image/jpeg\n");
+});
+
 const [major, minor] = process.versions.node.split(".").map(Number);
 const withoutRequire = major > 22 || (major === 22 && minor >= 12) || (major === 20 && minor >= 19) ? false : `no node that requires ES modules (it is ${process.version})`;
 
 test("the package is required as it is imported", { skip: withoutRequire }, () => {
     const folder = folderWith("required");
-    const source = `const { fileTypeFromBuffer, wider } = require("hoarvelt-infer");
+    const source = `const { fileTypeFromBuffer, getMore } = require("hoarvelt-infer");
         const { extensions } = require("hoarvelt-infer/aliases");
-        fileTypeFromBuffer(Buffer.from("GIF89a")).then((it) => console.log(it.ext, wider(Buffer.from("<svg></svg>")).ext, extensions.get("jpeg")));`;
+        fileTypeFromBuffer(Buffer.from("GIF89a")).then((it) => console.log(it.ext, getMore(Buffer.from("<svg></svg>")).ext, extensions.get("jpeg")));`;
     writeFileSync(join(folder, "asks.cjs"), source);
     const ended = node(folder, "asks.cjs");
     assert.equal(ended.stdout, "gif svg jpg\n", ended.stderr);
@@ -78,7 +113,7 @@ test("the package is required as it is imported", { skip: withoutRequire }, () =
 test("a module that is not there is named in one sentence", () => {
     const folder = folderWith("without-module", (to) => rmSync(join(to, "infer.wasm")));
     const ended = node(folder, "--input-type=module", "-e", 'import("hoarvelt-infer").catch((fault) => console.log(fault.message, fault.cause.code))');
-    assert.match(ended.stdout, /^hoarvelt-infer has no module infer\.wasm, which bindings\/javascript\/fill copies to it: .* ENOENT\n$/);
+    assert.match(ended.stdout, /^hoarvelt-infer does not find infer\.wasm\. Copy it from the package's folder .* ENOENT\n$/);
 });
 
 test("an engine without 64-bit memories is told in one sentence", () => {
@@ -100,7 +135,7 @@ test("the file for browsers has every name but that of files, and reads by fetch
         const { extensions } = await import("./node_modules/hoarvelt-infer/aliases.js");
         console.log(extensions.get("jpeg"));`;
     const ended = node(folder, "--input-type=module", "-e", source);
-    assert.equal(ended.stdout, "fileTypeFromFile,namedFromFile gif\njpg\n", ended.stderr);
+    assert.equal(ended.stdout, "fileTypeFromFile,fileTypeFromFileSync,namedFromFile gif\njpg\n", ended.stderr);
 });
 
 const TYPED = `import * as types from "hoarvelt-infer";
@@ -108,21 +143,23 @@ import { extensions } from "hoarvelt-infer/aliases";
 const found: types.FileTypeResult | undefined = await types.fileTypeFromBuffer(new Uint8Array(4));
 const names: string[] = [found?.ext ?? "", found?.mime ?? "", extensions.get("jpeg") ?? "", ...types.supportedExtensions, ...types.supportedMimeTypes, ...types.knownTypes.map((type) => type.class)];
 const whole = await types.fileTypeStream(new Blob([]).stream());
-const more: types.FileTypeResult | undefined = whole.fileType ?? types.wider(new SharedArrayBuffer(4)) ?? (await types.fileTypeFromBlob(new Blob([])));
-const own: types.FileTypeResult | undefined = new types.Types("").wider(new Uint8Array(4)) ?? new types.Types(new ArrayBuffer(4)).wider(new ArrayBuffer(4));
+const more: types.FileTypeResult | undefined = whole.fileType ?? types.getMore(new SharedArrayBuffer(4)) ?? (await types.fileTypeFromBlob(new Blob([])));
+const own: types.FileTypeResult | undefined = new types.Types("").get(new Uint8Array(4)) ?? new types.Types(new ArrayBuffer(4)).get(new ArrayBuffer(4));
 const place = (fault: types.TypesError): string => fault.reason + (fault.line + fault.column);
 const options: types.Options = { more: true, detectors: [(front) => (front.length > 4 ? found : undefined), async () => undefined] };
 const asked = [await types.fileTypeFromBuffer(new Uint8Array(4), options), await types.fileTypeFromBlob(new Blob([]), options), (await types.fileTypeStream(new Blob([]).stream(), options)).fileType];
-const told: [Uint8Array | undefined, string, boolean, number | undefined] = [types.sample(4), types.version, types.mayBecome(new Uint8Array(4), "jpg") || types.mayBecomeWider(new Uint8Array(4), "jpg"), new types.Types("").line(new Uint8Array(4))];
+const told: [Uint8Array | undefined, string, boolean, number | undefined] = [types.sample(4), types.version, types.mayBecome(new Uint8Array(4), "jpg") || types.moreMayBecome(new Uint8Array(4), "jpg"), new types.Types("").line(new Uint8Array(4))];
 const named: types.Named = types.named("photo.jpg", new Uint8Array(4)) ?? types.named(new Uint8Array(4), new Uint8Array(4));
 const standing: types.Standing = named.standing === types.Standing.AGREE ? "agree" : types.Standing.NOTHING;
+const odd: types.Oddity[] = types.oddities("photo.jpg");
+const older = [types.wider(new Uint8Array(4)), types.isWiderDecided(new Uint8Array(4))];
 const ofName: [string | undefined, boolean | undefined] = [named.typeOfName?.ext ?? named.typeOfBytes?.ext, named.type?.isOwnName];
-const isDecided: boolean = types.isDecided(new DataView(new ArrayBuffer(4))) && types.isWiderDecided(new Uint8Array(4));
+const isDecided: boolean = types.isDecided(new DataView(new ArrayBuffer(4))) && types.isMoreDecided(new Uint8Array(4));
 // @ts-expect-error
 await types.fileTypeFromBuffer("text");
 // @ts-expect-error
 found!.ext = "x";
-export { names, whole, more, own, place, isDecided, asked, told, standing, ofName };
+export { names, whole, more, own, place, isDecided, asked, told, standing, ofName, odd, older };
 `;
 
 const TYPED_FOR_NODE = `import { createReadStream } from "node:fs";
@@ -131,12 +168,13 @@ import { ReadableStream } from "node:stream/web";
 import * as types from "hoarvelt-infer";
 import { extensions } from "hoarvelt-infer/aliases";
 const file: types.FileTypeResult | undefined = await types.fileTypeFromFile(new URL("file:///photo.jpg"));
-const name: string = file?.ext ?? extensions.get("jpeg") ?? "";
+const atOnce: types.FileTypeResult | undefined = types.fileTypeFromFileSync("photo.jpg", { more: true });
+const name: string = atOnce?.ext ?? file?.ext ?? extensions.get("jpeg") ?? "";
 const whole = await types.fileTypeStream(createReadStream("photo.jpg"));
 whole.pipe(process.stdout);
 const ofWeb = await types.fileTypeStream(new ReadableStream<Uint8Array>());
-const found: types.FileTypeResult | undefined = whole.fileType ?? ofWeb.fileType ?? (await types.fileTypeFromStream(Readable.from([]))) ?? types.wider(Buffer.alloc(4));
-const own: types.FileTypeResult | undefined = new types.Types("").wider(new Uint8Array(4)) ?? (await types.fileTypeFromBlob(new Blob([])));
+const found: types.FileTypeResult | undefined = whole.fileType ?? ofWeb.fileType ?? (await types.fileTypeFromStream(Readable.from([]))) ?? types.getMore(Buffer.alloc(4));
+const own: types.FileTypeResult | undefined = new types.Types("").get(new Uint8Array(4)) ?? (await types.fileTypeFromBlob(new Blob([])));
 // @ts-expect-error
 await types.fileTypeFromFile(4);
 // @ts-expect-error
@@ -166,4 +204,7 @@ test("the declarations fit a program for browsers, by tsc", { skip: withoutTsc }
 
 test("the declarations fit a program for Node, by tsc", { skip: withoutNodeTypes }, () => {
     compile("typed-for-node", TYPED_FOR_NODE, { lib: ["es2022"], types: ["node"], typeRoots: [NODE_TYPES] });
+    // The older way to look for a package asks package.json for "types", and knows no exports.
+    const asks = 'import { fileTypeFromFile, named } from "hoarvelt-infer"; export const found = [fileTypeFromFile("a"), named("a", new Uint8Array(4))];';
+    compile("typed-by-node", asks, { lib: ["es2022"], types: ["node"], typeRoots: [NODE_TYPES], module: "commonjs", moduleResolution: "node" });
 });
