@@ -8,7 +8,7 @@ from texts import text_of
 
 TABLE = "bindings/calls.tsv"
 HEADERS = ["c/infer.h", "c/infer_file.h"]
-LANGUAGES = ["C", "Python", "Rust", "Go", "JavaScript", "Java"]
+LANGUAGES = ["C", "C++", "Python", "Rust", "Go", "JavaScript", "Java"]
 PYTHON, RUST, GO, JAVASCRIPT = "bindings/python/src/infer", "bindings/rust/infer/src", "bindings/go", "bindings/javascript"
 JAVA = "bindings/java/src/dev/hoarvelt/infer"
 # Where the names of a module of the binding for Rust stand.
@@ -18,6 +18,14 @@ RUST_FILES = {"": ["lib", "read", "encoding", "file_type", "named"], "more": ["m
 def declared():
     """The calls of the headers."""
     return set(re.findall(r"\b(infer_\w+)\(", re.sub(r"/\*.*?\*/", "", "".join(map(text_of, HEADERS)), flags=re.S)))
+
+
+def is_in_cpp(name):
+    of, _, item = name.rpartition("::")
+    module = text_of("c/infer.hpp")
+    # A class or a function, within a class or in the namespace.
+    body = re.search(rf"^(?:class|struct) {of} .*?^\}};", module, re.M | re.S)[0] if of else module
+    return bool(re.search(rf"\b(?:class|struct) {item} \{{|^ *(?:inline |void |std::|bool ).*\b{item}\(", body, re.M))
 
 
 def is_in_python(name):
@@ -33,14 +41,14 @@ def is_in_python(name):
 def is_in_rust(name):
     of, _, item = name.rpartition("::")
     # As it is written, as a macro takes it, or as it is passed on.
-    pattern = rf"\bpub (?:fn|struct) {item}\b|\b{item}: \"|\b{item} = \"|\bpub use [^;]*\b{item}\b"
+    pattern = rf"\bpub (?:fn|struct|enum) {item}\b|\b{item}: \"|\b{item} = \"|\bpub use [^;]*\b{item}\b"
     return any(re.search(pattern, text_of(f"{RUST}/{it}.rs")) for it in RUST_FILES[of])
 
 
 def is_in_go(name):
     of, _, item = name.rpartition(".")
     receiver = rf"\(\w+ \*?{of}\) " if of else ""
-    return any(re.search(rf"^(?:func {receiver}|type ){item}\b", text_of(f"{GO}/{it}.go"), re.M) for it in ("infer", "evidence", "named", "own_types"))
+    return any(re.search(rf"^(?:func {receiver}|type ){item}\b", text_of(f"{GO}/{it}.go"), re.M) for it in ("infer", "evidence", "mimesniff", "named", "own_types"))
 
 
 def is_in_javascript(name):
@@ -51,14 +59,31 @@ def is_in_javascript(name):
 
 def is_in_java(name):
     of, _, item = name.rpartition(".")
-    return bool(re.search(rf"^    public (?:static )?\S+ {item}\(" if of else rf"^public (?:record|final class) {item}\b", text_of(f"{JAVA}/{of or item}.java"), re.M))
+    return bool(re.search(rf"^    public (?:static )?\S+ {item}\(" if of else rf"^public (?:record|final class|enum) {item}\b", text_of(f"{JAVA}/{of or item}.java"), re.M))
 
 
-IS_IN = {"Python": is_in_python, "Rust": is_in_rust, "Go": is_in_go, "JavaScript": is_in_javascript, "Java": is_in_java}
+IS_IN = {"C++": is_in_cpp, "Python": is_in_python, "Rust": is_in_rust, "Go": is_in_go, "JavaScript": is_in_javascript, "Java": is_in_java}
 
 
 def names_of(cell):
     return [] if cell.startswith("-") else [it.partition("(")[0] for it in cell.split(", ")]
+
+
+# How each language writes the name of a standing, on the page that has the table.
+STANDINGS = {
+    "docs/C_LIBRARY.md": "INFER_{}".format, "bindings/python/README.md": "Standing.{}".format, "bindings/javascript/README.md": "Standing.{}".format,
+    "bindings/java/README.md": "Standing.{}".format, "bindings/go/README.md": lambda name: name.title().replace("_", ""),
+    "bindings/rust/infer/README.md": lambda name: "Standing::" + name.title().replace("_", ""),
+}
+
+
+def standings(page):
+    """The lines of the table of standings, which say what the header says."""
+    yield "| Standing | What it says |"
+    yield "|---|---|"
+    body = re.search(r"^enum infer_standing \{(.*?)^\};", text_of("c/infer.h"), re.M | re.S)[1]
+    for name, says in re.findall(r"INFER_(\w+) = \d,? +/\* (.*) \*/", body):
+        yield f"| `{STANDINGS[page](name)}` | {says} |"
 
 
 def lines():
