@@ -27,11 +27,21 @@ METADATA = f"""Metadata-Version: 2.1
 Name: hoarvelt-infer
 Version: {VERSION}
 Summary: The type of a file from its first bytes
+Home-page: https://hoarvelt.example/infer
+Author: Hoarvelt
+Author-email: infer@hoarvelt.example
+Keywords: mime,mime-type,file-type,magic-number,sniff,content-type
+Classifier: Development Status :: 4 - Beta
+Classifier: License :: OSI Approved :: MIT License
+Classifier: Programming Language :: Python :: 3
+Classifier: Typing :: Typed
 License: MIT
 Requires-Python: >=3.9
 Description-Content-Type: text/markdown
 
 """
+# The pages that README.md names. They are in the package's folder.
+PAGES = ("NAMES.md", "NOTATION.md")
 # What PEP 599 lets a wheel of manylinux2014 need of the system, as far as a library in C can need it.
 OLDEST_GLIBC = (2, 17)
 OLD_LIBRARIES = {"libc.so.6", "libm.so.6", "libdl.so.2", "librt.so.1", "libpthread.so.0", "libutil.so.1"}
@@ -148,9 +158,16 @@ def _metadata() -> bytes:
 
 
 def _modules() -> dict[str, bytes]:
-    """The files of Python by their names."""
+    """The files of Python by their names, and the pages that stand beside them in a package."""
     source = os.path.join(HERE, "src", "infer")
-    return {name: _read(os.path.join(source, name)) for name in sorted(os.listdir(source)) if name.endswith((".py", ".typed"))}
+    files = {name: _read(os.path.join(source, name)) for name in sorted(os.listdir(source)) if name.endswith((".py", ".typed", ".md"))}
+    return files if os.path.exists(PORTABLE) else files | _pages()
+
+
+def _pages() -> dict[str, bytes]:
+    with tempfile.TemporaryDirectory() as folder:
+        subprocess.run([os.path.join(ROOT, "c", "pages"), folder, *(os.path.join(ROOT, "docs", name) for name in PAGES)], check=True)
+        return {name: _read(os.path.join(folder, name)) for name in PAGES}
 
 
 def _beside(name: str, *folders: str) -> bytes:

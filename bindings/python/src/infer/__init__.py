@@ -9,16 +9,17 @@ The names are those of filetype.py: `guess` takes a path, bytes or a file that i
 from __future__ import annotations
 
 import enum
+import importlib
 import os
 from collections.abc import Iterable, Iterator, Sized
 from itertools import takewhile
 from typing import NamedTuple, Union
 
 from . import _library
-from ._source import FRONT, Readable, Source, Whole, get_bytes, get_front
+from ._source import FRONT, Buffer, Contents, Readable, Source, Whole, get_bytes, get_contents, get_front, get_piece
 
 __all__ = [
-    "Evidence", "FRONT", "Named", "NamedType", "Oddity", "Range", "Readable", "Sniffer", "Source", "Standing", "TYPES", "Type", "Types", "TypesError", "Whole", "add_type", "application_match", "application_matchers",
+    "Evidence", "FRONT", "Named", "NamedType", "Oddity", "Range", "Readable", "Sniffer", "Source", "Standing", "TYPES", "Type", "Types", "TypesError", "Verdict", "Whole", "add_type", "application_match", "application_matchers",
     "archive_match", "archive_matchers", "audio_match", "audio_matchers", "document_match", "document_matchers", "encoding", "evidence", "font_match", "font_matchers",
     "further_types", "get_bytes", "get_signature_bytes", "get_type", "guess", "guess_extension", "guess_mime", "image_match", "image_matchers",
     "is_app", "is_archive", "is_audio", "is_book", "is_decided", "is_document", "is_extension", "is_extension_supported", "is_font",
@@ -50,6 +51,9 @@ class Type:
         """The class."""
         return self._values[2]
 
+    # As filetype.py's classes have them.
+    MIME, EXTENSION = mime, extension
+
     def is_mime(self, mime: str) -> bool:
         """Whether this is its MIME type."""
         return self.mime == mime
@@ -58,11 +62,11 @@ class Type:
         """Whether this is its usual extension."""
         return self.extension == extension
 
-    def match(self, buf: bytes) -> bool:
+    def match(self, buf: Buffer) -> bool:
         """Whether the type accepts the first bytes. It need not be the answer of `guess`."""
         if self._values not in _rows_of:
             raise NotImplementedError(f"{self!r} is no type of the library, so its class has to say what `match` answers")
-        return _accepts(_rows_of[self._values], get_bytes(buf))
+        return _accepts(_rows_of[self._values], get_piece(buf))
 
     def __iter__(self) -> Iterator[str]:
         return iter(self._values)
@@ -89,8 +93,12 @@ for _row, _kind in enumerate(_all_rows[_built_in:], _built_in):
     if _kind not in _rows:
         _rows_of.setdefault(tuple(_kind), []).append(_row)
 _rows_by_extension: dict[str, list[int]] = {}
+# The first row with each MIME type and with each extension.
+_first_rows: dict[tuple[str, str | None], int] = {}
 for _row, _kind in enumerate(_all_rows):
     _rows_by_extension.setdefault(_kind.extension, []).append(_row)
+    _first_rows.setdefault(("mime", _kind.mime), _row)
+    _first_rows.setdefault(("extension", _kind.extension), _row)
 types: list[Type] = list(_rows)
 """All types, in the order in which they are asked. `guess` asks those that stand before the library's own too."""
 TYPES = types
@@ -144,9 +152,9 @@ def get_signature_bytes(path: Union[str, os.PathLike[str], os.PathLike[bytes]]) 
     return get_bytes(path)
 
 
-def signature(array: Union[bytes, bytearray, memoryview]) -> bytes:
+def signature(array: Buffer) -> bytes:
     """The first 8192 bytes of these."""
-    return get_bytes(array)
+    return get_piece(array)
 
 
 def guess(obj: Source, more: bool = False) -> Type | None:
@@ -176,13 +184,22 @@ def encoding(obj: Source) -> str | None:
     return _library.encoding(get_front(obj)) or None
 
 
-def verdict(obj: Source) -> tuple[Type | None, bool]:
+class Verdict(NamedTuple):
+    """An answer, and whether it stays."""
+
+    type: Type | None
+    """What `guess` answers."""
+    is_final: bool
+    """Whether no bytes that may follow can change it."""
+
+
+def verdict(obj: Source) -> Verdict:
     """What `guess` answers, and whether no bytes that may follow can change it. With added types that is never said."""
     front = get_front(obj)
     if types[0] is not _rows[0]:
-        return guess(front), False
+        return Verdict(guess(front), False)
     row, is_final = _library.verdict(front)
-    return _rows[row] if row >= 0 else None, is_final
+    return Verdict(_rows[row] if row >= 0 else None, is_final)
 
 
 def is_decided(obj: Source, more: bool = False) -> bool:
@@ -252,7 +269,7 @@ def sample(kind: Type) -> bytes | None:
     return next(filter(None, map(_library.sample, _rows_of.get(tuple(kind), []))), None)
 
 
-class Standing(enum.Enum):
+class Standing(str, enum.Enum):
     """What a name did beside the bytes of its file. The value is its name as a text."""
 
     AGREE = "agree"
@@ -269,6 +286,9 @@ class Standing(enum.Enum):
     """The bytes are not of a type that the name has."""
     NOTHING = "nothing"
     """Neither says anything."""
+
+    def __str__(self) -> str:
+        return self.value
 
 
 class NamedType(NamedTuple):
@@ -302,11 +322,21 @@ class Named(_Named):
     def __str__(self) -> str:
         return _library.line(*self._asked, 0, False) if self._asked else repr(self)
 
+    def to_dict(self) -> dict[str, object]:
+        """The same as JSON has it: dictionaries of texts, as the bindings for Go and Rust write them.
+
+        >>> infer.named("main.py", b"import os").to_dict()["type"]
+        {'mime': 'text/x-python', 'extension': 'py', 'own': False}"""
+        of_name, of_bytes = ("mime", "extension", "own"), ("mime", "extension", "class")
+        parts = zip(self._fields[1:], (of_name, of_name, of_bytes), self[1:])
+        return {"standing": self.standing.value} | {name: dict(zip(keys, it)) if it else None for name, keys, it in parts}
+
 
 _standings = tuple(Standing)
+Name = Union[str, bytes, "os.PathLike[str]", "os.PathLike[bytes]"]
 
 
-def _bytes_of_name(name: Union[str, bytes, os.PathLike[str], os.PathLike[bytes]]) -> bytes:
+def _bytes_of_name(name: Name) -> bytes:
     text = os.fspath(name)
     if isinstance(text, str):
         try:
@@ -317,14 +347,18 @@ def _bytes_of_name(name: Union[str, bytes, os.PathLike[str], os.PathLike[bytes]]
     return memoryview(text).tobytes()
 
 
-def named(name: Union[str, bytes, os.PathLike[str], os.PathLike[bytes]], obj: Source | None = None) -> Named:
+def _named_front(name: Name, obj: Contents | None) -> Union[bytes, Whole]:
+    return get_front(os.fsdecode(name)) if obj is None else get_contents(obj)
+
+
+def named(name: Name, obj: Contents | None = None) -> Named:
     """What a file's name and its first bytes tell. Without bytes the name is a path, whose file is read. The bytes win: a
     name only chooses among what they leave open. Types that `add_type` took are not asked.
 
     >>> infer.named("main.py", b"import os").type.mime
     'text/x-python'"""
     text = _bytes_of_name(name)
-    front = get_front(os.fsdecode(name) if obj is None else obj)
+    front = _named_front(name, obj)
     standing, row, told, of_name = _library.named(text, front)
     found = Named(_standings[standing], NamedType(*told) if told else None, NamedType(*of_name) if of_name else None, _all_rows[row] if row >= 0 else None)
     found._asked = text, front
@@ -334,14 +368,14 @@ def named(name: Union[str, bytes, os.PathLike[str], os.PathLike[bytes]], obj: So
 _forms = ("text", "mime", "json", "csv")
 
 
-def line(name: Union[str, bytes, os.PathLike[str], os.PathLike[bytes]], obj: Source | None = None, *, form: str = "text", why: bool = False) -> str:
+def line(name: Name, obj: Contents | None = None, *, form: str = "text", why: bool = False) -> str:
     """The line that `infer_label` prints of a file's name and its first bytes, as "text", "mime", "json" or "csv", and with
     the bytes that decide if `why` is true. Without bytes the name is a path, whose file is read. Nothing of a name moves a
     cursor or is hidden.
 
     >>> infer.line("main.py", b"import os")
     'main.py: text/x-python py, us-ascii, name refines'"""
-    return _library.line(_bytes_of_name(name), get_front(os.fsdecode(name) if obj is None else obj), _forms.index(form), why)
+    return _library.line(_bytes_of_name(name), _named_front(name, obj), _forms.index(form), why)
 
 
 class Oddity(enum.Flag):
@@ -357,7 +391,7 @@ class Oddity(enum.Flag):
     """The last part and an earlier one are extensions, as in shell.php.jpg. Honest names have that too."""
 
 
-def oddities(name: Union[str, bytes, os.PathLike[str], os.PathLike[bytes]]) -> Oddity:
+def oddities(name: Name) -> Oddity:
     """What is odd about a name. It changes nothing of what `named` tells.
 
     >>> infer.Oddity.TWO_EXTENSIONS in infer.oddities("shell.php.jpg")
@@ -378,10 +412,11 @@ class Sniffer:
         self.kept = b""
         """The first bytes of what was pushed, at most 8192."""
 
-    def push(self, piece: Union[bytes, bytearray, memoryview]) -> None:
+    def push(self, piece: Buffer) -> None:
         """Takes the next bytes."""
+        front = get_piece(piece)
         if not self.is_full():
-            self.kept = (self.kept + get_bytes(piece))[:FRONT]
+            self.kept = (self.kept + front)[:FRONT]
 
     def is_full(self) -> bool:
         """Whether 8192 bytes are kept, so that no more are looked at."""
@@ -403,18 +438,33 @@ class Sniffer:
         """Its extension, or None."""
         return guess_extension(self.kept, more)
 
+    def named(self, name: Name) -> Named:
+        """What a name and what is kept tell, as the function `named` says."""
+        return named(name, self.kept)
+
+    def encoding(self) -> str | None:
+        """How the text is encoded, as the function `encoding` says."""
+        return encoding(self.kept)
+
 
 def get_type(mime: str | None = None, ext: str | None = None, more: bool = False) -> Type | None:
     """The first type with this MIME type or this extension, or None. With `more` it can be a type beyond `types`."""
-    further = _all_rows[_built_in:] if more else ()
-    return next((kind for kind in (*types, *further) if kind.mime == mime or kind.extension == ext), None)
+    if own := next((kind for kind in _added() if kind.mime == mime or kind.extension == ext), None):
+        return own
+    row = min(_first_rows.get(("mime", mime), len(_all_rows)), _first_rows.get(("extension", ext), len(_all_rows)))
+    return _all_rows[row] if row < (len(_all_rows) if more else _built_in) else None
+
+
+def _text(text: str) -> str:
+    if not isinstance(text, str):
+        raise TypeError(f"hand over a str, and not {type(text).__name__}")
+    # As it is, and not as a subclass says.
+    return str.__str__(text)
 
 
 def _encoded(text: str) -> bytes:
-    if not isinstance(text, str):
-        raise TypeError(f"hand over a str, and not {type(text).__name__}")
     # A text that is not Unicode is nobody's. Not what a subclass of str calls encoding.
-    return str.encode(text, "utf-8", "surrogatepass")
+    return str.encode(_text(text), "utf-8", "surrogatepass")
 
 
 def is_extension(obj: Source, ext: str) -> bool:
@@ -431,19 +481,17 @@ def is_mime(obj: Source, mime: str) -> bool:
 
 def is_extension_supported(ext: str) -> bool:
     """Whether some type has this extension."""
-    text = _encoded(ext)
-    return any(kind.extension == ext for kind in _added()) or _library.is_supported(text, len(text))
+    return get_type(ext=_text(ext)) is not None
 
 
 def is_mime_supported(mime: str) -> bool:
     """Whether some type has this MIME type."""
-    text = _encoded(mime)
-    return any(kind.mime == mime for kind in _added()) or _library.is_mime_supported(text, len(text))
+    return get_type(mime=_text(mime)) is not None
 
 
-def match(obj: Source, matchers: Iterable[Type] = types) -> Type | None:
+def match(obj: Source, matchers: Iterable[Type] | None = None) -> Type | None:
     """The first of these types that accepts the first bytes, or None. Without a list it is what `guess` answers."""
-    if matchers is types:
+    if matchers is None or matchers is types:
         return guess(obj)
     front = get_front(obj)
     return next((kind for kind in matchers if _fits(kind, front)), None)
@@ -588,3 +636,9 @@ class Types:
         """The extension of what `guess` answers, or None."""
         kind = self.guess(obj)
         return kind.extension if kind else None
+
+
+# As in filetype.py `infer.types` is a list, and `from infer.types import image` a module. What is imported takes the name.
+_list = types
+importlib.import_module(f"{__name__}.types")
+types = _list

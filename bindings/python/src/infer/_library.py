@@ -43,8 +43,6 @@ is_decided: _Ask = _declare("infer_is_decided", ctypes.c_bool, _BUFFER, _SIZE)
 more_is_decided: _Ask = _declare("infer_more_is_decided", ctypes.c_bool, _BUFFER, _SIZE)
 is_: _AskByText = _declare("infer_is", ctypes.c_bool, _BUFFER, _SIZE, _BUFFER, _SIZE)
 is_mime: _AskByText = _declare("infer_is_mime", ctypes.c_bool, _BUFFER, _SIZE, _BUFFER, _SIZE)
-is_supported: _Ask = _declare("infer_is_supported", ctypes.c_bool, _BUFFER, _SIZE)
-is_mime_supported: _Ask = _declare("infer_is_mime_supported", ctypes.c_bool, _BUFFER, _SIZE)
 of_class: dict[str, _Ask] = {
     name: _declare(f"infer_is_{name}", ctypes.c_bool, _BUFFER, _SIZE)
     for name in ["app", "archive", "audio", "book", "document", "font", "image", "video"]

@@ -4,6 +4,7 @@ from __future__ import annotations
 import contextlib
 import ctypes
 import errno
+import io
 import mmap
 import os
 import stat
@@ -61,12 +62,26 @@ class Whole:
         return self._size
 
 
-Source = Union[str, "os.PathLike[str]", "os.PathLike[bytes]", bytes, bytearray, memoryview, Readable, Whole]
+Buffer = Union[bytes, bytearray, memoryview]
+Contents = Union["os.PathLike[str]", "os.PathLike[bytes]", Buffer, Readable, Whole]
+Source = Union[str, Contents]
 
 
 def get_front(obj: Source) -> Union[bytes, Whole]:
     """What the library is asked about: a whole file, or the first 8192 bytes of anything else."""
     return obj if isinstance(obj, Whole) else get_bytes(obj)
+
+
+def get_contents(obj: Contents) -> Union[bytes, Whole]:
+    """The same where a text would be the contents: it is no path, or whoever sent it would choose the file that is opened."""
+    if isinstance(obj, str):
+        raise TypeError("a str is not bytes: encode the text, or hand over a pathlib.Path if it is the path of a file")
+    return get_front(obj)
+
+
+def get_piece(piece: Buffer) -> bytes:
+    """The first 8192 bytes of what has a buffer, and of nothing else."""
+    return get_bytes(piece if isinstance(piece, bytes) else memoryview(piece))
 
 
 def get_bytes(obj: Source) -> bytes:
@@ -82,6 +97,9 @@ def get_bytes(obj: Source) -> bytes:
         return _of_path(obj)
     if not hasattr(obj, "read"):
         raise TypeError(f"hand over a path, bytes, or a file that is open for reading bytes, and not {type(obj).__name__}")
+    # To read it would decode what is no text.
+    if isinstance(obj, io.TextIOBase):
+        raise TypeError(f"a {type(obj).__name__} gives text: open the file for reading bytes, as in mode 'rb'")
     place = _place(obj)
     if place is None:
         return _read(obj)

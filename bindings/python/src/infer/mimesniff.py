@@ -21,7 +21,7 @@ import re
 from typing import Union
 
 from . import _library
-from ._source import Source, get_bytes, get_front
+from ._source import Buffer, Contents, get_contents, get_piece
 
 __all__ = ["Context", "Destination", "Group", "HEADER", "MimeType", "Sniffer", "compute", "extract", "is_blocked", "is_decided", "is_nosniff", "is_old_server", "may_be_scriptable"]
 
@@ -148,24 +148,24 @@ def _flags(nosniff: bool, old_server: bool) -> int:
 
 
 def compute(
-    obj: Source, content_type: Text | None = None, nosniff: bool = False, old_server: bool = False, context: Context = Context.PAGE
+    obj: Contents, content_type: Text | None = None, nosniff: bool = False, old_server: bool = False, context: Context = Context.PAGE
 ) -> str | None:
     """The type that a browser computes of the first 1445 bytes, of the MIME type that was told, of whether sniffing is
     forbidden, of whether the header is one of old servers (`is_old_server`), and of what they are loaded for. It is None if
     nothing is told and nothing is found, which is never so of a page."""
     text = _bytes_of(content_type or b"")
-    return _library.mime_compute(text, _flags(nosniff, old_server), Context(context), get_front(obj)).decode("latin-1") or None
+    return _library.mime_compute(text, _flags(nosniff, old_server), Context(context), get_contents(obj)).decode("latin-1") or None
 
 
-def is_decided(obj: Source, content_type: Text | None = None, nosniff: bool = False, old_server: bool = False) -> bool:
+def is_decided(obj: Contents, content_type: Text | None = None, nosniff: bool = False, old_server: bool = False) -> bool:
     """Whether no bytes that may follow change what `compute` says of a page. A yes is certain, a no may be too careful."""
-    front, text = get_front(obj), _bytes_of(content_type or b"")
+    front, text = get_contents(obj), _bytes_of(content_type or b"")
     return _library.mime_is_decided(text, len(text), _flags(nosniff, old_server), front, len(front))
 
 
-def may_be_scriptable(obj: Source) -> bool:
+def may_be_scriptable(obj: Contents) -> bool:
     """Whether some bytes that may follow make a browser that was told no type run scripts. A no is certain."""
-    front = get_front(obj)
+    front = get_contents(obj)
     return _library.mime_may_be_scriptable(front, len(front))
 
 
@@ -183,10 +183,11 @@ class Sniffer:
         """The first bytes of what was pushed, at most 1445."""
         self._supplied = (content_type, nosniff, old_server)
 
-    def push(self, piece: Union[bytes, bytearray, memoryview]) -> None:
+    def push(self, piece: Buffer) -> None:
         """Takes the next bytes."""
+        front = get_piece(piece)
         if not self.is_full():
-            self.kept = (self.kept + get_bytes(piece))[:HEADER]
+            self.kept = (self.kept + front)[:HEADER]
 
     def is_full(self) -> bool:
         """Whether 1445 bytes are kept, so that no more are looked at."""
