@@ -105,6 +105,17 @@ JNIEXPORT jint NAME(line)(JNIEnv *env, jclass self, jbyteArray name, jbyteArray 
     return (jint)length;
 }
 
+JNIEXPORT jint NAME(oddities)(JNIEnv *env, jclass self, jbyteArray name) {
+    size_t size = (size_t)(*env)->GetArrayLength(env, name);
+    char *text = held(env, name, NULL);
+    jint found;
+    (void)self;
+    if (!text) return refuse(env), 0;
+    found = (jint)infer_oddities(text, size);
+    release(env, name, text);
+    return found;
+}
+
 JNIEXPORT jstring NAME(typesMistake)(JNIEnv *env, jclass self, jbyteArray text, jlongArray place) {
     char reason[INFER_TEXT_SIZE] = "", *types;
     size_t line = 0, column = 0, text_size = (size_t)(*env)->GetArrayLength(env, text);

@@ -43,6 +43,8 @@ final class Asks {
             case "named" -> named();
             case "line" -> System.out.println(Infer.line("main\n.py", "import os\n".getBytes(StandardCharsets.UTF_8)));
             case "namedPaths" -> rest.forEach(path -> say(path, () -> shown(Infer.named(Path.of(path)))));
+            case "oddities" -> given().forEach(name -> System.out.println(Infer.oddities(new String(name, StandardCharsets.UTF_8))));
+            case "older" -> older(rest.get(0));
             case "streams" -> streams();
             case "nulls" -> nulls();
             case "threads" -> threads();
@@ -118,14 +120,14 @@ final class Asks {
     private static void ways(Path file) throws IOException {
         Types own = Types.of(OWN);
         List<Way> all = List.of(
-            it -> answers(Infer.get(it), Infer.wider(it), Infer.encoding(it), Infer.isDecided(it), Infer.isWiderDecided(it), own.get(it)),
+            it -> answers(Infer.get(it), Infer.getMore(it), Infer.encoding(it), Infer.isDecided(it), Infer.isMoreDecided(it), own.get(it)),
             it -> of(own, inside(it, ByteBuffer.allocate(it.length + 9))),
             it -> of(own, inside(it, ByteBuffer.allocateDirect(it.length + 9))),
             it -> of(own, inside(it, ByteBuffer.allocate(it.length + 9)).slice().asReadOnlyBuffer()),
             it -> of(own, new BufferedInputStream(new ByteArrayInputStream(it), 16)),
             it -> {
                 Files.write(file, it);
-                return answers(Infer.get(file), Infer.wider(file), Infer.encoding(file), Infer.isDecided(file), Infer.isWiderDecided(file), own.get(file));
+                return answers(Infer.get(file), Infer.getMore(file), Infer.encoding(file), Infer.isDecided(file), Infer.isMoreDecided(file), own.get(file));
             });
         for (byte[] bytes : given()) {
             List<String> told = new ArrayList<>();
@@ -148,13 +150,13 @@ final class Asks {
 
     private static String of(Types own, ByteBuffer it) {
         ByteBuffer before = it.duplicate();
-        String told = answers(Infer.get(it), Infer.wider(it), Infer.encoding(it), Infer.isDecided(it), Infer.isWiderDecided(it), own.get(it));
+        String told = answers(Infer.get(it), Infer.getMore(it), Infer.encoding(it), Infer.isDecided(it), Infer.isMoreDecided(it), own.get(it));
         return before.equals(it) && before.position() == it.position() ? told : "moved";
     }
 
     private static String of(Types own, InputStream it) throws IOException {
         int left = it.available();
-        String told = answers(Infer.get(it), Infer.wider(it), Infer.encoding(it), Infer.isDecided(it), Infer.isWiderDecided(it), own.get(it));
+        String told = answers(Infer.get(it), Infer.getMore(it), Infer.encoding(it), Infer.isDecided(it), Infer.isMoreDecided(it), own.get(it));
         return left == it.available() ? told : "moved";
     }
 
@@ -203,6 +205,17 @@ final class Asks {
         }
     }
 
+    /** Whether older names and other ways to hand a file over have the same answers. */
+    @SuppressWarnings("deprecation")
+    private static void older(String path) throws IOException {
+        Path at = Path.of(path);
+        byte[] bytes = Files.readAllBytes(at);
+        System.out.println(Infer.wider(bytes).equals(Infer.getMore(at.toFile())) && Infer.wider(at).equals(Infer.wider(ByteBuffer.wrap(bytes))));
+        System.out.println(Infer.isWiderDecided(at) == Infer.isMoreDecided(bytes) && Infer.get(at.toFile()).equals(Infer.get(at)));
+        System.out.println(Infer.named(at.toFile()).equals(Infer.named(at)));
+        System.out.println(Infer.detect(bytes) + " " + Infer.detect(at) + " " + Infer.detect(at.toFile()) + " " + Infer.detect(new byte[] {0, 1}));
+    }
+
     private static void streams() throws IOException {
         for (int given : new int[] {-2, -1, 0, Infer.FRONT, Infer.FRONT + 1, Integer.MAX_VALUE}) {
             for (boolean resets : new boolean[] {true, false}) {
@@ -223,7 +236,7 @@ final class Asks {
 
     private static void nulls() {
         say("array", () -> shown(Infer.get((byte[]) null)));
-        say("buffer", () -> shown(Infer.wider((ByteBuffer) null)));
+        say("buffer", () -> shown(Infer.getMore((ByteBuffer) null)));
         say("stream", () -> String.valueOf(Infer.encoding((InputStream) null)));
         say("path", () -> String.valueOf(Infer.isDecided((Path) null)));
         say("text", () -> String.valueOf(Types.of(null)));
@@ -262,7 +275,7 @@ final class Asks {
             right.add(all.submit(() -> {
                 for (int count = 0; count < 5_000; count++) {
                     own.get(torn);
-                    Infer.wider(torn);
+                    Infer.getMore(torn);
                     Infer.encoding(torn);
                     Infer.isDecided(moved);
                 }

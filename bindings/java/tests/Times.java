@@ -23,7 +23,7 @@ final class Times {
             buffers.add(Files.readAllBytes(Path.of(word)));
         }
         print("get", it -> Infer.get(buffers.get(it)), buffers.size(), CALLS);
-        print("wider", it -> Infer.wider(buffers.get(it)), buffers.size(), CALLS);
+        print("wider", it -> Infer.getMore(buffers.get(it)), buffers.size(), CALLS);
         print("connection", it -> URLConnection.guessContentTypeFromStream(new ByteArrayInputStream(buffers.get(it))), buffers.size(), CALLS);
         print("path", it -> Infer.get(paths.get(it)), buffers.size(), CALLS / 10);
     }

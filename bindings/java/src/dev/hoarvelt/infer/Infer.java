@@ -1,13 +1,16 @@
 package dev.hoarvelt.infer;
 
+import java.io.File;
 import java.io.IOException;
 import java.io.InputStream;
 import java.nio.ByteBuffer;
 import java.nio.charset.Charset;
 import java.nio.charset.StandardCharsets;
 import java.nio.file.Path;
+import java.util.EnumSet;
 import java.util.List;
 import java.util.Optional;
+import java.util.Set;
 import java.util.stream.IntStream;
 
 /**
@@ -17,11 +20,11 @@ import java.util.stream.IntStream;
  * Infer.get(Path.of("photo.jpg")).ifPresent(type -> System.out.println(type.mimeType()));
  * }</pre>
  *
- * <p>Bytes can be handed over in four ways. Of an array or a buffer all that is handed over is looked at, {@link #FRONT}
+ * <p>Bytes can be handed over in five ways. Of an array or a buffer all that is handed over is looked at, {@link #FRONT}
  * bytes are enough, and nobody may change them meanwhile. A buffer's are those between its position and its limit, which
  * stay. Of a stream the next {@link #FRONT} bytes are read, between {@link InputStream#mark mark} and
  * {@link InputStream#reset reset}, so it stands afterwards where it stood; one that cannot go back is an
- * {@link IllegalArgumentException}. A path is that of a regular file, and of any other an {@link IOException} tells. A
+ * {@link IllegalArgumentException}. A path or a file is that of a regular file, and of any other an {@link IOException} tells. A
  * failed read is no answer, but that exception.
  *
  * <p>Nothing is kept between two calls, and all may be called from any thread.
@@ -82,28 +85,91 @@ public final class Infer {
         return get(Front.of(path));
     }
 
-    private static Optional<Type> wider(Bytes bytes) {
+    /** {@return the same, of the first bytes of a file} */
+    public static Optional<Type> get(File file) throws IOException {
+        return get(file.toPath());
+    }
+
+    private static Optional<Type> getMore(Bytes bytes) {
         return answer(Library.morePosition(bytes));
     }
 
     /** {@return the wider answer: the first further type below the answer of {@code get}, and that answer if there is none} */
-    public static Optional<Type> wider(byte[] bytes) {
-        return wider(Bytes.of(bytes));
+    public static Optional<Type> getMore(byte[] bytes) {
+        return getMore(Bytes.of(bytes));
     }
 
     /** {@return the same, of a buffer's bytes} */
-    public static Optional<Type> wider(ByteBuffer buffer) {
-        return wider(Bytes.of(buffer));
+    public static Optional<Type> getMore(ByteBuffer buffer) {
+        return getMore(Bytes.of(buffer));
     }
 
     /** {@return the same, of the next bytes of a stream, which stays where it is} */
-    public static Optional<Type> wider(InputStream in) throws IOException {
-        return wider(Front.of(in));
+    public static Optional<Type> getMore(InputStream in) throws IOException {
+        return getMore(Front.of(in));
     }
 
     /** {@return the same, of the first bytes of a file} */
+    public static Optional<Type> getMore(Path path) throws IOException {
+        return getMore(Front.of(path));
+    }
+
+    /** {@return the same, of the first bytes of a file} */
+    public static Optional<Type> getMore(File file) throws IOException {
+        return getMore(file.toPath());
+    }
+
+    /** {@return the older name of {@code getMore}, which the next version leaves out} */
+    @Deprecated
+    public static Optional<Type> wider(byte[] bytes) {
+        return getMore(bytes);
+    }
+
+    /** {@return the same, of a buffer's bytes} */
+    @Deprecated
+    public static Optional<Type> wider(ByteBuffer buffer) {
+        return getMore(buffer);
+    }
+
+    /** {@return the same, of the next bytes of a stream, which stays where it is} */
+    @Deprecated
+    public static Optional<Type> wider(InputStream in) throws IOException {
+        return getMore(in);
+    }
+
+    /** {@return the same, of the first bytes of a file} */
+    @Deprecated
     public static Optional<Type> wider(Path path) throws IOException {
-        return wider(Front.of(path));
+        return getMore(path);
+    }
+
+    private static String text(Optional<Type> type) {
+        return type.map(Type::mimeType).orElse("application/octet-stream");
+    }
+
+    /** {@return the MIME type of {@code getMore} as a text, and application/octet-stream if there is none} */
+    public static String detect(byte[] bytes) {
+        return text(getMore(bytes));
+    }
+
+    /** {@return the same, of a buffer's bytes} */
+    public static String detect(ByteBuffer buffer) {
+        return text(getMore(buffer));
+    }
+
+    /** {@return the same, of the next bytes of a stream, which stays where it is} */
+    public static String detect(InputStream in) throws IOException {
+        return text(getMore(in));
+    }
+
+    /** {@return the same, of the first bytes of a file} */
+    public static String detect(Path path) throws IOException {
+        return text(getMore(path));
+    }
+
+    /** {@return the same, of the first bytes of a file} */
+    public static String detect(File file) throws IOException {
+        return text(getMore(file));
     }
 
     private static Named named(String name, Bytes bytes) {
@@ -130,6 +196,23 @@ public final class Infer {
     /** {@return the same, of the first bytes of a file, whose name the path is} */
     public static Named named(Path path) throws IOException {
         return named(path.toString(), Front.of(path));
+    }
+
+    /** {@return the same, of the first bytes of a file, whose name its path is} */
+    public static Named named(File file) throws IOException {
+        return named(file.toPath());
+    }
+
+    /** {@return what is odd about a name} It changes nothing of what {@code named} tells. */
+    public static Set<Oddity> oddities(String name) {
+        int found = Library.oddities(name.getBytes(StandardCharsets.UTF_8));
+        Set<Oddity> all = EnumSet.noneOf(Oddity.class);
+        for (Oddity oddity : Oddity.values()) {
+            if ((found >> oddity.ordinal() & 1) != 0) {
+                all.add(oddity);
+            }
+        }
+        return all;
     }
 
     /**
@@ -191,23 +274,47 @@ public final class Infer {
         return Library.isDecided(Front.of(path));
     }
 
-    /** {@return whether no bytes that may follow can change the answer of {@code wider}} False does not say that some can. */
-    public static boolean isWiderDecided(byte[] bytes) {
+    /** {@return whether no bytes that may follow can change the answer of {@code getMore}} False does not say that some can. */
+    public static boolean isMoreDecided(byte[] bytes) {
         return Library.moreIsDecided(Bytes.of(bytes));
     }
 
     /** {@return the same, of a buffer's bytes} */
-    public static boolean isWiderDecided(ByteBuffer buffer) {
+    public static boolean isMoreDecided(ByteBuffer buffer) {
         return Library.moreIsDecided(Bytes.of(buffer));
     }
 
     /** {@return the same, of the next bytes of a stream, which stays where it is} */
-    public static boolean isWiderDecided(InputStream in) throws IOException {
+    public static boolean isMoreDecided(InputStream in) throws IOException {
         return Library.moreIsDecided(Front.of(in));
     }
 
     /** {@return the same, of the first bytes of a file} */
-    public static boolean isWiderDecided(Path path) throws IOException {
+    public static boolean isMoreDecided(Path path) throws IOException {
         return Library.moreIsDecided(Front.of(path));
+    }
+
+    /** {@return the older name of {@code isMoreDecided}, which the next version leaves out} */
+    @Deprecated
+    public static boolean isWiderDecided(byte[] bytes) {
+        return isMoreDecided(bytes);
+    }
+
+    /** {@return the same, of a buffer's bytes} */
+    @Deprecated
+    public static boolean isWiderDecided(ByteBuffer buffer) {
+        return isMoreDecided(buffer);
+    }
+
+    /** {@return the same, of the next bytes of a stream, which stays where it is} */
+    @Deprecated
+    public static boolean isWiderDecided(InputStream in) throws IOException {
+        return isMoreDecided(in);
+    }
+
+    /** {@return the same, of the first bytes of a file} */
+    @Deprecated
+    public static boolean isWiderDecided(Path path) throws IOException {
+        return isMoreDecided(path);
     }
 }

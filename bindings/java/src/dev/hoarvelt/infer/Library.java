@@ -68,6 +68,9 @@ final class Library {
 
     private static native int line(byte[] name, byte[] array, ByteBuffer direct, int from, int size, byte[] room);
 
+    /** What is odd about a name: the sum of the bits of Oddity. */
+    static native int oddities(byte[] name);
+
     /** What is wrong with a text of types, or the empty text. The line and the column go into the place. */
     static native String typesMistake(byte[] text, long[] place);
 

@@ -47,12 +47,21 @@ final class Loader {
             try (OutputStream out = Files.newOutputStream(copy)) {
                 in.transferTo(out);
             }
-            System.load(copy.toString());
+            loadFrom(copy);
         } finally {
             // Windows keeps a file that is loaded.
             if (!copy.toFile().delete()) {
                 copy.toFile().deleteOnExit();
             }
+        }
+    }
+
+    private static void loadFrom(Path copy) {
+        try {
+            System.load(copy.toString());
+        } catch (UnsatisfiedLinkError fault) {
+            String why = fault.getMessage() + ": java.io.tmpdir may be mounted noexec, and the property " + PROPERTY + " can name a library";
+            throw (Error) new UnsatisfiedLinkError(why).initCause(fault);
         }
     }
 

@@ -35,6 +35,7 @@ final class Library {
     private static final MethodHandle LINE = critical("infer_label_write", FunctionDescriptor.of(JAVA_LONG, ADDRESS, JAVA_LONG, ADDRESS, JAVA_LONG,
         JAVA_INT, JAVA_INT, JAVA_INT, ADDRESS, JAVA_LONG, ADDRESS, JAVA_LONG, JAVA_LONG, ADDRESS, ADDRESS, ADDRESS, JAVA_LONG));
     private static final MethodHandle NAMED = critical("infer_named", FunctionDescriptor.ofVoid(ADDRESS, JAVA_LONG, ADDRESS, JAVA_LONG, ADDRESS));
+    private static final MethodHandle ODDITIES = handle("infer_oddities", JAVA_INT, ADDRESS, JAVA_LONG);
     private static final MethodHandle TYPES_CHECK = handle("infer_types_check", JAVA_LONG, ADDRESS, JAVA_LONG, ADDRESS, ADDRESS, ADDRESS, JAVA_LONG);
     private static final MethodHandle ROW_COUNT = handle("infer_row_count", JAVA_LONG);
     private static final MethodHandle MORE_ROW_COUNT = handle("infer_more_row_count", JAVA_LONG);
@@ -145,6 +146,15 @@ final class Library {
             return (int) (long) LINE.invokeExact(
                 MemorySegment.ofArray(name), (long) name.length, segment(it), (long) it.size(), 0, 0, 0,
                 none, 0L, none, 0L, 0L, told, known, MemorySegment.ofArray(room), (long) room.length);
+        } catch (Throwable fault) {
+            throw thrown(fault);
+        }
+    }
+
+    /** What is odd about a name: the sum of the bits of Oddity. */
+    static int oddities(byte[] name) {
+        try {
+            return (int) ODDITIES.invokeExact(MemorySegment.ofArray(name), (long) name.length);
         } catch (Throwable fault) {
             throw thrown(fault);
         }
