@@ -1,5 +1,7 @@
 //! Facts about the definitions, each the contract of a function that does nothing beside. To use a law, call it.
+ghost use Rattle.std.specs.Prelude.{◌≡◌};
 ghost use Rattle.mime_types.specs.Laws.{CombinesOnce, EndsSayNothing, HasPieces, IsTrimmed, LeavesLastOut, SaysItself, SaysNoStars, SaysOne};
+ghost use Rattle.mime_types.specs.declared.write.TheConstants.{MOST_SEGMENTS};
 
 /// No text says two MIME types.
 pub fn one_mime()
@@ -40,4 +42,9 @@ pub fn ends_say_nothing()
 /// between them, changes nothing.
 pub fn combines_once()
     ensures { CombinesOnce }
+{}
+
+/// How many segments behind a subtype are told apart.
+pub fn numbers()
+    ensures { MOST_SEGMENTS ≡ 256 }
 {}
