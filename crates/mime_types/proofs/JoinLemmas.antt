@@ -6,7 +6,7 @@ use Rattle.std.proofs.lemmas.List.{append-nil}
 use Rattle.std.specs.List.{AllByRecursion, list_all}
 use Rattle.mime_types.specs.Bytes.{is_token}
 use Rattle.mime_types.specs.Mime.{Parameter}
-use Rattle.mime_types.specs.Segment.{bare, named, parameter_of, quoted, quoted_len, segment, segment_of, some_value, unquoted, valued, written}
+use Rattle.mime_types.specs.Segment.{as_written, bare, named, parameter_of, quoted, quoted_len, segment, segment_of, segment_said, some_value, standing, stands, unquoted, valued, written}
 use Rattle.mime_types.specs.Serialize.{escaped, in_quotes, parameters_text, value_text}
 use Rattle.mime_types.specs.Text.{before, behind, ends_name, front, is_a_token, is_semicolon, lower, onward, trim_end, trim_start}
 use Rattle.mime_types.proofs.CutLemmas.{behind_cut, behind_whole, front_cut, front_whole, no_end, onward_cut, other_byte, token_bytes, token_dark, token_not_white, trimmed_end, trimmed_start}
@@ -87,7 +87,7 @@ not_name_end : (x : ℕ) → is_token x ≡ true → ends_name x ≡ false
 not_name_end x is = ap (λ b. b || x == 0x3D) (other_byte 0x3B refl x is) ∙ other_byte 0x3D refl x is
 
 -- a value of a token
-bare_again : (name v r : List ℕ) → is_a_token v ≡ true → Stops is_semicolon r → valued name (v ++ r) ≡ segment_of (Some (parameter_of name v)) (behind is_semicolon r)
+bare_again : (name v r : List ℕ) → is_a_token v ≡ true → Stops is_semicolon r → valued name (v ++ r) ≡ standing (Some (as_written name v false)) (behind is_semicolon r)
 bare_again name [] r token stops = absurd (false≢true token)
 bare_again name (x ∷ v) r token stops =
     let all = token_bytes (x ∷ v) token in
@@ -96,35 +96,38 @@ bare_again name (x ∷ v) r token stops =
     let value : trim_end (front is_semicolon ((x ∷ v) ++ r)) ≡ x ∷ v
     = ap trim_end (front_joined is_semicolon (x ∷ v) none r stops) ∙ trimmed_end (x ∷ v) (token_dark (x ∷ v) (omega arith) all) in
     ap (λ b. if b then quoted name (v ++ r) else bare name ((x ∷ v) ++ r)) (other_byte 0x22 refl x first.0)
-    ∙ (ap (λ w. segment_of (some_value name w) (behind is_semicolon ((x ∷ v) ++ r))) value
-    ∙ ap (λ w. segment_of (Some (parameter_of name (x ∷ v))) w) (behind_joined is_semicolon (x ∷ v) none r stops))
+    ∙ (ap (λ w. standing (some_value name w) (behind is_semicolon ((x ∷ v) ++ r))) value
+    ∙ ap (λ w. standing (Some (as_written name (x ∷ v) false)) w) (behind_joined is_semicolon (x ∷ v) none r stops))
 
 -- a value in quotes
 behind_quote : (r : List ℕ) → Stops is_semicolon r → behind is_semicolon (0x22 ∷ r) ≡ behind is_semicolon r
 behind_quote r stops = behind_joined is_semicolon (0x22 ∷ []) refl r stops
 
-quoted_again : (name v r : List ℕ) → Stops is_semicolon r → valued name (in_quotes v ++ r) ≡ segment_of (Some (parameter_of name v)) (behind is_semicolon r)
+quoted_again : (name v r : List ℕ) → Stops is_semicolon r → valued name (in_quotes v ++ r) ≡ standing (Some (as_written name (escaped v) true)) (behind is_semicolon r)
 quoted_again name v r stops =
     let s = escaped v in
     let t : (s ++ 0x22 ∷ []) ++ r ≡ s ++ 0x22 ∷ r = append_assoc s (0x22 ∷ []) r in
     let len : quoted_len (s ++ 0x22 ∷ r) ≡ length s = ap quoted_len (sym t) ∙ escaped_len v r in
-    let said : unquoted (take (quoted_len (s ++ 0x22 ∷ r)) (s ++ 0x22 ∷ r)) ≡ v
-    = ap (λ n. unquoted (take n (s ++ 0x22 ∷ r))) len ∙ (ap unquoted (take-append_seam s (0x22 ∷ r)) ∙ unescaped v) in
+    let text : take (quoted_len (s ++ 0x22 ∷ r)) (s ++ 0x22 ∷ r) ≡ s = ap (λ n. take n (s ++ 0x22 ∷ r)) len ∙ take-append_seam s (0x22 ∷ r) in
     let left : behind is_semicolon (drop (quoted_len (s ++ 0x22 ∷ r)) (s ++ 0x22 ∷ r)) ≡ behind is_semicolon r
     = ap (λ n. behind is_semicolon (drop n (s ++ 0x22 ∷ r))) len ∙ (ap (behind is_semicolon) (drop-append_seam s (0x22 ∷ r)) ∙ behind_quote r stops) in
     ap (quoted name) t
-    ∙ (ap (λ w. segment_of (Some (parameter_of name w)) (behind is_semicolon (drop (quoted_len (s ++ 0x22 ∷ r)) (s ++ 0x22 ∷ r)))) said
-    ∙ ap (λ w. segment_of (Some (parameter_of name v)) w) left)
+    ∙ (ap (λ w. standing (Some (as_written name w true)) (behind is_semicolon (drop (quoted_len (s ++ 0x22 ∷ r)) (s ++ 0x22 ∷ r)))) text
+    ∙ ap (λ w. standing (Some (as_written name s true)) w) left)
 
-valued_again : (name v r : List ℕ) (b : Bool) → is_a_token v ≡ b → Stops is_semicolon r
-    → valued name ((if b then v else in_quotes v) ++ r) ≡ segment_of (Some (parameter_of name v)) (behind is_semicolon r)
-valued_again name v r true is stops = bare_again name v r is stops
-valued_again name v r false is stops = quoted_again name v r stops
+valued_again : (name v r : List ℕ) (b : Bool) → is_a_token v ≡ b → lower name ≡ name → Stops is_semicolon r
+    → segment_said (valued name ((if b then v else in_quotes v) ++ r)) ≡ segment_of (Some (parameter_of name v)) (behind is_semicolon r)
+valued_again name v r true is same stops =
+    ap segment_said (bare_again name v r is stops) ∙ ap (λ n. segment_of (Some (parameter_of n v)) (behind is_semicolon r)) same
+valued_again name v r false is same stops =
+    ap segment_said (quoted_again name v r stops)
+    ∙ (ap (λ w. segment_of (Some (parameter_of (lower name) w)) (behind is_semicolon r)) (unescaped v)
+    ∙ ap (λ n. segment_of (Some (parameter_of n v)) (behind is_semicolon r)) same)
 
 -- a segment
 pub segment_again : (name v r : List ℕ) → is_a_token name ≡ true → lower name ≡ name → Stops is_semicolon r
     → segment (name ++ 0x3D ∷ (value_text v ++ r)) ≡ segment_of (Some (parameter_of name v)) (behind is_semicolon r)
-unfolding segment
+unfolding segment stands
 segment_again [] v r token same stops = absurd (false≢true token)
 segment_again (x ∷ name) v r token same stops =
     let all = token_bytes (x ∷ name) token in
@@ -132,12 +135,12 @@ segment_again (x ∷ name) v r token same stops =
     let none = no_end ends_name not_name_end (x ∷ name) all in
     let rest = 0x3D ∷ (value_text v ++ r) in
     let start : trim_start ((x ∷ name) ++ rest) ≡ (x ∷ name) ++ rest = trimmed_start x (name ++ rest) (token_not_white x first.0) in
-    let a : lower (front ends_name (trim_start ((x ∷ name) ++ rest))) ≡ x ∷ name
-    = ap (λ s. lower (front ends_name s)) start ∙ (ap lower (front_cut ends_name (x ∷ name) none 0x3D (value_text v ++ r) refl) ∙ same) in
+    let a : front ends_name (trim_start ((x ∷ name) ++ rest)) ≡ x ∷ name
+    = ap (front ends_name) start ∙ front_cut ends_name (x ∷ name) none 0x3D (value_text v ++ r) refl in
     let b : onward ends_name (trim_start ((x ∷ name) ++ rest)) ≡ rest
     = ap (onward ends_name) start ∙ onward_cut ends_name (x ∷ name) none 0x3D (value_text v ++ r) refl in
-    ap (λ n. named n (onward ends_name (trim_start ((x ∷ name) ++ rest)))) a
-    ∙ (ap (named (x ∷ name)) b ∙ valued_again (x ∷ name) v r (is_a_token v) refl stops)
+    ap (λ n. segment_said (named n (onward ends_name (trim_start ((x ∷ name) ++ rest))))) a
+    ∙ (ap (λ s. segment_said (named (x ∷ name) s)) b ∙ valued_again (x ∷ name) v r (is_a_token v) refl same stops)
 
 -- names are tokens in lower case
 pub record Clean (p : Parameter) : Type 0 where

@@ -1,5 +1,5 @@
 -- The parameters that count all count again.
-use Rattle.std.proofs.Common.{◌≡◌, ◌||◌, ◌&&◌, ◌∙◌, ◌++◌, ◌∷◌, [], ℕ, zero, suc, List, Bool, Option, None, Some, true, false, ap, if◌then◌else◌, not, option_to_list, refl, subst, sym, ◌==◌}
+use Rattle.std.proofs.Common.{◌≡◌, ◌||◌, ◌&&◌, ◌∙◌, ◌++◌, ◌∷◌, [], ℕ, zero, suc, List, Bool, Option, None, Some, true, false, ap, not, option_map, option_to_list, refl, subst, sym}
 use Rattle.std.proofs.lemmas.Bool.{and_parts, false≢true}
 use Rattle.std.proofs.lemmas.List.Folds.{list_any-append}
 use Rattle.std.proofs.lemmas.Str.Ascii.{lowercase-lowercase}
@@ -8,8 +8,8 @@ use Rattle.std.specs.List.{AllByRecursion, list_all, list_any}
 use Rattle.mime_types.specs.Bytes.{is_quotable}
 use Rattle.mime_types.specs.Mime.{Parameter}
 use Rattle.mime_types.specs.Parameters.{is_first, is_named, is_valid, kept}
-use Rattle.mime_types.specs.Segment.{bare, named, quoted, segment, segment_of, some_value, valued, written_by}
-use Rattle.mime_types.specs.Text.{ends_name, front, is_a_token, is_semicolon, lower, onward, trim_end, trim_start}
+use Rattle.mime_types.specs.Segment.{AsWritten, parameter_said, segment, stands, written_by}
+use Rattle.mime_types.specs.Text.{is_a_token, lower}
 use Rattle.mime_types.proofs.FirstLemmas.{kept_case, or_true}
 use Rattle.mime_types.proofs.JoinLemmas.{Clean}
 
@@ -24,33 +24,13 @@ abbrev OptionLower : Option Parameter → Type 0
 OptionLower None = Unit {0}
 OptionLower (Some p) = IsLower p
 
-module _ (name : List ℕ) (same : lower name ≡ name) where
-  some_lower : (v : List ℕ) → OptionLower (some_value name v)
-  some_lower [] = tt
-  some_lower (x ∷ v) = same
-
-  bare_lower : (s : List ℕ) → OptionLower (bare name s).written
-  bare_lower s = some_lower (trim_end (front is_semicolon s))
-
-  valued_lower : (s : List ℕ) → OptionLower (valued name s).written
-  valued_lower [] = bare_lower []
-  valued_lower (x ∷ s) = cases (x == 0x22)
-    where
-      cases : (b : Bool) → OptionLower (if b then quoted name s else bare name (x ∷ s)).written
-      cases true = same
-      cases false = bare_lower (x ∷ s)
-
-  named_lower : (s : List ℕ) → OptionLower (named name s).written
-  named_lower [] = tt
-  named_lower (x ∷ s) = cases (x == 0x3D)
-    where
-      cases : (b : Bool) → OptionLower (if b then valued name s else segment_of None s).written
-      cases true = valued_lower s
-      cases false = tt
+said_lower : (o : Option AsWritten) → OptionLower (option_map parameter_said o)
+said_lower None = tt
+said_lower (Some p) = lower_again p.name
 
 segment_lower : (s : List ℕ) → OptionLower (segment s).written
 unfolding segment
-segment_lower s = named_lower (lower (front ends_name (trim_start s))) (lower_again (front ends_name (trim_start s))) (onward ends_name (trim_start s))
+segment_lower s = said_lower (stands s).parameter
 
 option_all : (o : Option Parameter) (ps : List Parameter) → OptionLower o → AllByRecursion IsLower ps → AllByRecursion IsLower (option_to_list o ++ ps)
 option_all None ps here all = all

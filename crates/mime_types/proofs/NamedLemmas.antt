@@ -31,17 +31,30 @@ module _ (name : List ℕ) where
   pub value_none : (s : List ℕ) → length s ≡ 0 → first_value name (written s) ≡ None
   value_none s none = ap (first_value name) (none_left s none)
 
+  pub name_is : (p : Parameter) → is_named name p ≡ true → p.name ≡ name
+  name_is p named = (bytes_eq-Decides p.name name).0 (and_parts (is_valid p) (bytes_eq p.name name) named).1
+
+  -- it is the first of its name behind those of other names
+  pub first_named : (e : List Parameter) (p : Parameter) → is_named name p ≡ true → list_any (is_named name) e ≡ false → is_first e p ≡ true
+  first_named e p named none =
+      ap (λ b. b && not (list_any (is_named p.name) e)) (and_parts (is_valid p) (bytes_eq p.name name) named).0
+      ∙ (ap (λ n. not (list_any (is_named n) e)) (name_is p named) ∙ ap not none)
+
+  -- what has no value with the name has no parameter with it
+  pub none_named : (o : Option Parameter) → None ≡ first_value name (option_to_list o) → list_any (is_named name) (option_to_list o) ≡ false
+  none_named None is = refl
+  none_named (Some p) is = cases (is_named name p) is
+    where
+      cases : (b : Bool) → None ≡ (if b then Some p.value else None) → (b || false) ≡ false
+      cases true is = cc
+      cases false is = refl
+
   named_here : (e ps : List Parameter) (p : Parameter) (f : Bool) → is_first e p ≡ f → is_named name p ≡ true → list_any (is_named name) e ≡ false
       → value_of name (kept e (p ∷ ps)) ≡ Some p.value
   named_here e ps p true first named none =
       let same = (and_parts (is_valid p) (bytes_eq p.name name) named).1 in
       ap (value_of name) (kept_case e p ps true first) ∙ ap (λ b. if b then Some p.value else value_of name (kept (e ++ p ∷ []) ps)) same
-  named_here e ps p false first named none =
-      let parts = and_parts (is_valid p) (bytes_eq p.name name) named in
-      let same : p.name ≡ name = (bytes_eq-Decides p.name name).0 parts.1 in
-      let is : is_first e p ≡ true =
-      ap (λ b. b && not (list_any (is_named p.name) e)) parts.0 ∙ (ap (λ n. not (list_any (is_named n) e)) same ∙ ap not none) in
-      absurd (false≢true (sym first ∙ is))
+  named_here e ps p false first named none = absurd (false≢true (sym first ∙ first_named e p named none))
 
   other_name : (valid same : Bool) → valid ≡ true → (valid && same) ≡ false → same ≡ false
   other_name true same e h = h

@@ -4,7 +4,7 @@ use Rattle.std.proofs.lemmas.List.{append-nil}
 use Rattle.std.proofs.lemmas.List.Folds.{list_any-append}
 use Rattle.std.specs.List.{list_any}
 use Rattle.mime_types.specs.Mime.{Parameter}
-use Rattle.mime_types.specs.Segment.{left_by, segment, segment_of, written, written_by}
+use Rattle.mime_types.specs.Segment.{left_by, segment, segment_of, stands, written, written_by}
 use Rattle.mime_types.proofs.SegmentLemmas.{leaves_less}
 
 abbrev pub first_of : List ℕ → List Parameter
@@ -45,7 +45,7 @@ left_more n s = left_next n (n + 1) s refl
 
 -- an empty text has segments that write nothing
 nothing : (n : ℕ) → written_by n [] ≡ []
-unfolding written_by segment
+unfolding written_by segment stands
 nothing zero = refl
 nothing (suc n) = nothing n
 
@@ -106,7 +106,7 @@ pub first_leaves : (s : List ℕ) (o : Option Parameter) (r : List ℕ) → segm
 first_leaves s o r is some = let less = leaves_less s some in let same : r ≡ (segment s).rest = ap (λ g. g.rest) is in omega (arith, ap length same)
 
 left_of_nothing : (n : ℕ) → left_by n [] ≡ []
-unfolding left_by segment
+unfolding left_by segment stands
 left_of_nothing zero = refl
 left_of_nothing (suc n) = left_of_nothing n
 

@@ -1,10 +1,10 @@
 -- The parameters that count, of those that are written.
-use Rattle.std.specs.Prelude.{◌&&◌, Bool, List, [], ◌∷◌, ◌++◌, ℕ, not, if◌then◌else◌}
+use Rattle.std.specs.Prelude.{◌≡◌, ◌&&◌, Bool, List, [], ◌∷◌, ◌++◌, ℕ, IsTrue, Some, not, if◌then◌else◌}
 use Rattle.std.specs.List.{list_all, list_any}
 use Rattle.std.specs.Str.{bytes_eq}
 use Rattle.mime_types.specs.Bytes.{is_quotable}
 use Rattle.mime_types.specs.Mime.{Parameter}
-use Rattle.mime_types.specs.Segment.{written}
+use Rattle.mime_types.specs.Segment.{AsWritten, left_by, parameter_said, stands, written, written_by}
 use Rattle.mime_types.specs.Text.{is_a_token}
 
 -- the name is a token, and the value may stand in quotes
@@ -28,3 +28,7 @@ kept earlier (p ∷ ps) =
 -- the parameters of what stands behind a subtype
 abbrev pub parameters : List ℕ → List Parameter
 parameters tail = kept [] (written tail)
+
+-- one stands in this text, behind so many segments, and is the first valid one of its name
+abbrev pub StandsFirst : List ℕ → AsWritten → Type 0
+StandsFirst tail p = (n : ℕ) × ((stands (left_by n tail)).parameter ≡ Some p) × IsTrue (is_first (written_by n tail) (parameter_said p))

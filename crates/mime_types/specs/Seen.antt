@@ -4,7 +4,7 @@ use Rattle.mime_types.specs.Mime as mime
 use Rattle.mime_types.specs.Mime.{Kind, Mime}
 use Rattle.mime_types.specs.Parameters.{parameters}
 use Rattle.mime_types.specs.Segment as segments
-use Rattle.mime_types.specs.Segment.{unquoted}
+use Rattle.mime_types.specs.Segment.{AsWritten, Standing, unquoted}
 use Rattle.mime_types.specs.Text.{lower}
 use Rattle.mime_types.specs.declared.mime_type.MimeType.{MimeType}
 use Rattle.mime_types.specs.declared.parameter.Parameter.{Parameter}
@@ -22,6 +22,13 @@ value_seen v = if v.is_quoted then unquoted v.text.now else v.text.now
 
 abbrev pub parameter_seen : Parameter → mime.Parameter
 parameter_seen p = record { name = lower p.name.now; value = value_seen p.value }
+
+-- the same as it was written
+abbrev pub written_seen : Parameter → AsWritten
+written_seen p = record { name = p.name.now; text = p.value.text.now; is_quoted = p.value.is_quoted }
+
+abbrev pub standing_seen : Segment → Standing
+standing_seen s = record { parameter = option_map written_seen s.written; rest = s.rest.now }
 
 abbrev pub segment_seen : Segment → segments.Segment
 segment_seen s = record { written = option_map parameter_seen s.written; rest = s.rest.now }

@@ -1,5 +1,5 @@
 -- Segments: what stands between the semicolons behind a subtype.
-use Rattle.std.specs.Prelude.{◌+◌, ◌==◌, ℕ, zero, suc, List, [], ◌∷◌, ◌++◌, Option, None, Some, drop, length, option_to_list, take, if◌then◌else◌}
+use Rattle.std.specs.Prelude.{◌+◌, ◌==◌, ℕ, zero, suc, Bool, true, false, List, [], ◌∷◌, ◌++◌, Option, None, Some, drop, length, option_map, option_to_list, take, if◌then◌else◌}
 use Rattle.mime_types.specs.Mime.{Parameter}
 use Rattle.mime_types.specs.Text.{behind, ends_name, front, is_semicolon, lower, onward, trim_end, trim_start}
 
@@ -17,6 +17,56 @@ unquoted [] = []
 unquoted (x ∷ []) = x ∷ []
 unquoted (x ∷ y ∷ s) = if x == 0x5C then y ∷ unquoted s else x ∷ unquoted (y ∷ s)
 
+-- a parameter as it was written. Its text is what stands between quotes, with its backslashes, or a word without quotes
+pub record AsWritten : Type 0 where
+  pub name : List ℕ
+  pub text : List ℕ
+  pub is_quoted : Bool
+
+abbrev pub as_written : List ℕ → List ℕ → Bool → AsWritten
+as_written name text is_quoted = record { name = name; text = text; is_quoted = is_quoted }
+
+-- the parameter that stands in a segment, if one does, and what stands behind the segment
+pub record Standing : Type 0 where
+  pub parameter : Option AsWritten
+  pub rest : List ℕ
+
+abbrev pub standing : Option AsWritten → List ℕ → Standing
+standing parameter rest = record { parameter = parameter; rest = rest }
+
+-- a value in quotes, of what stands behind the first. What stands between the last and the semicolon says nothing
+abbrev pub quoted : List ℕ → List ℕ → Standing
+quoted name s = standing (Some (as_written name (take (quoted_len s) s) true)) (behind is_semicolon (drop (quoted_len s) s))
+
+-- a value without quotes. It is not empty
+abbrev pub some_value : List ℕ → List ℕ → Option AsWritten
+some_value name [] = None
+some_value name (x ∷ value) = Some (as_written name (x ∷ value) false)
+
+abbrev pub bare : List ℕ → List ℕ → Standing
+bare name s = standing (some_value name (trim_end (front is_semicolon s))) (behind is_semicolon s)
+
+-- a value, of what stands behind "="
+abbrev pub valued : List ℕ → List ℕ → Standing
+valued name [] = bare name []
+valued name (x ∷ s) = if x == 0x22 then quoted name s else bare name (x ∷ s)
+
+-- a segment with a name, of what stands behind the name
+abbrev pub named : List ℕ → List ℕ → Standing
+named name [] = standing None []
+named name (x ∷ s) = if x == 0x3D then valued name s else standing None s
+
+-- the segment that a text begins with, as it stands there. White space in front of its name says nothing
+unfoldable pub stands : List ℕ → Standing
+stands s = named (front ends_name (trim_start s)) (onward ends_name (trim_start s))
+
+abbrev pub parameter_of : List ℕ → List ℕ → Parameter
+parameter_of name value = record { name = name; value = value }
+
+-- what is said by a parameter: its name in lower case, and its value without the backslashes that take a byte with them
+abbrev pub parameter_said : AsWritten → Parameter
+parameter_said p = parameter_of (lower p.name) (if p.is_quoted then unquoted p.text else p.text)
+
 -- what a segment writes, if it does, and what stands behind it
 pub record Segment : Type 0 where
   pub written : Option Parameter
@@ -25,35 +75,11 @@ pub record Segment : Type 0 where
 abbrev pub segment_of : Option Parameter → List ℕ → Segment
 segment_of written rest = record { written = written; rest = rest }
 
-abbrev pub parameter_of : List ℕ → List ℕ → Parameter
-parameter_of name value = record { name = name; value = value }
+abbrev pub segment_said : Standing → Segment
+segment_said s = segment_of (option_map parameter_said s.parameter) s.rest
 
--- a value in quotes, of what stands behind the first. What stands between the last and the semicolon says nothing
-abbrev pub quoted : List ℕ → List ℕ → Segment
-quoted name s =
-    segment_of (Some (parameter_of name (unquoted (take (quoted_len s) s)))) (behind is_semicolon (drop (quoted_len s) s))
-
--- a value without quotes. It is not empty
-abbrev pub some_value : List ℕ → List ℕ → Option Parameter
-some_value name [] = None
-some_value name (x ∷ value) = Some (parameter_of name (x ∷ value))
-
-abbrev pub bare : List ℕ → List ℕ → Segment
-bare name s = segment_of (some_value name (trim_end (front is_semicolon s))) (behind is_semicolon s)
-
--- a value, of what stands behind "="
-abbrev pub valued : List ℕ → List ℕ → Segment
-valued name [] = bare name []
-valued name (x ∷ s) = if x == 0x22 then quoted name s else bare name (x ∷ s)
-
--- a segment with a name, of what stands behind the name
-abbrev pub named : List ℕ → List ℕ → Segment
-named name [] = segment_of None []
-named name (x ∷ s) = if x == 0x3D then valued name s else segment_of None s
-
--- the segment that a text begins with. White space in front of its name says nothing
 unfoldable pub segment : List ℕ → Segment
-segment s = named (lower (front ends_name (trim_start s))) (onward ends_name (trim_start s))
+segment s = segment_said (stands s)
 
 -- what the first n segments of a text write, and what stands behind them
 unfoldable pub written_by : ℕ → List ℕ → List Parameter

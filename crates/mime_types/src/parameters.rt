@@ -17,15 +17,16 @@ pub struct Parameters<'a> {
 }
 
 impl<'a> Parameters<'a> {
-    ghost use Rattle.std.specs.Prelude.{◌<◌, ◌++◌, ◌∷◌, [], MatchOption, option_map, option_to_list};
-    ghost use Rattle.mime_types.specs.Parameters.{parameters};
-    ghost use Rattle.mime_types.specs.Left.{left};
-    ghost use Rattle.mime_types.specs.Segment.{written, written_by};
-    ghost use Rattle.mime_types.specs.Seen.{parameter_seen};
+    ghost use Rattle.std.specs.Prelude.{◌<◌, ◌++◌, ◌∷◌, [], IfSome, MatchOption, option_map, option_to_list};
+    ghost use Rattle.mime_types.specs.Parameters.{StandsFirst, parameters};
+    ghost use Rattle.mime_types.specs.Left.{left, text_read};
+    ghost use Rattle.mime_types.specs.Segment.{stands, written, written_by};
+    ghost use Rattle.mime_types.specs.Seen.{parameter_seen, written_seen};
 
     /// All of what stands behind a subtype.
     pub(crate) fn new(tail: &'a [u8]) -> Self
-        ensures { left result ≡ parameters tail.now }
+        ensures all { left result ≡ parameters tail.now }
+        ensures text { text_read result ≡ tail.now }
     {
         Parameters {
             tail,
@@ -34,10 +35,12 @@ impl<'a> Parameters<'a> {
         }
     }
 
-    /// The next one.
+    /// The next one, as it was written. Behind the last there is none, however often it is asked for.
     pub fn next(&mut self) -> Option<Parameter<'a>>
-        ensures { MatchOption result (left self.old ≡ [])
+        ensures left { MatchOption result ((left self.old ≡ []) × (left self.new ≡ []))
             (λ p. left self.old ≡ parameter_seen p ∷ left self.new) }
+        ensures stands { IfSome result (λ p. StandsFirst (text_read self.old) (written_seen p)) }
+        ensures text { text_read self.new ≡ text_read self.old }
     {
         while !self.rest.is_empty() {
             let count = self.count;
@@ -55,6 +58,7 @@ impl<'a> Parameters<'a> {
         requires { 0 < length self.old.rest.now }
         ensures tail { self.new.tail.now ≡ self.old.tail.now }
         ensures shorter { length self.new.rest.now < length self.old.rest.now }
+        ensures stands { option_map written_seen result ≡ (stands self.old.rest.now).parameter }
         ensures later { written self.old.rest.now
             ≡ option_to_list (option_map parameter_seen result) ++ written self.new.rest.now }
         ensures earlier { written_by self.new.count self.new.tail.now

@@ -29,9 +29,9 @@ impl<'a> Pieces<'a> {
         Pieces { rest: Some(value) }
     }
 
-    /// The next one.
+    /// The next one. Behind the last there is none, however often it is asked for.
     pub fn next(&mut self) -> Option<&'a [u8]>
-        ensures { MatchOption result (pieces_left self.old ≡ [])
+        ensures { MatchOption result ((pieces_left self.old ≡ []) × (pieces_left self.new ≡ []))
             (λ piece. pieces_left self.old ≡ piece.now ∷ pieces_left self.new) }
     {
         match self.rest {

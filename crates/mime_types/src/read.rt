@@ -1,7 +1,7 @@
 //! MIME types of texts.
 ghost use Rattle.std.specs.Prelude.{◌≡◌, ◌↔◌, IfSome, IsTrue, Some, option_map};
 ghost use Rattle.mime_types.specs.Mime.{Mime};
-ghost use Rattle.mime_types.specs.Parse.{Parsed, behind_semicolon_first, behind_slash_first, if_token, subtype_before, tail_text};
+ghost use Rattle.mime_types.specs.Parse.{Parsed, behind_semicolon_first, behind_slash_first, if_token, subtype_before, subtype_text, tail_text, type_text};
 ghost use Rattle.mime_types.specs.Seen.{mime_of};
 ghost use Rattle.mime_types.specs.Text.{behind, is_a_token, is_semicolon};
 
@@ -16,6 +16,7 @@ use crate::text::{split_tokens, trim, trim_start};
 /// ```
 pub fn parse(text: &[u8]) -> Option<MimeType<'_>>
     ensures says { (m : Mime) → (option_map mime_of result ≡ Some m) ↔ Parsed text.now m }
+    ensures names { IfSome result (λ found. (found.type_name.now ≡ type_text text.now) × (found.subtype.now ≡ subtype_text text.now)) }
     ensures tail { IfSome result (λ found. found.tail.now ≡ tail_text text.now) }
 {
     let (type_name, behind) = split_tokens(trim(text));

@@ -1,8 +1,8 @@
 //! Segments: what stands between the semicolons behind a subtype.
 ghost use Rattle.std.specs.Prelude.{◌≡◌, ◌≢◌, ◌+◌, ◌<◌, ◌≤◌, drop, length, slice_index};
-ghost use Rattle.mime_types.specs.Segment.{bare, quoted, quoted_len, segment, valued};
-ghost use Rattle.mime_types.specs.Seen.{segment_seen};
-ghost use Rattle.mime_types.specs.Text.{ends_name, front, lower, onward};
+ghost use Rattle.mime_types.specs.Segment.{bare, quoted, quoted_len, stands, valued};
+ghost use Rattle.mime_types.specs.Seen.{standing_seen};
+ghost use Rattle.mime_types.specs.Text.{ends_name, front, onward};
 
 use crate::parameter::{Parameter, Value};
 use crate::text::{cut, rest_at, trim_end, trim_start};
@@ -15,9 +15,9 @@ pub(crate) struct Segment<'a> {
 }
 
 /// The segment that the text begins with.
-#[tactic(auto, unfolding(crate::specs::Segment::segment))]
+#[tactic(auto, unfolding(crate::specs::Segment::stands))]
 pub(crate) fn first_segment(text: &[u8]) -> Segment<'_>
-    ensures { segment_seen result ≡ segment text.now }
+    ensures { standing_seen result ≡ stands text.now }
 {
     let (name, behind) = split_name(trim_start(text));
     match behind {
@@ -48,7 +48,7 @@ fn split_name(text: &[u8]) -> (&[u8], &[u8])
 
 /// A segment with the name, of what stands behind "=".
 fn valued<'a>(name: &'a [u8], text: &'a [u8]) -> Segment<'a>
-    ensures { segment_seen result ≡ valued (lower name.now) text.now }
+    ensures { standing_seen result ≡ valued name.now text.now }
 {
     match text {
         [b'"', behind @ ..] => quoted(name, behind),
@@ -58,7 +58,7 @@ fn valued<'a>(name: &'a [u8], text: &'a [u8]) -> Segment<'a>
 
 /// A segment with a value in quotes, of what stands behind the first.
 fn quoted<'a>(name: &'a [u8], text: &'a [u8]) -> Segment<'a>
-    ensures { segment_seen result ≡ quoted (lower name.now) text.now }
+    ensures { standing_seen result ≡ quoted name.now text.now }
 {
     let (inside, onward) = text.split_at(quoted_len(text));
     let (_, rest) = cut(onward, b';');
@@ -100,7 +100,7 @@ fn unit_len(text: &[u8]) -> usize
 
 /// A segment with a value without quotes.
 fn bare<'a>(name: &'a [u8], text: &'a [u8]) -> Segment<'a>
-    ensures { segment_seen result ≡ bare (lower name.now) text.now }
+    ensures { standing_seen result ≡ bare name.now text.now }
 {
     let (front, rest) = cut(text, b';');
     let inside = trim_end(front);

@@ -246,6 +246,25 @@ fn a_parameter_by_its_name(rt: HostRuntime) -> Result<(), Fail> {
     Ok(())
 }
 
+#[test]
+fn as_they_were_written(rt: HostRuntime) -> Result<(), Fail> {
+    let found = parse(b" Text/X-Y ;A=\"\";b=C\t; a=d;\xA1=e;F=\"\\G\"").ok_or("no MIME type")?;
+    assert!(rt; found.type_name == b"Text".as_slice() && found.subtype == b"X-Y".as_slice());
+    let mut parameters = found.parameters().ok_or("too many")?;
+    let wanted: &[(&[u8], &[u8], bool)] = &[
+        (b"A", b"", true),
+        (b"b", b"C", false),
+        (b"F", b"\\G", true),
+    ];
+    for (i, (name, text, is_quoted)) in wanted.iter().enumerate() {
+        let parameter = parameters.next().ok_or("too few")?;
+        assert!(rt; parameter.name == *name && parameter.value.text == *text, "parameter {i}");
+        assert_eq!(rt; parameter.value.is_quoted, *is_quoted, "parameter {i}");
+    }
+    assert!(rt; parameters.next().is_none() && parameters.next().is_none());
+    Ok(())
+}
+
 /// A header of a megabyte, with 100,000 parameters of ten bytes.
 #[test]
 fn a_long_header(rt: HostRuntime) -> Result<(), Fail> {

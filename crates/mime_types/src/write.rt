@@ -128,7 +128,7 @@ pub const MOST_SEGMENTS: usize = 256;
 
 impl<'a> MimeType<'a> {
     ghost use Rattle.std.specs.Prelude.{IfSome};
-    ghost use Rattle.mime_types.specs.Left.{left};
+    ghost use Rattle.mime_types.specs.Left.{left, text_read};
     ghost use Rattle.mime_types.specs.Groups.{essence};
     ghost use Rattle.mime_types.specs.Seen.{kind_of, mime_of};
     ghost use Rattle.mime_types.specs.Serialize.{serialize};
@@ -138,6 +138,7 @@ impl<'a> MimeType<'a> {
     pub fn parameters(&self) -> Option<Parameters<'a>>
         ensures few { IsSome result ↔ HasFew MOST_SEGMENTS self.now.tail.now }
         ensures all { IfSome result (λ p. left p ≡ parameters self.now.tail.now) }
+        ensures text { IfSome result (λ p. text_read p ≡ self.now.tail.now) }
     {
         if has_few(self.tail) {
             return Some(Parameters::new(self.tail));

@@ -31,6 +31,14 @@ returns-clause-says c m =
     let it = said t _ _ _ a b c.split_subtype.ensures.subtype _ c.split_subtype.ensures.tail (sym c.if-is_empty.ensures) (sym c.if-is_empty-2.ensures) in
     parsed t _ _ _ it.type_is it.subtype_is it.tail_is it.type_token it.subtype_token m
 
+pub returns-clause-names : goal.returns-clause-names
+returns-clause-names c =
+    let t = c.args.text.now in
+    let a = c.split_tokens.ensures.tokens ∙ ap tokens_before c.trim.ensures in
+    let b = c.behind_slash.ensures ∙ ap behind_slash_first (c.split_tokens.ensures.behind ∙ ap behind_tokens c.trim.ensures) in
+    let it = said t _ _ _ a b c.split_subtype.ensures.subtype _ c.split_subtype.ensures.tail (sym c.if-is_empty.ensures) (sym c.if-is_empty-2.ensures) in
+    (it.type_is, it.subtype_is)
+
 pub returns-clause-tail : goal.returns-clause-tail
 returns-clause-tail c =
     let t = c.args.text.now in

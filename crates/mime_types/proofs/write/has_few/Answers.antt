@@ -3,6 +3,7 @@ use Rattle.std.proofs.lemmas.Bool.Decides.{nat_tests}
 use Rattle.std.proofs.lemmas.List.{nil_from_length}
 use Rattle.mime_types.specs.declared.write.TheConstants.{MOST_SEGMENTS}
 use Rattle.mime_types.specs.Seen.{parameter_seen}
+use Rattle.mime_types.proofs.SegmentLemmas.{segment_is}
 use Rattle.mime_types.proofs.WrittenLemmas.{all_left, left_none, next_left}
 use Rattle.mime_types.proofs.write.has_few.Goals as goal
 
@@ -12,7 +13,7 @@ loop-i-init c = sym (all_left c.args.tail.now)
 pub loop-i-preserved : goal.loop-i-preserved
 loop-i-preserved c =
     sym (next_left c.loop-i.i c.args.tail.now c.loop-i.rest.now (option_map parameter_seen c.first_segment.result.written)
-    c.first_segment.result.rest.now c.loop-i.invariant c.first_segment.ensures)
+    c.first_segment.result.rest.now c.loop-i.invariant (segment_is c.first_segment.result c.loop-i.rest.now c.first_segment.ensures))
 
 pub returns-then-is_empty : goal.returns-then-is_empty
 returns-then-is_empty c =

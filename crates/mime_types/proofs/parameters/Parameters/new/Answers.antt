@@ -7,5 +7,5 @@ use Rattle.mime_types.proofs.parameters.Parameters.new.Goals as goal
 pub invariant_of-result-clause-place : goal.invariant_of-result-clause-place
 invariant_of-result-clause-place c = all_left c.args.tail.now
 
-pub returns : goal.returns
-returns c = ap (λ ps. kept ps (written c.args.tail.now)) (none_written c.args.tail.now)
+pub returns-clause-all : goal.returns-clause-all
+returns-clause-all c = ap (λ ps. kept ps (written c.args.tail.now)) (none_written c.args.tail.now)
