@@ -1,6 +1,6 @@
 -- Texts of MIME types, and the room for them.
-use Rattle.std.proofs.Common.{◌≡◌, ◌∙◌, ◌≤◌, ◌↔◌, ℕ, Bool, List, [], Option, None, Some, Ok, Err, IfSome, ap, arith, inl, inr, length, min, option_map, refl, subst, sym, take}
-use Rattle.std.proofs.lemmas.List.{length-take, take_min}
+use Rattle.std.proofs.Common.{◌≡◌, ◌∙◌, ◌++◌, ◌+◌, ◌-◌, ◌≤◌, ◌↔◌, ℕ, Bool, List, [], Option, None, Some, Ok, Err, IfSome, ap, arith, drop, inl, inr, length, min, option_map, refl, subst, sym, take}
+use Rattle.std.proofs.lemmas.List.{length-take, take_all, take_at, take_min}
 use Rattle.mime_types.specs.Mime.{Kind, Mime}
 use Rattle.mime_types.specs.Parse.{Parsed, tail_text}
 use Rattle.mime_types.specs.Seen.{kind_of, mime_of}
@@ -31,26 +31,36 @@ taken n room text long is =
     let l : min n (length room) ≡ length text = sym (length-take n room) ∙ ap length is in
     (omega (arith, l, long), take_min n room ∙ is)
 
+-- what is written from the start on stands there, and is as long as was told
+at_start : (old new text : List ℕ) (n : ℕ) → Wrote old new 0 text (Some n) → (n ≡ length text) × (take n new ≡ text)
+at_start old new text n (ends, within, is) =
+    let same : n ≡ length text = omega (arith, ends) in
+    let behind = drop (0 + length text) old in (
+      same,
+      ap (take n) is ∙ (ap (λ t. take n (t ++ behind)) (take_all (length old - 0) text (omega (arith, same, within))) ∙ take_at text behind n (sym same)),
+    )
+
 pub written_whole : (tail : List ℕ) (m : Mime) (old new : List ℕ) (n : ℕ) → length new ≡ MOST → IsWritten MOST_SEGMENTS tail m old new (Ok n)
     → IsTextOf tail m (take (min n MOST) new)
-written_whole tail m old new n size (few, long, is) =
+written_whole tail m old new n size (few, wrote) =
+    let (long, is) = at_start old new (serialize m) n wrote in
     let t = taken n new (serialize m) long is in
     inl ((few, omega (arith, long, size, t.0)), subst (λ k. take (min n k) new ≡ serialize m) size t.1)
 
 pub written_none : (tail : List ℕ) (m : Mime) (old new : List ℕ) (e : WriteError) → length old ≡ MOST → IsWritten MOST_SEGMENTS tail m old new (Err e)
     → IsTextOf tail m []
-written_none tail m old new NoRoom size (few, short) = inr ((λ is. absurd (omega (arith, is.1, size, short))), refl)
-written_none tail m old new TooManyParameters size many = inr ((λ is. many is.0), refl)
+written_none tail m old new NoRoom size (few, short) = inr ((λ is. absurd (omega (arith, is.1, size, short.0))), refl)
+written_none tail m old new TooManyParameters size many = inr ((λ is. many.0 is.0), refl)
 
 -- the same of a text that is written from the start on
 pub wrote_whole : (old new text : List ℕ) (n : ℕ) → length new ≡ MOST → Wrote old new 0 text (Some n) → IsWithRoom text (take (min n MOST) new)
-wrote_whole old new text n size (long, fits, is) =
-    let same : n ≡ length text = omega (arith, long) in
+wrote_whole old new text n size wrote =
+    let (same, is) = at_start old new text n wrote in
     let t = taken n new text same is in
     inl (omega (arith, same, size, t.0), subst (λ k. take (min n k) new ≡ text) size t.1)
 
 pub wrote_none : (old new text : List ℕ) → length old ≡ MOST → Wrote old new 0 text None → IsWithRoom text []
-wrote_none old new text size short = inr ((λ is. absurd (omega (arith, is, size, short))), refl)
+wrote_none old new text size short = inr ((λ is. absurd (omega (arith, is, size, short.0))), refl)
 
 kinds : (o : Option MimeType) → option_map kind_of o ≡ kind_said (option_map mime_of o)
 kinds None = refl

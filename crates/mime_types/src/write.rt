@@ -1,4 +1,5 @@
-//! The text of a MIME type, written into a buffer.
+//! The text of a MIME type, written into a buffer. What stands behind the text stays. Without room for all of it, as much of it
+//! as there is room for is written.
 ghost use Rattle.std.specs.Prelude.{◌≡◌, ◌↔◌, ◌≤◌, ◌∷◌, ◌+◌, ◌<◌, [], length, option_map, option_to_list, IsTrue, IsSome};
 ghost use Rattle.mime_types.specs.Segment.{left_by};
 ghost use Rattle.mime_types.specs.Parameters.{parameters};
@@ -17,7 +18,8 @@ use crate::value::{is_token_value, split_value};
 /// Why a text was not written.
 #[derive(Clone, Copy, Debug, Drop)]
 pub enum WriteError {
-    /// There are more than 256 segments behind the subtype, each of which would be compared with those before it.
+    /// There are more than 256 segments behind the subtype, each of which would be compared with those before it. Nothing is
+    /// written.
     TooManyParameters,
     /// The text is longer than the buffer.
     NoRoom,

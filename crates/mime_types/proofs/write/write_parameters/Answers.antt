@@ -1,28 +1,31 @@
-use Rattle.std.proofs.Common.{◌≡◌, ◌∙◌, None, Some, ap, arith, length, rules, subst, sym}
+use Rattle.std.proofs.Common.{◌≡◌, ◌∙◌, None, Some, ap, arith, length, rules}
 use Rattle.mime_types.specs.Left.{left}
-use Rattle.mime_types.specs.Parameters.{parameters}
 use Rattle.mime_types.specs.Seen.{parameter_seen}
 use Rattle.mime_types.specs.Serialize.{parameter_text, parameters_text}
-use Rattle.mime_types.specs.Wrote.{Wrote}
-use Rattle.mime_types.proofs.WroteLemmas.{no_parameter, text_none, within_room, wrote_parameter, wrote_rest}
+use Rattle.mime_types.proofs.WroteLemmas.{text_first, text_none, then_none, then_wrote, within_room, wrote_rest}
 use Rattle.mime_types.proofs.write.write_parameters.Goals as goal
 
 pub returns-in_err-end : goal.returns-in_err-end
 returns-in_err-end c =
+    let p = parameter_seen c.in-Some.parameter in
+    let whole = text_first (left c.loop-parameter.left) (left c.next.new.self) p c.in-Some.ensures.left in
+    let out = c.write_parameter.new.out in
     let none : c.from_residual.result ≡ None = search rules in
-    let here = no_parameter (left c.loop-parameter.left) (left c.next.new.self) (parameter_seen c.in-Some.parameter) c.in-Some.ensures.left
-    c.loop-parameter.out c.write_parameter.new.out c.write_parameter.new.out c.loop-parameter.end c.write_parameter.result (c.in_err-end.was {u = tt}) c.write_parameter.ensures in
-    subst (λ r. Wrote c.args.out.now c.write_parameter.new.out c.args.at (parameters_text (parameters c.args.tail.now)) r) (sym none)
-    (c.loop-parameter.invariant.all c.write_parameter.new.out None here)
+    c.loop-parameter.invariant.all out c.from_residual.result
+    (then_none (parameter_text p) (parameters_text (left c.next.new.self)) _ whole c.write_parameter.result c.loop-parameter.out out c.loop-parameter.end
+    c.from_residual.result (c.in_err-end.was {u = tt}) none c.write_parameter.ensures)
 
 pub loop-parameter-preserved : goal.loop-parameter-preserved
 loop-parameter-preserved c =
-    let same : length c.write_parameter.new.out ≡ length c.loop-parameter.out = omega arith in
+    let p = parameter_seen c.in-Some.parameter in
+    let whole = text_first (left c.loop-parameter.left) (left c.next.new.self) p c.in-Some.ensures.left in
+    let out = c.write_parameter.new.out in
+    let same : length out ≡ length c.loop-parameter.out = omega arith in
     record {
-      within = within_room c.loop-parameter.out c.write_parameter.new.out c.loop-parameter.end c.in_ok-end.end (parameter_text (parameter_seen c.in-Some.parameter)) c.write_parameter.result same c.in_ok-end.was c.write_parameter.ensures;
+      within = within_room c.loop-parameter.out out c.loop-parameter.end c.in_ok-end.end (parameter_text p) c.write_parameter.result same c.in_ok-end.was c.write_parameter.ensures;
       all = λ d o rest. c.loop-parameter.invariant.all d o
-          (wrote_parameter (left c.loop-parameter.left) (left c.next.new.self) (parameter_seen c.in-Some.parameter) c.in-Some.ensures.left
-          c.loop-parameter.out c.write_parameter.new.out d c.loop-parameter.end c.in_ok-end.end c.write_parameter.result o same c.in_ok-end.was c.write_parameter.ensures rest);
+          (then_wrote (parameter_text p) (parameters_text (left c.next.new.self)) _ whole c.write_parameter.result c.loop-parameter.out out d c.loop-parameter.end
+          c.in_ok-end.end o same c.in_ok-end.was c.write_parameter.ensures rest);
     }
 
 pub returns : goal.returns
