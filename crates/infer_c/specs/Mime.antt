@@ -1,6 +1,6 @@
 -- What is told to C of MIME types, and of what a browser makes of them.
 use Rattle.std.specs.Prelude.{◌≡◌, ◌==◌, ◌+◌, ◌≤◌, ◌⊎◌, ◌↔◌, ℕ, ℤ, Bool, pos, List, [], Option, None, Some, IfSome, IsTrue, bit_and, codes, length, option_map}
-use Rattle.mime_types.specs.Extracted.{EndsInTail, IsExtracted, mime_together, tails}
+use Rattle.mime_types.specs.Extracted.{EndsInView, IsExtracted, mime_together, texts}
 use Rattle.mime_types.specs.Groups.{IsArchive, IsAudioOrVideo, IsFont, IsHtml, IsImage, IsJavaScript, IsJson, IsScriptable, IsXml, IsZipBased, essence}
 use Rattle.mime_types.specs.Mime.{Kind, Mime}
 use Rattle.mime_types.specs.Minimal.{IsMinimal}
@@ -119,9 +119,9 @@ IsGroupCodeSaid (Some k) code = IsGroupCode k code
 abbrev pub mime_extracted : Option Extracted → Option MimeType
 mime_extracted found = option_map (λ e. e.mime_type) found
 
--- what values say together, and what stands behind the subtype there
+-- what values say together, as a view of the last piece that says one
 abbrev pub SayTogether : List ℕ → Option Extracted → Type 0
-SayTogether value found = IsExtracted value found × IfSome found (λ e. EndsInTail (tails (pieces value)) e.mime_type.tail.now)
+SayTogether value found = IsExtracted value found × IfSome found (λ e. EndsInView (texts (pieces value)) e.mime_type)
 
 -- its text, which is empty if they say nothing or it is too long
 abbrev pub IsTogetherText : Option Extracted → List ℕ → Type 0

@@ -6,7 +6,7 @@ use Rattle.std.proofs.lemmas.List.Elements.{All-append, All-cons, All-nil}
 use Rattle.std.proofs.lemmas.Slice.Eq.{bytes_eq-Decides}
 use Rattle.std.specs.List.{All}
 use Rattle.std.specs.Str.{bytes_eq}
-use Rattle.mime_types.specs.Extracted.{IsLastRun, IsLastTail, is_any, is_said, mime_said, said, tails, usable, usable_tail}
+use Rattle.mime_types.specs.Extracted.{IsLastRun, IsLastView, is_any, is_said, mime_said, said, texts, usable, usable_text}
 use Rattle.mime_types.specs.Groups.{Is}
 use Rattle.mime_types.specs.Mime.{Kind, Mime, Parameter}
 use Rattle.mime_types.specs.Parse.{Parsed, subtype_text, tail_text, type_text}
@@ -56,27 +56,27 @@ module _ (t : List ℕ) where
           cases : (b : Bool) → is_any m.kind ≡ b → b ≡ false
           cases b e = any_cases m.kind b e other
 
-  pub tail_any : (m : Mime) → Parsed t m → Is (codes "*") (codes "*") m.kind → None ≡ usable_tail t
-  tail_any m p any =
+  pub text_any : (m : Mime) → Parsed t m → Is (codes "*") (codes "*") m.kind → None ≡ usable_text t
+  text_any m p any =
       let is : is_any (mime_said t).kind ≡ true = ap (λ x. is_any x.kind) (same_said m p) ∙ any_is m.kind any in
-      sym (ap (λ x. if x && not (is_any (mime_said t).kind) then Some (tail_text t) else None) (is_parsed m p)
-      ∙ ap (λ x. if not x then Some (tail_text t) else None) is)
+      sym (ap (λ x. if x && not (is_any (mime_said t).kind) then Some t else None) (is_parsed m p)
+      ∙ ap (λ x. if not x then Some t else None) is)
 
-  pub tail_other : (m : Mime) → Parsed t m → (¬ Is (codes "*") (codes "*") m.kind) → Some (tail_text t) ≡ usable_tail t
-  tail_other m p other =
+  pub text_other : (m : Mime) → Parsed t m → (¬ Is (codes "*") (codes "*") m.kind) → Some t ≡ usable_text t
+  text_other m p other =
       let e : is_any (mime_said t).kind ≡ false = ap (λ x. is_any x.kind) (same_said m p) ∙ any_cases m.kind (is_any m.kind) refl other in
-      sym (ap (λ x. if x && not (is_any (mime_said t).kind) then Some (tail_text t) else None) (is_parsed m p)
-      ∙ ap (λ x. if not x then Some (tail_text t) else None) e)
+      sym (ap (λ x. if x && not (is_any (mime_said t).kind) then Some t else None) (is_parsed m p)
+      ∙ ap (λ x. if not x then Some t else None) e)
 
-  tail_cases : (a b : Bool) → is_a_token (type_text t) ≡ a → is_a_token (subtype_text t) ≡ b → ((m : Mime) → ¬ Parsed t m)
-      → None ≡ (if (a && b) && not (is_any (mime_said t).kind) then Some (tail_text t) else None)
-  tail_cases true true x y none =
+  text_cases : (a b : Bool) → is_a_token (type_text t) ≡ a → is_a_token (subtype_text t) ≡ b → ((m : Mime) → ¬ Parsed t m)
+      → None ≡ (if (a && b) && not (is_any (mime_said t).kind) then Some t else None)
+  text_cases true true x y none =
       absurd (none (mime_said t) (record { type_token = x; subtype_token = y; type_name = refl; subtype = refl; all = refl }))
-  tail_cases true false x y none = refl
-  tail_cases false b x y none = refl
+  text_cases true false x y none = refl
+  text_cases false b x y none = refl
 
-  pub tail_none : ((m : Mime) → ¬ Parsed t m) → None ≡ usable_tail t
-  tail_none none = tail_cases (is_a_token (type_text t)) (is_a_token (subtype_text t)) refl refl none
+  pub text_none : ((m : Mime) → ¬ Parsed t m) → None ≡ usable_text t
+  text_none none = text_cases (is_a_token (type_text t)) (is_a_token (subtype_text t)) refl refl none
 
   none_cases : (a b : Bool) → is_a_token (type_text t) ≡ a → is_a_token (subtype_text t) ≡ b → ((m : Mime) → ¬ Parsed t m)
       → None ≡ (if (a && b) && not (is_any (mime_said t).kind) then Some (mime_said t) else None)
@@ -93,18 +93,18 @@ pub said_append : (ps qs : List (List ℕ)) → said (ps ++ qs) ≡ said ps ++ s
 said_append [] qs = refl
 said_append (p ∷ ps) qs = ap (λ ms. option_to_list (usable p) ++ ms) (said_append ps qs) ∙ sym (append_assoc (option_to_list (usable p)) (said ps) (said qs))
 
-tails_append : (ps qs : List (List ℕ)) → tails (ps ++ qs) ≡ tails ps ++ tails qs
-tails_append [] qs = refl
-tails_append (p ∷ ps) qs =
-    ap (λ ts. option_to_list (usable_tail p) ++ ts) (tails_append ps qs) ∙ sym (append_assoc (option_to_list (usable_tail p)) (tails ps) (tails qs))
+texts_append : (ps qs : List (List ℕ)) → texts (ps ++ qs) ≡ texts ps ++ texts qs
+texts_append [] qs = refl
+texts_append (p ∷ ps) qs =
+    ap (λ ts. option_to_list (usable_text p) ++ ts) (texts_append ps qs) ∙ sym (append_assoc (option_to_list (usable_text p)) (texts ps) (texts qs))
 
-pub tail_more : (done : List (List ℕ)) (p : List ℕ) (run next : Option Run)
-    → ((ts : List (List ℕ)) → IsLastTail ts run → IsLastTail (ts ++ option_to_list (usable_tail p)) next) → IsLastTail (tails done) run
-    → IsLastTail (tails (done ++ p ∷ [])) next
-tail_more done p run next step is =
-    let e : tails done ++ option_to_list (usable_tail p) ≡ tails (done ++ p ∷ []) =
-    ap (λ l. tails done ++ l) (sym (append-nil (option_to_list (usable_tail p)))) ∙ sym (tails_append done (p ∷ [])) in
-    subst (λ ts. IsLastTail ts next) e (step (tails done) is)
+pub view_more : (done : List (List ℕ)) (p : List ℕ) (run next : Option Run)
+    → ((ts : List (List ℕ)) → IsLastView ts run → IsLastView (ts ++ option_to_list (usable_text p)) next) → IsLastView (texts done) run
+    → IsLastView (texts (done ++ p ∷ [])) next
+view_more done p run next step is =
+    let e : texts done ++ option_to_list (usable_text p) ≡ texts (done ++ p ∷ []) =
+    ap (λ l. texts done ++ l) (sym (append-nil (option_to_list (usable_text p)))) ∙ sym (texts_append done (p ∷ [])) in
+    subst (λ ts. IsLastView ts next) e (step (texts done) is)
 
 -- one piece more
 pub run_more : (done : List (List ℕ)) (p : List ℕ) (run next : Option Run)

@@ -8,10 +8,11 @@ use Rattle.mime_types.specs.Named.{value_of}
 use Rattle.mime_types.specs.Parameters.{parameters}
 use Rattle.mime_types.specs.Parse.{subtype_text, tail_text, type_text}
 use Rattle.mime_types.specs.Pieces.{pieces}
-use Rattle.mime_types.specs.Seen.{kind_of, mime_of, value_seen}
+use Rattle.mime_types.specs.Seen.{IsViewOf, kind_of, mime_of, value_seen}
 use Rattle.mime_types.specs.Text.{is_a_token, lower}
 use Rattle.mime_types.specs.declared.extraction.Extracted.{Extracted}
 use Rattle.mime_types.specs.declared.extraction.Run.{Run}
+use Rattle.mime_types.specs.declared.mime_type.MimeType.{MimeType}
 
 -- what a piece says, if type and subtype are tokens
 abbrev pub mime_said : List ℕ → Mime
@@ -31,21 +32,22 @@ is_any k = bytes_eq k.type_name (codes "*") && bytes_eq k.subtype (codes "*")
 abbrev pub usable : List ℕ → Option Mime
 usable t = if is_said t && not (is_any (mime_said t).kind) then Some (mime_said t) else None
 
--- and what stands behind its subtype, with the parameters
-abbrev pub usable_tail : List ℕ → Option (List ℕ)
-usable_tail t = if is_said t && not (is_any (mime_said t).kind) then Some (tail_text t) else None
+-- and the piece itself
+abbrev pub usable_text : List ℕ → Option (List ℕ)
+usable_text t = if is_said t && not (is_any (mime_said t).kind) then Some t else None
 
--- the tails of what pieces say, in order
-abbrev pub tails : List (List ℕ) → List (List ℕ)
-tails [] = []
-tails (p ∷ ps) = option_to_list (usable_tail p) ++ tails ps
+-- the pieces that say one, in order
+abbrev pub texts : List (List ℕ) → List (List ℕ)
+texts [] = []
+texts (p ∷ ps) = option_to_list (usable_text p) ++ texts ps
 
-abbrev pub EndsInTail : List (List ℕ) → List ℕ → Type 0
-EndsInTail ts tail = (earlier : List (List ℕ)) × (ts ≡ earlier ++ tail ∷ [])
+-- the view is of the last of these
+abbrev pub EndsInView : List (List ℕ) → MimeType → Type 0
+EndsInView ts v = (earlier : List (List ℕ)) × (last : List ℕ) × (ts ≡ earlier ++ last ∷ []) × IsViewOf last v
 
-abbrev pub IsLastTail : List (List ℕ) → Option Run → Type 0
-IsLastTail ts None = ts ≡ []
-IsLastTail ts (Some run) = EndsInTail ts run.last.tail.now
+abbrev pub IsLastView : List (List ℕ) → Option Run → Type 0
+IsLastView ts None = ts ≡ []
+IsLastView ts (Some run) = EndsInView ts run.last
 
 -- the MIME types that pieces say, in order
 abbrev pub said : List (List ℕ) → List Mime

@@ -1,8 +1,9 @@
 -- What the code's views show.
-use Rattle.std.specs.Prelude.{ℕ, List, option_map, if◌then◌else◌}
+use Rattle.std.specs.Prelude.{◌≡◌, ℕ, List, option_map, if◌then◌else◌}
 use Rattle.mime_types.specs.Mime as mime
 use Rattle.mime_types.specs.Mime.{Kind, Mime}
 use Rattle.mime_types.specs.Parameters.{parameters}
+use Rattle.mime_types.specs.Parse.{subtype_text, tail_text, type_text}
 use Rattle.mime_types.specs.Segment as segments
 use Rattle.mime_types.specs.Segment.{AsWritten, Standing, unquoted}
 use Rattle.mime_types.specs.Text.{lower}
@@ -16,6 +17,10 @@ kind_of v = record { type_name = lower v.type_name.now; subtype = lower v.subtyp
 
 abbrev pub mime_of : MimeType → Mime
 mime_of v = record { kind = kind_of v; parameters = parameters v.tail.now }
+
+-- type and subtype, and what stands behind the subtype, are views of this text
+abbrev pub IsViewOf : List ℕ → MimeType → Type 0
+IsViewOf t v = (v.type_name.now ≡ type_text t) × (v.subtype.now ≡ subtype_text t) × (v.tail.now ≡ tail_text t)
 
 abbrev pub value_seen : Value → List ℕ
 value_seen v = if v.is_quoted then unquoted v.text.now else v.text.now

@@ -1,10 +1,10 @@
 //! What the values of `Content-Type` say together.
-ghost use Rattle.std.specs.Prelude.{◌≡◌, ◌↔◌, ◌++◌, ◌∷◌, [], ℕ, IfSome, IsTrue, List, Some, option_map, option_to_list};
+ghost use Rattle.std.specs.Prelude.{◌≡◌, ◌↔◌, ◌++◌, ◌∷◌, [], ℕ, IfSome, IsTrue, List, MatchOption, None, Some, option_map, option_to_list};
 ghost use Rattle.std.specs.Option.{option_or};
-ghost use Rattle.mime_types.specs.Extracted.{EndsInRun, EndsInTail, IsExtracted, IsLastRun, IsLastTail, charset_of, said, tails, usable, usable_tail};
+ghost use Rattle.mime_types.specs.Extracted.{EndsInRun, EndsInView, IsExtracted, IsLastRun, IsLastView, charset_of, said, texts, usable, usable_text};
 ghost use Rattle.mime_types.specs.Mime.{Mime};
 ghost use Rattle.mime_types.specs.Pieces.{pieces};
-ghost use Rattle.mime_types.specs.Seen.{kind_of, mime_of, value_seen};
+ghost use Rattle.mime_types.specs.Seen.{IsViewOf, kind_of, mime_of, value_seen};
 
 use crate::groups::is_alike;
 use crate::mime_type::MimeType;
@@ -38,7 +38,7 @@ struct Run<'a> {
 /// ```
 pub fn extract(value: &[u8]) -> Option<Extracted<'_>>
     ensures says { IsExtracted value.now result }
-    ensures tail { IfSome result (λ found. EndsInTail (tails (pieces value.now)) found.mime_type.tail.now) }
+    ensures view { IfSome result (λ found. EndsInView (texts (pieces value.now)) found.mime_type) }
 {
     match last_run(value) {
         None => None,
@@ -61,7 +61,7 @@ fn or_else<'a>(own: Option<Value<'a>>, carried: Option<Value<'a>>) -> Option<Val
 
 fn last_run(value: &[u8]) -> Option<Run<'_>>
     ensures says { IsLastRun (said (pieces value.now)) result }
-    ensures tail { IsLastTail (tails (pieces value.now)) result }
+    ensures view { IsLastView (texts (pieces value.now)) result }
 {
     let mut run = None;
     let mut left = Pieces::new(value);
@@ -74,7 +74,7 @@ fn last_run(value: &[u8]) -> Option<Run<'_>>
 /// The run with what a piece says behind it.
 fn extended<'a>(run: Option<Run<'a>>, piece: &'a [u8]) -> Option<Run<'a>>
     ensures says { (ms : List Mime) → IsLastRun ms run.entry → IsLastRun (ms ++ option_to_list (usable piece.now)) result }
-    ensures tail { (ts : List (List ℕ)) → IsLastTail ts run.entry → IsLastTail (ts ++ option_to_list (usable_tail piece.now)) result }
+    ensures view { (ts : List (List ℕ)) → IsLastView ts run.entry → IsLastView (ts ++ option_to_list (usable_text piece.now)) result }
 {
     match usable(piece) {
         None => run,
@@ -84,7 +84,7 @@ fn extended<'a>(run: Option<Run<'a>>, piece: &'a [u8]) -> Option<Run<'a>>
 
 fn continued<'a>(run: Option<Run<'a>>, found: &MimeType<'a>) -> Run<'a>
     ensures says { (ms : List Mime) → IsLastRun ms run.entry → IsLastRun (ms ++ mime_of found.now ∷ []) (Some result) }
-    ensures tail { result.last.tail.now ≡ found.now.tail.now }
+    ensures last { result.last ≡ found.now }
 {
     let last = *found;
     match run {
@@ -116,7 +116,8 @@ fn is_of_kind(found: &MimeType<'_>, other: &MimeType<'_>) -> bool
 /// The MIME type that a piece says, if it says one other than `*/*`.
 fn usable(piece: &[u8]) -> Option<MimeType<'_>>
     ensures says { option_map mime_of result ≡ usable piece.now }
-    ensures tail { option_map (λ found. found.tail.now) result ≡ usable_tail piece.now }
+    ensures view { MatchOption result (usable_text piece.now ≡ None)
+        (λ found. (usable_text piece.now ≡ Some piece.now) × IsViewOf piece.now found) }
 {
     match parse(piece) {
         None => None,

@@ -258,10 +258,17 @@ fn as_they_were_written(rt: HostRuntime) -> Result<(), Fail> {
     ];
     for (i, (name, text, is_quoted)) in wanted.iter().enumerate() {
         let parameter = parameters.next().ok_or("too few")?;
-        assert!(rt; parameter.name == *name && parameter.value.text == *text, "parameter {i}");
+        assert!(rt;
+            parameter.name == *name && parameter.value.text == *text,
+            "parameter {i}"
+        );
         assert_eq!(rt; parameter.value.is_quoted, *is_quoted, "parameter {i}");
     }
     assert!(rt; parameters.next().is_none() && parameters.next().is_none());
+    let found = extract(b"text/x;charset=\"\", Text/X").ok_or("no MIME type")?;
+    assert!(rt; found.mime_type.type_name == b"Text".as_slice());
+    let charset = found.charset.ok_or("no charset")?;
+    assert!(rt; charset.text.is_empty() && charset.is_quoted);
     Ok(())
 }
 
