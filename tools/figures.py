@@ -59,7 +59,7 @@ def seconds_of():
 def commands():
     """The table of README.md: each command with what it takes."""
     known = seconds_of()
-    yield from ["| At the top | It | Processor time | Time |", "|---|---|---|---|"]
+    yield from ["| From the repository root | It | Processor time | Time |", "|---|---|---|---|"]
     for step, (written, does) in COMMANDS.items():
         if step not in known:
             # It was not timed by a run that made every proof anew.
@@ -132,68 +132,49 @@ def check_performance():
         yield cells.get("`get` there") == crate, f"{PERFORMANCE}: the Rust crate takes {crate} of {kind}, as docs/speed.svg has it"
 
 
-# Where the time of a question stands that another program was asked too: the page, the rows of both, and what is counted.
-TIMED_AGAINST = {
-    "`file`": ("docs/PROGRAM.md", "xargs -0 infer_tool", "xargs -0 file", "seconds, 20,000 files"),
-    "mimetype": ("bindings/go/README.md", "infer.Detect", "mimetype.Detect", "nanoseconds"),
-    "python-magic": ("bindings/python/README.md", "infer.magic", "python-magic", "microseconds"),
-    "filetype.py": ("bindings/python/README.md", "infer.guess", "filetype.guess", "microseconds"),
-}
-
-
-def time_of(program):
-    """What a question takes here and there, and nothing if no page has it."""
-    if program.startswith("Rust crate"):
-        row = table_of(text_of(PERFORMANCE), "answer")[MEDIAN]
-        return f"{row['`position`'].partition(' / ')[0]} / {row['`get` there']} instructions"
-    for name, (page, here, there, counted) in TIMED_AGAINST.items():
-        if program.startswith(name):
-            rows = table_of(text_of(page), "speed")
-            ours, theirs = (next([*cells.values()][0] for label, cells in rows.items() if it in label) for it in (here, there))
-            return f"{ours} / {theirs} {counted}"
-    return ""
-
-
-# How each program takes types of a user's own, whether it says that more bytes cannot change an answer, and where it runs,
-# by its own pages.
-TOLD_OF = {
-    "here, the built-in": ("functions", "exactly", "Linux, C99; Windows and macOS [as far as it ran](docs/PLATFORMS.md#what-never-ran)"),
-    "here, with": ("lines of a text", "yes", "Linux, C99; Windows and macOS [as far as it ran](docs/PLATFORMS.md#what-never-ran)"),
-    "Rust crate": ("functions", "no", "where Rust does"),
-    "`file`": ("magic(5)", "no", "Unix"),
-    "mimetype": ("functions", "no", "where Go does"),
-    "python-magic": ("magic(5)", "no", "where libmagic does"),
-    "filetype.py": ("classes", "no", "where Python does"),
-    "file-type": ("functions", "no", "Node and browsers"),
-    "shared-mime-info": ("XML", "no", "Linux, BSD"),
-}
-# The row of what is told by name and bytes that is the same program as a row of the others.
-BY_NAME = {"here, with the further types": "here, by name and bytes"}
-
-
 def comparison():
-    """The table of README.md: of each program its types, what it says of the files of other tests, and its time."""
+    """The table of README.md: of each program its types, and what it says of the files that other programs test."""
     differences = text_of("docs/DIFFERENCES.md")
-    compared, named = table_of(differences, "compared"), table_of(differences, "named")
+    types = {label: cells["Types"] for label, cells in table_of(differences, "compared").items() if cells["Types"].isdigit()}
     head, rows = next((head, rows) for head, rows in tables("docs/DIFFERENCES.md") if " suites: " in head[0])
     count = re.search(r"(\d+) binary files", head[0])[1]
-    judged = next((column for column in [*named.values()][0] if column.startswith("Right")), "") if named else ""
-    counted = f"Types | Right, of {count} | Wrong | Labelled | With names | {judged.replace('Right', 'Judged')}"
-    yield f"| | {counted} | A question, here / there | Growing input | Own types | Runs on |"
-    yield "|---|---|---|---|---|---|---|---|---|---|---|"
-    for program, right, _, _, wrong, *_ in (row for row in rows if not row[0].endswith(", not run")):
-        its = [cells for label, cells in compared.items() if label.startswith(program)]
-        types, labelled = ("".join(it[column] for it in its if it["Types"].isdigit()) for column in ("Types", "Labelled"))
-        by_name = named.get(BY_NAME.get(program, program), {})
-        own, growing, places = next(told for name, told in TOLD_OF.items() if program.startswith(name))
-        with_names = [by_name.get(it, "") for it in ("More than plain text", judged)]
-        cells = [program, types, right, wrong, labelled, *with_names, time_of(program), growing, own, places]
-        yield f"| {' | '.join(cells)} |"
+    yield f"| Of {count} files | Types | Right | Only the family | No answer | Wrong |"
+    yield "|---|---|---|---|---|---|"
+    known = [row for row in rows if not row[0].endswith(", not run")]
+    for program, right, coarser, unknown, wrong, *_ in sorted(known, key=lambda row: -int(row[1])):
+        count = next((it for label, it in types.items() if label.startswith(program)), "")
+        yield f"| {' | '.join([program.replace('here', 'infer'), count, right, coarser, unknown, wrong])} |"
+
+
+# What both were asked: instead of which, what you call here, the page, the rows and columns of theirs and ours, and the unit.
+TIMED = [
+    ("`file --mime-type`, 20,000 files", "[the same `file`](bindings/libmagic/README.md) over infer", "bindings/libmagic/README.md", "speed", ("`file --mime-type`", "with libmagic"), ("`file --mime-type`", "with infer"), ""),
+    ("python-magic, a buffer", "`infer.magic.Magic(mime=True)`", "bindings/python/README.md", "speed", ("python-magic", "bytes"), ("`infer.magic", "bytes"), " µs"),
+    ("filetype.py, a buffer", "`infer.guess`", "bindings/python/README.md", "speed", ("`filetype.guess", "bytes"), ("`infer.guess", "bytes"), " µs"),
+    ("mimetype, a buffer", "`infer.Detect`", "bindings/go/README.md", "speed", ("mimetype.Detect", ""), ("infer.Detect", ""), " ns"),
+    ("the Rust crate `infer`, a buffer", "`infer_position`", PERFORMANCE, "answer", (MEDIAN, "`get` there"), (MEDIAN, "`position`"), " instructions"),
+]
+
+
+def cell_of(page, table, place):
+    """The cell of the first row whose label has this text, in the column of that name, or in the first."""
+    cells = next(cells for label, cells in table_of(text_of(page), table).items() if place[0] in label)
+    return (cells[place[1]] if place[1] else [*cells.values()][0]).partition(" / ")[0]
+
+
+def times():
+    """The table of README.md: of each question that another program was asked too, how long both took."""
+    yield "| Instead of | You call | Theirs | Ours | Times faster |"
+    yield "|---|---|---|---|---|"
+    for asked, call, page, table, there, here, unit in TIMED:
+        theirs, ours = (cell_of(page, table, it) for it in (there, here))
+        faster = round(numbers_in(theirs.removesuffix(" s"))[0] / numbers_in(ours.removesuffix(" s"))[0])
+        yield f"| {asked} | {call} | {theirs}{unit} | {ours}{unit} | {faster} |"
 
 
 def check_repeated(page):
     """A page that tells of instructions repeats a figure of the page of figures, in a place that is known."""
-    text = re.sub(r"\n(?=\S)", " ", re.sub(r"<!-- comparison -->.*?<!-- end -->", "", text_of(page), flags=re.S))
+    text = re.sub(r"\n(?=\S)", " ", re.sub(r"<!-- times -->.*?<!-- end -->", "", text_of(page), flags=re.S))
     known = [re.search(pattern, text) for path, pattern, *_ in REPEATED if path == page]
     places = [it.span(1) for it in known if it]
     for it in re.finditer(rf"({FIGURE}) instructions", text):
