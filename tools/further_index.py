@@ -105,37 +105,6 @@ pub(crate) fn found_below(buf: &[u8], row: usize) -> usize
     }}
 }}
 """
-BY_NUMBER = """//! Made by `tools/tables` from the further rows: code of its own for each that the index has tried.
-ghost use Rattle.std.specs.Prelude.{{◌↔◌, IsTrue}};
-ghost use Rattle.infer_more.specs.Wider.{{WidensAt}};
-
-use crate::table::{{widens_any, widens_row}};
-
-{}
-/// Whether further row `i` has this parent and accepts the buffer: code of its own for each row that the index has tried, and
-/// the evaluator itself for those that it tells by names.
-#[inline(never)]
-pub(crate) fn widens(i: usize, parent: Option<usize>, buf: &[u8]) -> bool
-    ensures {{ IsTrue result ↔ WidensAt parent buf.now i }}
-{{
-{}
-}}
-"""
-# Some rows from one of these numbers on, and what asks of the others.
-PART = """/// [`widens`] for some rows from {0} on.
-#[inline(always)]
-fn widens_from_{0}(i: usize, parent: Option<usize>, buf: &[u8]) -> bool
-    ensures {{ IsTrue result ↔ WidensAt parent buf.now i }}
-{{
-    match i {{
-{1}
-        _ => {2}(i, parent, buf),
-    }}
-}}
-"""
-# A check takes time quadratic in the arms of a match, and of two matches one behind the other the compiler makes one table of
-# jumps, if neither has more than 63 arms.
-MOST_ARMS = 63
 NO_OTHER_PARENT = """-- Made by `tools/tables` from the further rows: no row that the code does not name is the parent of one.
 use Rattle.infer_more.proofs.Common.{{◌∷◌, [], None, arith, refl}}
 use Rattle.infer_more.proofs.Common.{{{names}}}
@@ -1060,37 +1029,6 @@ def computed(rows, parents):
     others = in_list_of(apart(ways))
     yield "below_others", COMPUTED.format(function="below_others", lemma="ways_below", words="◌∷◌, [], ", parent=f"({others}) ", each_row=EACH_ROW, **said)
     yield "told_below", TOLD_BELOW.format(parents=others, differ=differing(apart(ways)))
-
-
-def cut(some, most):
-    """Lists of at most so many, as many each."""
-    count = -(-len(some) // most)
-    return [some[len(some) * k // count : len(some) * (k + 1) // count] for k in range(count)]
-
-
-def part(numbers, others):
-    """What tells the rows of these numbers, and what tells others."""
-    return PART.format(numbers[0], arms(numbers, "widens_row::<{}>(parent, buf)"), others)
-
-
-def block(numbers):
-    """What tells the rows of these numbers, in two parts."""
-    first, last = cut(numbers, -(-len(numbers) // 2))
-    return f"{part(last, 'widens_any')}\n{part(first, f'widens_from_{last[0]}')}"
-
-
-def by_block(parts):
-    """The block of row `i`: half of what is in question is left out by each test."""
-    if len(parts) == 1:
-        return f"widens_from_{parts[0][0]}(i, parent, buf)"
-    first, others = parts[: len(parts) // 2], parts[len(parts) // 2 :]
-    return f"if i < {others[0][0]} {{\n{textwrap.indent(by_block(first), '    ')}\n}} else {{\n{textwrap.indent(by_block(others), '    ')}\n}}"
-
-
-def by_number(rows):
-    """The file with each row by its number, and with code for each that is tried."""
-    parts = cut([k for k, row in enumerate(rows) if {it.name for it in row.signature} - NOT_TRIED], 2 * MOST_ARMS)
-    return BY_NUMBER.format("\n".join(map(block, parts)), textwrap.indent(by_block(parts), "    "))
 
 
 def text(rows, parents):

@@ -86,7 +86,7 @@ pub use Rattle.infer_more.specs.Laws.{AllLast, IsLost, is_dark, is_filled, is_la
 unfoldable pub use Rattle.infer_more.specs.Line.{class_of, is_built_in, is_mime_type, row_of}
 pub use Rattle.infer_more.specs.Line.{Fields, fields_listed, fields_of, is_alphanumeric, is_name, is_name_byte}
 pub use Rattle.infer_more.specs.Line.{is_remark, line_of, parent_of, row, slash_place}
-pub use Rattle.infer_more.specs.Listed.{FitsAt, alternative_listed, is_text, part_listed, row_listed}
+pub use Rattle.infer_more.specs.Listed.{alternative_listed, part_listed, row_listed}
 pub use Rattle.infer_more.specs.Listed.{signature_listed}
 pub use Rattle.infer_more.specs.Open.{is_row_sound}
 pub use Rattle.infer_more.specs.Outline.{lines, outline}

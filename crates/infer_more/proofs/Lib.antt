@@ -3,7 +3,6 @@ pub mod ListLemmas
 pub mod AsciiLemmas
 pub mod ListedLemmas
 pub mod ListedRows
-pub mod AcceptedLemmas
 pub mod JoinedLemmas
 pub mod NamedLemmas
 pub mod IndexLemmas

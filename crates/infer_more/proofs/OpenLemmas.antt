@@ -45,6 +45,13 @@ module _ {A B : Type 0} (f : A → B) (P : B → Type 0) where
   none_of xs n le h = subst (λ l. ¬ SomeOf l) (take_all n xs le) h
 
 module _ (b : List ℕ) where
+  pub some_accepted : (xs : List Alternative) → SomeOf alternative_listed (λ a. Fits a b) xs ↔ Accepted (signature_listed xs) b
+  some_accepted [] = (λ h. absurd h, λ h. h)
+  some_accepted (x ∷ xs) = let rest = some_accepted xs in (
+    λ h. elim h [ inl f ↦ inl f | inr r ↦ inr (rest.0 r) ],
+    λ h. elim h [ inl f ↦ inl f | inr g ↦ inr (rest.1 g) ],
+  )
+
   abbrev pub MayFit : List Alternative → Type 0
   MayFit xs = SomeOf alternative_listed (λ a. MayBecome (Fits a) b) xs
 

@@ -13,7 +13,6 @@ use Rattle.infer_evidence.proofs.ListedLemmas.{all_told}
 use Rattle.infer_sig.specs.Places.{StandsByPlace}
 use Rattle.infer_sig.specs.Signature as fixed
 use Rattle.infer_sig.specs.Signature.{any_of, byte, fits, stands, text}
-use Rattle.infer_more.proofs.AcceptedLemmas.{accepted_at}
 use Rattle.infer_more.specs.Listed.{bytes_listed, pieces_of}
 use Rattle.infer_more.specs.Why.{IsAlikeAt, IsTold, IsToldAt, HasBytes, HasPiece, LacksBytes}
 use Rattle.infer_more.specs.declared.listed.Alternative.{Alternative}
@@ -98,10 +97,15 @@ module _ (by_place : (place : ℕ) (t b : List ℕ) → IsTrue (stands place t b
     | inr later ↦ lacks_all xs (All-tail (LacksBytes b) x xs all) later
   ]
 
+  accepted_at : (xs : List Alternative) (k : ℕ) → MatchOption (slice_get xs k) ⊥ (λ a. Fits (alternative_listed a) b) → Accepted (signature_listed xs) b
+  accepted_at [] k h = absurd (h)
+  accepted_at (x ∷ xs) zero h = inl h
+  accepted_at (x ∷ xs) (suc k) h = inr (accepted_at xs k h)
+
   pub has_some : (xs : List Alternative) (a : listed.Bytes) → Any (λ x. x ≡ Bytes a) xs → HasBytes b a → Accepted (signature_listed xs) b
   has_some xs a found has =
       let is : slice_get xs found.0 ≡ Some found.1 = slice_get_read xs (length xs) found.0 found.1 refl found.2 (sym found.3) in
-      accepted_at b xs found.0 (subst (λ o. MatchOption o ⊥ (λ x. Fits (alternative_listed x) b)) (sym is)
+      accepted_at xs found.0 (subst (λ o. MatchOption o ⊥ (λ x. Fits (alternative_listed x) b)) (sym is)
       (subst (λ x. Fits (alternative_listed x) b) (sym found.4) ((bytes_told a).1 has)))
 
 -- of the row with that number

@@ -1,5 +1,5 @@
 -- The further rows as the code lists them.
-use Rattle.std.specs.Prelude.{◌≡◌, ◌==◌, ◌+◌, ℕ, Bool, true, false, List, [], ◌∷◌, MatchOption, drop, get_or, if◌then◌else◌, map, slice_get, take}
+use Rattle.std.specs.Prelude.{◌≡◌, ◌==◌, ◌+◌, ℕ, List, [], ◌∷◌, drop, get_or, if◌then◌else◌, map, take}
 use Rattle.std.specs.List.{flat_map}
 use Rattle.infer_formats.specs.Relation.{Relation, plain_text, relation_listed}
 use Rattle.infer_formats.specs.declared.relation.Relation as code
@@ -67,12 +67,6 @@ part_listed (At place t) = text place (asked t)
 part_listed (OneOf place set) = byte place (any_of (asked set))
 part_listed (Between place low high) = if low == high then text place (low ∷ []) else byte place (between low high)
 
--- the piece asks a text, and no single byte
-abbrev pub is_text : Piece → Bool
-is_text (At place t) = true
-is_text (OneOf place set) = false
-is_text (Between place low high) = false
-
 -- the pieces of an alternative
 abbrev pub pieces_of : listed.Bytes → List Piece
 pieces_of a = stretch pieces a.pieces.start a.pieces.count
@@ -87,10 +81,6 @@ alternative_listed (Related number) = related (relation_at number)
 
 abbrev pub signature_listed : List Alternative → List signature.Alternative
 signature_listed alternatives = map alternative_listed alternatives
-
--- the buffer fits alternative k, if there is one
-abbrev pub FitsAt : List Alternative → ℕ → List ℕ → Type 0
-FitsAt alternatives k b = MatchOption (slice_get alternatives k) ⊥ (λ a. signature.Fits (alternative_listed a) b)
 
 -- the alternatives of a row
 abbrev pub alternatives_of : FurtherRow → List Alternative

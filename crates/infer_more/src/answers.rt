@@ -15,7 +15,6 @@ ghost use Rattle.infer_more.specs.declared.index.generated.TheConstants.{FURTHER
 use crate::index::asked::found_parentless;
 use crate::index::{FURTHER_COUNT, found_below};
 use crate::listed::{EndedTexts, FurtherRow, alternatives_of, ended_at, row_at};
-use crate::signature::ANY;
 use crate::{listed, signature};
 use infer::Type;
 use infer::rows::{ROW_COUNT, numbers as law_numbers};
@@ -134,7 +133,7 @@ pub fn accepts(buf: &[u8], i: usize) -> bool
         return infer::accepts(buf, i);
     }
     match row_at(i - ROW_COUNT) {
-        Some(row) => signature::accepts::<ANY>(alternatives_of(row), buf),
+        Some(row) => signature::accepts(alternatives_of(row), buf),
         None => false,
     }
 }

@@ -12,7 +12,6 @@ use crate::index::FURTHER_COUNT;
 use crate::listed::{FurtherRow, alternatives_of, row_at};
 use crate::open::{may_become_accepted, stays_accepted};
 use crate::signature;
-use crate::signature::ANY;
 use infer::rows::ROW_COUNT;
 
 /// Whether no bytes after the buffer change its wider answer, as far as this tells: a yes is certain.
@@ -55,7 +54,7 @@ pub(super) fn is_stable(row: &FurtherRow, buf: &[u8]) -> bool
     ensures { IsTrue result → Stays (Accepted (row_listed row.now).signature) buf.now }
 {
     let signature = alternatives_of(row);
-    signature::accepts::<ANY>(signature, buf) && stays_accepted(signature, buf)
+    signature::accepts(signature, buf) && stays_accepted(signature, buf)
 }
 
 /// The first row that may widen the answer.

@@ -22,7 +22,6 @@ use crate::listed::{
 };
 use crate::open::may_become_accepted;
 use crate::signature;
-use crate::signature::ANY;
 use infer::rows::{ROW_COUNT, numbers as law_numbers};
 use infer_evidence::{
     AsPart, Evidence, Part, Range, Set, Told, accept, fits, refuse, shortest_front,
@@ -168,7 +167,7 @@ fn weigh_row(row: &FurtherRow, i: usize, buf: &[u8], evidence: &mut Evidence) ->
         accept(bytes.least, pieces_of(bytes), buf, number(i), evidence);
         return true;
     }
-    let accepts = signature::accepts::<ANY>(signature, buf);
+    let accepts = signature::accepts(signature, buf);
     weigh_front(&Acceptance { i, accepts }, buf, evidence);
     accepts
 }

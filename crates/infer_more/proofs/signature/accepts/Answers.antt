@@ -1,27 +1,30 @@
-use Rattle.infer_more.proofs.Common.{inl, inr, refl, false≢true}
-use Rattle.infer_more.proofs.AcceptedLemmas.{accepted_at, of_four}
+use Rattle.infer_more.proofs.Common.{◌<◌, length, refl, arith, false≢true, alternative_listed, Fits}
+use Rattle.infer_more.specs.Row.{is_closed_alternative}
+use Rattle.infer_more.proofs.ListLemmas.{passed_by}
+use Rattle.infer_more.proofs.OpenLemmas.{none_more, none_of, some_accepted, some_at}
 use Rattle.infer_more.proofs.signature.accepts.Goals as goal
 
-pub returns-then-fits_nth : goal.returns-then-fits_nth
-returns-then-fits_nth g c = (λ e. accepted_at c.args.buf.now c.args.signature.now 0 (c.if-fits_nth.ensures.0 refl), λ h. refl)
+pub fits-requires : goal.fits-requires
+fits-requires c =
+    let lt : c.loop-alternative.alternative-index < length c.args.signature.now = omega arith in
+    passed_by is_closed_alternative alternative_listed c.args.signature.now c.loop-alternative.alternative-index _ lt c.requires
 
-pub returns-then-fits_nth-2 : goal.returns-then-fits_nth-2
-returns-then-fits_nth-2 g c = (λ e. accepted_at c.args.buf.now c.args.signature.now 1 (c.if-fits_nth-2.ensures.0 refl), λ h. refl)
+pub loop-alternative-preserved : goal.loop-alternative-preserved
+loop-alternative-preserved c =
+    none_more alternative_listed (λ a. Fits a c.args.buf.now) c.args.signature.now c.loop-alternative.alternative-index _ (omega arith) c.loop-alternative.invariant
+    (λ fits. false≢true (c.if-fits.ensures.1 fits))
 
-pub returns-then-fits_nth-3 : goal.returns-then-fits_nth-3
-returns-then-fits_nth-3 g c = (λ e. accepted_at c.args.buf.now c.args.signature.now 2 (c.if-fits_nth-3.ensures.0 refl), λ h. refl)
-
-pub returns-then-fits_nth-4 : goal.returns-then-fits_nth-4
-returns-then-fits_nth-4 g c = (λ e. accepted_at c.args.buf.now c.args.signature.now 3 (c.if-fits_nth-4.ensures.0 refl), λ h. refl)
+pub returns-then-fits : goal.returns-then-fits
+returns-then-fits c =
+    let lt : c.loop-alternative.alternative-index < length c.args.signature.now = omega arith in (
+      λ e. (some_accepted c.args.buf.now c.args.signature.now).0
+          (some_at alternative_listed (λ a. Fits a c.args.buf.now) c.args.signature.now c.loop-alternative.alternative-index _ lt (c.if-fits.ensures.0 refl)),
+      λ h. refl,
+    )
 
 pub returns : goal.returns
-returns g c = (
-  λ e. let (k, le, f) = c.fits_later.ensures.0 e in accepted_at c.args.buf.now c.args.signature.now k f,
-  λ h. elim (of_four c.args.buf.now c.args.signature.now h) [
-    | inl f ↦ absurd (false≢true (c.if-fits_nth.ensures.1 f))
-    | inr (inl f) ↦ absurd (false≢true (c.if-fits_nth-2.ensures.1 f))
-    | inr (inr (inl f)) ↦ absurd (false≢true (c.if-fits_nth-3.ensures.1 f))
-    | inr (inr (inr (inl f))) ↦ absurd (false≢true (c.if-fits_nth-4.ensures.1 f))
-    | inr (inr (inr (inr later))) ↦ c.fits_later.ensures.1 later
-  ],
+returns c = (
+  λ e. absurd (false≢true e),
+  λ h. absurd (none_of alternative_listed (λ a. Fits a c.args.buf.now) c.args.signature.now c.loop-alternative.alternative-index (omega arith) c.loop-alternative.invariant
+      ((some_accepted c.args.buf.now c.args.signature.now).1 h)),
 )

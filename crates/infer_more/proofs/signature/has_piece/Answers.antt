@@ -1,6 +1,6 @@
-use Rattle.infer_more.proofs.Common.{◌≤◌, ◌+◌, ◌↔◌, ℕ, List, IsTrue, OccursAt, length, ap, sym, subst, ◌∙◌, ◌||◌, not, leb-true, has_part, stands_from_occurs, is_text, part_listed, is_inside, Piece}
+use Rattle.infer_more.proofs.Common.{◌≤◌, ◌+◌, ◌↔◌, ℕ, List, IsTrue, OccursAt, length, ap, sym, subst, ◌∙◌, leb-true, has_part, stands_from_occurs, part_listed, is_inside, Piece}
 use Rattle.infer_more.specs.Listed.{asked}
-use Rattle.infer_more.proofs.signature.has_text.Goals as goal
+use Rattle.infer_more.proofs.signature.has_piece.Goals as goal
 
 pub returns-in-At : goal.returns-in-At
 returns-in-At c =
@@ -10,4 +10,4 @@ returns-in-At c =
     let read = c.asked.ensures in
     let same = subst (λ (t : List ℕ). IsTrue c.same_text.result ↔ OccursAt b t c.in-At.place) read c.same_text.ensures in
     stands_from_occurs c.in-At.place (asked c.in-At.text) b c.same_text.result within same
-    ∙ sym (ap (λ (p : Piece). not (is_text p) || has_part b (part_listed p)) c.in-At.is)
+    ∙ sym (ap (λ (p : Piece). has_part b (part_listed p)) c.in-At.is)
