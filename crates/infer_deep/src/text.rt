@@ -314,6 +314,3 @@ fn may_begin_in_any_case(buf: &[u8], text: &[u8]) -> bool
     let known = buf.len().min(text.len());
     buf[..known].eq_ignore_ascii_case(&text[..known])
 }
-
-#[cfg(test)]
-mod tests;

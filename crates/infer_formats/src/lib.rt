@@ -19,8 +19,6 @@ pub mod script;
 mod search;
 pub mod subtitles;
 pub mod tar;
-#[cfg(test)]
-mod tests;
 pub mod text;
 pub mod tiff;
 pub mod token;

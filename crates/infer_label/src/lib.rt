@@ -17,8 +17,6 @@ mod line;
 mod names;
 mod options;
 mod room;
-#[cfg(test)]
-mod tests;
 mod why;
 mod why_json;
 mod why_text;

@@ -22,9 +22,6 @@ use infer_notation::{Flaw, Reason};
 use line::{answer_of, check as check_line, row_shown};
 use lines::next_line;
 
-#[cfg(test)]
-mod tests;
-
 /// A type that was found: a class, a MIME type and an extension.
 #[derive(Clone, Copy)]
 pub struct Found<'a> {

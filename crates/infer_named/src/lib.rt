@@ -33,8 +33,6 @@ mod own;
 mod read;
 mod rows;
 mod table;
-#[cfg(test)]
-mod tests;
 
 pub use bytes::{Kind, Lead};
 use infer::{FRONT, Fault, Type, Watched};

@@ -10,6 +10,4 @@ pub mod label;
 pub mod name;
 pub mod relay;
 pub mod sending;
-#[cfg(test)]
-mod tests;
 pub mod upload;

@@ -15,8 +15,6 @@ mod sniffer;
 mod standard;
 mod supplied;
 mod table;
-#[cfg(test)]
-mod tests;
 mod webm;
 
 pub use computed::{

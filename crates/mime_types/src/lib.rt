@@ -15,8 +15,6 @@ mod parameters;
 mod pieces;
 mod read;
 mod segment;
-#[cfg(test)]
-mod tests;
 mod text;
 mod value;
 mod write;

@@ -1,5 +1,5 @@
 //! What the laws and contracts of `infer`, `infer_sniff` and `infer_uses` tell a caller, as functions with contracts, and
-//! the tests of these crates, over public items alone.
+//! the tests of all libraries, over public items alone: in one program, since each takes a minute to compile.
 #![tactic(auto)]
 
 pub mod added;

@@ -1,6 +1,6 @@
 //! What is decided by names and bytes, on the rows that tell standings apart.
-use crate::sending::type_sent;
-use crate::upload::passes;
+use infer_uses::sending::type_sent;
+use infer_uses::upload::passes;
 use std::test::Fail;
 
 const PNG: &[u8] = b"\x89PNG\r\n\x1A\n\0\0\0\rIHDR";

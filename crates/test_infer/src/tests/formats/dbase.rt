@@ -1,4 +1,4 @@
-use crate::dbase::is_dbase;
+use infer_formats::dbase::is_dbase;
 
 #[test]
 fn tables(rt: HostRuntime) {

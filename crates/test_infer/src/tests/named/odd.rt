@@ -1,5 +1,5 @@
 //! Names whose oddities come from outside.
-use crate::{Oddities, oddities};
+use infer_named::{Oddities, oddities};
 use std::test::Fail;
 
 const NONE: Oddities = Oddities {

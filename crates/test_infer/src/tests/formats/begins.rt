@@ -1,4 +1,4 @@
-use crate::begins::{begins, begins_and_has, begins_and_has_all, may_begin};
+use infer_formats::begins::{begins, begins_and_has, begins_and_has_all, may_begin};
 
 // By hand. A mark that is cut may go on.
 #[test]

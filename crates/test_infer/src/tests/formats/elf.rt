@@ -1,4 +1,4 @@
-use crate::elf::is_shared_object;
+use infer_formats::elf::is_shared_object;
 
 #[test]
 fn shared_objects(rt: HostRuntime) {

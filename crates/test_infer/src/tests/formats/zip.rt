@@ -1,4 +1,4 @@
-use crate::zip::{
+use infer_formats::zip::{
     first_entry_ends_in, first_entry_is, has_entry, is_java_archive, is_package_with,
 };
 

@@ -1,5 +1,5 @@
 //! Types of a text beside names.
-use crate::{NamedBy, Standing, named_by};
+use infer_named::{NamedBy, Standing, named_by};
 use std::test::Fail;
 
 /// Neither has a further row: a drawing, and a picture inside TIFF.

@@ -1,4 +1,4 @@
-use crate::header::{has_later_header, may_have_later_header};
+use infer_formats::header::{has_later_header, may_have_later_header};
 
 // By hand: a header of DOS that names the place 70, and at the fourth byte from there the number 5, between 3 and 6.
 #[test]

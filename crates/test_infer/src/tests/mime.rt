@@ -1,5 +1,5 @@
 //! What browsers' tests and other programs say of texts: a row of each kind of vectors/mime_types.tsv, which c/vectors/mime.c asks whole.
-use crate::{
+use mime_types::{
     Destination, MimeType, Minimal, Pieces, WriteError, extract, is_blocked, is_nosniff, parse,
 };
 use std::test::Fail;

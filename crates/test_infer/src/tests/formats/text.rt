@@ -1,4 +1,4 @@
-use crate::text::{Encoding, encoding_of, is_text};
+use infer_formats::text::{Encoding, encoding_of, is_text};
 
 #[test]
 fn texts(rt: HostRuntime) {

@@ -1,5 +1,5 @@
 //! What no clause says: that a line is as others write it, and that a room that is short holds the front of it.
-use crate::{Form, Look, Note, Options, write_line, write_note};
+use infer_label::{Form, Look, Note, Options, write_line, write_note};
 
 /// A line, in a room with marks behind it.
 fn told(options: Options<'_>, name: &[u8], buf: &[u8], room: &mut [u8]) -> usize {

@@ -1,4 +1,5 @@
-use super::*;
+use infer_more::Reason;
+use infer_more::types::Types;
 use std::test::*;
 
 const TEXT: &[u8] = b"# extension MIME type class parent signature\r

@@ -1,4 +1,4 @@
-use crate::script::program;
+use infer_formats::script::program;
 
 #[test]
 fn programs(rt: HostRuntime) {

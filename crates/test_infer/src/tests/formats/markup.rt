@@ -1,5 +1,5 @@
-use crate::markup::{has_root, has_root_with, root_of};
-use crate::script::program;
+use infer_formats::markup::{has_root, has_root_with, root_of};
+use infer_formats::script::program;
 
 #[test]
 fn roots(rt: HostRuntime) {

@@ -1,4 +1,4 @@
-use crate::png::is_animated;
+use infer_formats::png::is_animated;
 
 #[test]
 fn animations(rt: HostRuntime) {

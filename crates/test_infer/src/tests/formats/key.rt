@@ -1,4 +1,4 @@
-use crate::json::{
+use infer_formats::json::{
     first_dark, first_key, has_first_key, has_first_key_with, may_have_first_key,
     may_have_first_key_with,
 };

@@ -1,4 +1,4 @@
-use crate::id3::{is_behind_id3, may_be_behind_id3};
+use infer_formats::id3::{is_behind_id3, may_be_behind_id3};
 
 // Written by hand from sections 3.1 and 6.2 of the tag's main structure.
 #[test]

@@ -1,4 +1,4 @@
-use crate::json::{is_json, is_json_lines};
+use infer_formats::json::{is_json, is_json_lines};
 
 #[test]
 fn json_texts(rt: HostRuntime) {

@@ -1,4 +1,4 @@
-use crate::subtitles::is_subrip;
+use infer_formats::subtitles::is_subrip;
 
 #[test]
 fn subtitles(rt: HostRuntime) {

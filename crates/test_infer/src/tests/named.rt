@@ -1,5 +1,5 @@
 //! Names and bytes from outside.
-use crate::{Standing, named};
+use infer_named::{Standing, named};
 use std::test::Fail;
 
 mod odd;

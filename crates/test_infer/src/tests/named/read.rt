@@ -1,8 +1,8 @@
 //! Readers and files by their names.
-use crate::{
+use infer::{Fault, Watched};
+use infer_named::{
     Standing, named_from_opened, named_from_path, named_from_reader, named_from_reader_within,
 };
-use infer::{Fault, Watched};
 use std::io;
 use std::io::ErrorKind;
 use std::test::Fail;

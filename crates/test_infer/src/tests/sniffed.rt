@@ -1,7 +1,7 @@
 //! What other programs say of buffers, Go's own function and those that follow the standard: a row of each kind of
 //! vectors/content_types.tsv and vectors/sniffed.tsv, which c/vectors asks whole.
-use crate::go::detect_content_type;
-use crate::{
+use mime_sniff::go::detect_content_type;
+use mime_sniff::{
     Computed, Context, Supplied, compute, compute_in, is_apache_bug, is_decided, may_be_scriptable,
 };
 use mime_types::{MimeType, parse};

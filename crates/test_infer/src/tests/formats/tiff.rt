@@ -1,4 +1,4 @@
-use crate::tiff::{
+use infer_formats::tiff::{
     first_directory_has_either, first_directory_has_tag, first_directory_has_tag_and_make,
     first_directory_may_have_tag, first_directory_may_have_tag_and_make,
 };
