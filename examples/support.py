@@ -14,6 +14,7 @@ import socket
 import subprocess
 import sys
 import tempfile
+import textwrap
 import time
 import unittest
 from collections.abc import Callable, Iterator
@@ -273,6 +274,13 @@ def command_in(readme: str, begins: str) -> str:
 def commands_in(readme: str) -> list[str]:
     with open(readme, encoding="utf-8") as lines:
         return [line.strip() for line in lines if line.startswith("    ")]
+
+
+def block_in(readme: str, first: str) -> list[str]:
+    """The lines of the block of a README that begins with this one."""
+    with open(readme, encoding="utf-8") as file:
+        [block] = re.findall(rf"^    {re.escape(first)}\n(?:    .*\n)*", file.read(), re.MULTILINE)
+    return textwrap.dedent(block).splitlines()
 
 
 def left_out(lacks: str, what: str) -> None:
