@@ -150,9 +150,9 @@ def comparison():
 TIMED = [
     ("`file --mime-type`, 20,000 files", "[the same `file`](bindings/libmagic/README.md) over infer", "bindings/libmagic/README.md", "speed", ("`file --mime-type`", "with libmagic"), ("`file --mime-type`", "with infer"), ""),
     ("python-magic, a buffer", "`infer.magic.Magic(mime=True)`", "bindings/python/README.md", "speed", ("python-magic", "bytes"), ("`infer.magic", "bytes"), " µs"),
-    ("filetype.py, a buffer", "`infer.guess`", "bindings/python/README.md", "speed", ("`filetype.guess", "bytes"), ("`infer.guess", "bytes"), " µs"),
-    ("mimetype, a buffer", "`infer.Detect`", "bindings/go/README.md", "speed", ("mimetype.Detect", ""), ("infer.Detect", ""), " ns"),
-    ("the Rust crate `infer`, a buffer", "`infer_position`", PERFORMANCE, "answer", (MEDIAN, "`get` there"), (MEDIAN, "`position`"), " instructions"),
+    ("filetype.py, a buffer", "`infer.guess`, built-in types", "bindings/python/README.md", "speed", ("`filetype.guess", "bytes"), ("`infer.guess", "bytes"), " µs"),
+    ("mimetype, a buffer", "`infer.Detect`, built-in types", "bindings/go/README.md", "speed", ("mimetype.Detect", ""), ("infer.Detect", ""), " ns"),
+    ("the Rust crate `infer`, a buffer", "`infer_position`, built-in types", PERFORMANCE, "answer", (MEDIAN, "`get` there"), (MEDIAN, "`position`"), " instructions"),
 ]
 
 
@@ -198,7 +198,8 @@ def versions():
         ("bindings/rust/infer/README.md", r"`(\d+\.\d+\.\d+)\+infer"),
         ("bindings/python/README.md", r"hoarvelt-infer==(\d+\.\d+\.\d+)"),
         ("bindings/go/README.md", r"infer-go-(\d+\.\d+\.\d+)\.tar"),
-        ("README.md", r"infer-tools_(\d+\.\d+\.\d+)_amd64"),
+        ("README.md", r"version (\d+\.\d+\.\d+)"),
+        ("docs/RELEASING.md", r"infer-tools_(\d+\.\d+\.\d+)_amd64"),
         ("bindings/javascript/README.md", r"hoarvelt-infer-(\d+\.\d+\.\d+)\.tgz"),
         ("bindings/java/README.md", r"hoarvelt-infer-(\d+\.\d+\.\d+)\.jar"),
         *([("dist/MADE", r"^infer (\S+) for wasm64-unknown-unknown, ")] if os.path.isfile("dist/infer.c") else []),

@@ -156,7 +156,7 @@ def check_compiling(page, rest):
 
 
 def check_commands(page):
-    lines = [it for it in blocks_of(page)] + [it for it in spans(page) if " " in it or "/" in it]
+    lines = [it.removeprefix("$ ") for it in blocks_of(page)] + [it for it in spans(page) if " " in it or "/" in it]
     heads = ("cd ", "rt ", "cc ", "c/", "tools/", "bench/", ".ci/", "bindings/", "examples/", "infer_tool ", "./infer_tool ", "infer_label ", "PYTHONPATH=", "export ", "find ")
     for line in lines:
         if line.startswith(heads):
@@ -211,6 +211,19 @@ def check_lines(page):
             begin = text.split(" ")[0]
             if line.startswith(f"{begin} ") and page in ("README.md", "docs/PROGRAM.md"):
                 yield line in texts, f"{page}: the program prints no line such as '{line}'"
+
+
+# The tests that take a block of README.md, run it, and compare what it shows.
+RUN_BY = ("program/test", "bindings/python/test", "release/test_clone")
+
+
+def check_run():
+    """Each block of README.md is run by a test, which names its first line, and Python shows texts that the binding has."""
+    page = text_of("README.md")
+    for first in re.findall(r"(?<=\n\n)    (.*)$", page, re.M):
+        yield any(f'/README.md", "{first}")' in text_of(it) for it in RUN_BY), f"README.md: no test runs the block that begins with '{first}'"
+    for text in re.findall(r"(?<=\.value\n)    '(.*)'$", page, re.M):
+        yield f' = "{text}"\n' in text_of("bindings/python/src/infer/__init__.py"), f"README.md: no value of the binding for Python is '{text}'"
 
 
 def check_statuses():
