@@ -1,17 +1,28 @@
 /* The files to tell of, in their order: words, names that end in a zero byte, and what stands in folders. */
 #include "program.h"
+#include <dirent.h>
 #include <errno.h>
 #include <fnmatch.h>
-#include <fts.h>
 #include <stdlib.h>
 #include <string.h>
 #include <sys/stat.h>
 
+/* A folder that is walked, in the order of names, and the folder that it is in. */
+struct level {
+    struct level *outer;
+    struct dirent **entries;
+    int count, next;
+    size_t path_size; /* how much of the path is the folder's, with a slash */
+    dev_t system;
+    ino_t number;
+};
+
 struct inputs {
     const struct options *options;
-    char **paths; /* the words that are left */
-    FILE *names;  /* the names that are left, or a null pointer */
-    FTS *walk;    /* the folder that is walked, or a null pointer */
+    char **paths;       /* the words that are left */
+    FILE *names;        /* the names that are left, or a null pointer */
+    struct level *walk; /* the innermost folder that is walked, or a null pointer */
+    struct text path;   /* of the entry where the walk is */
     char *name;
     size_t name_room;
     bool has_failed;
@@ -48,82 +59,95 @@ static struct item *add_item(struct batch *batch, const char *path, size_t size)
     return item;
 }
 
-static int by_name(const FTSENT **left, const FTSENT **right) { return strcmp((*left)->fts_name, (*right)->fts_name); }
+static int by_name(const struct dirent **left, const struct dirent **right) { return strcmp((*left)->d_name, (*right)->d_name); }
 
-/* Begins to walk a folder, and answers whether the path is one. */
-static bool enter(struct inputs *inputs, char *path) {
-    struct stat about;
-    if (!inputs->options->is_walk || stat(path, &about) != 0 || !S_ISDIR(about.st_mode))
-        return false;
-    char *const paths[] = {path, NULL};
-    int flags = FTS_PHYSICAL | FTS_COMFOLLOW | FTS_NOCHDIR | (inputs->options->is_one_system ? FTS_XDEV : 0);
-    inputs->walk = allocated(fts_open(paths, flags, by_name));
-    return true;
+static int is_entry(const struct dirent *it) { return strcmp(it->d_name, ".") != 0 && strcmp(it->d_name, "..") != 0; }
+
+/* Makes the path that of the entry with this name, after so many bytes that stay. */
+static void set_path(struct inputs *inputs, size_t size, const char *name) {
+    inputs->path.size = size;
+    put_bytes(&inputs->path, name, strlen(name) + 1);
+    inputs->path.size--;
+}
+
+static struct item *add_path(struct inputs *inputs, struct batch *batch) { return add_item(batch, inputs->path.bytes, inputs->path.size); }
+
+/* Begins to walk the folder with the path. */
+static void enter(struct inputs *inputs, struct batch *batch, const struct stat *about) {
+    struct dirent **entries;
+    int count = scandir(inputs->path.bytes, &entries, is_entry, by_name), fault = errno;
+    if (count < 0) {
+        add_path(inputs, batch)->fault = fault;
+        return;
+    }
+    put_text(&inputs->path, inputs->path.bytes[inputs->path.size - 1] == '/' ? "" : "/");
+    struct level *level = allocated(malloc(sizeof *level));
+    *level = (struct level){inputs->walk, entries, count, 0, inputs->path.size, about->st_dev, about->st_ino};
+    inputs->walk = level;
+}
+
+static void leave(struct inputs *inputs) {
+    struct level *level = inputs->walk;
+    inputs->walk = level->outer;
+    for (int i = 0; i < level->count; i++)
+        free(level->entries[i]);
+    free(level->entries);
+    free(level);
 }
 
 /* Whether an entry of a folder is left out: by its last name, or by all of it if there is a slash in what is excluded. */
-static bool is_excluded(const struct options *options, const FTSENT *entry) {
+static bool is_excluded(const struct options *options, const char *path, const char *name) {
     for (size_t i = 0; i < options->excluded_count; i++) {
         const char *it = options->excluded[i];
-        if (fnmatch(it, strchr(it, '/') ? entry->fts_path : entry->fts_name, 0) == 0)
+        if (fnmatch(it, strchr(it, '/') ? path : name, 0) == 0)
             return true;
     }
     return false;
 }
 
-/* What an entry of a folder is if it has no bytes, or a null pointer. */
-static const char *kind_of(const FTSENT *entry) {
-    mode_t mode = entry->fts_statp->st_mode;
-    return entry->fts_info == FTS_SL || entry->fts_info == FTS_SLNONE ? "link"
-           : entry->fts_info != FTS_DEFAULT                           ? NULL
-           : S_ISFIFO(mode)                                           ? "fifo"
-           : S_ISSOCK(mode)                                           ? "socket"
-           : S_ISCHR(mode)                                            ? "character device"
-           : S_ISBLK(mode)                                            ? "block device"
-                                                                      : "special file";
+/* Whether the folder is one that the walk is in: a broken file system can have such a loop. */
+static bool is_loop(const struct level *level, const struct stat *about) {
+    while (level && (level->number != about->st_ino || level->system != about->st_dev))
+        level = level->outer;
+    return level != NULL;
 }
 
-/* Adds an entry of a walk, unless it is a folder, which is entered. */
-static void add_entry(struct inputs *inputs, struct batch *batch, FTSENT *entry) {
-    if (entry->fts_info == FTS_DP)
-        return;
-    if (entry->fts_level > FTS_ROOTLEVEL && is_excluded(inputs->options, entry)) {
-        fts_set(inputs->walk, entry, FTS_SKIP);
-        return;
-    }
-    if (entry->fts_info == FTS_D)
-        return;
-    struct item *item = add_item(batch, entry->fts_path, entry->fts_pathlen);
-    bool has_fault = entry->fts_info == FTS_DNR || entry->fts_info == FTS_NS || entry->fts_info == FTS_ERR;
-    item->fault = has_fault ? entry->fts_errno : entry->fts_info == FTS_DC ? ELOOP : 0;
-    item->kind = item->fault ? NULL : kind_of(entry);
-    item->is_walked = true;
-}
-
+/* Adds the next entry of the walk, or enters it. A call is made only where it can be a folder: threads ask what the others are. */
 static void step(struct inputs *inputs, struct batch *batch) {
-    errno = 0;
-    FTSENT *entry = fts_read(inputs->walk);
-    if (entry) {
-        add_entry(inputs, batch, entry);
+    struct level *level = inputs->walk;
+    struct stat about;
+    if (level->next == level->count) {
+        leave(inputs);
         return;
     }
-    if (errno != 0) {
-        fprintf(stderr, "infer_label: %s\n", strerror(errno));
-        inputs->has_failed = true;
-    }
-    fts_close(inputs->walk);
-    inputs->walk = NULL;
+    const struct dirent *entry = level->entries[level->next++];
+    set_path(inputs, level->path_size, entry->d_name);
+    if (is_excluded(inputs->options, inputs->path.bytes, entry->d_name))
+        return;
+    bool is_asked = entry->d_type == DT_DIR || entry->d_type == DT_UNKNOWN;
+    if (!is_asked || lstat(inputs->path.bytes, &about) != 0 || !S_ISDIR(about.st_mode))
+        add_path(inputs, batch)->is_walked = true;
+    else if (is_loop(level, &about))
+        add_path(inputs, batch)->fault = ELOOP;
+    else if (!inputs->options->is_one_system || about.st_dev == level->system)
+        enter(inputs, batch, &about);
 }
 
-static void add_path(struct inputs *inputs, struct batch *batch, char *path, size_t size) {
-    if (!enter(inputs, path))
+/* Adds a path, or enters it if it is that of a folder to walk. */
+static void begin(struct inputs *inputs, struct batch *batch, const char *path, size_t size) {
+    struct stat about;
+    if (!inputs->options->is_walk || stat(path, &about) != 0 || !S_ISDIR(about.st_mode)) {
         add_item(batch, path, size);
+        return;
+    }
+    set_path(inputs, 0, path);
+    enter(inputs, batch, &about);
 }
 
 static void add_word(struct inputs *inputs, struct batch *batch) {
     char *word = *inputs->paths++;
     if (strcmp(word, "-") != 0) {
-        add_path(inputs, batch, word, strlen(word));
+        begin(inputs, batch, word, strlen(word));
         return;
     }
     const char *name = inputs->options->input_name;
@@ -144,7 +168,7 @@ static void add_name(struct inputs *inputs, struct batch *batch) {
         return;
     }
     size_t length = size > 0 && inputs->name[size - 1] == 0 ? (size_t)size - 1 : (size_t)size;
-    add_path(inputs, batch, inputs->name, length);
+    begin(inputs, batch, inputs->name, length);
 }
 
 /* Takes the next files, and answers whether there were some. */
@@ -166,10 +190,11 @@ bool fill_batch(struct inputs *inputs, struct batch *batch) {
 
 bool close_inputs(struct inputs *inputs) {
     bool is_whole = !inputs->has_failed;
-    if (inputs->walk)
-        fts_close(inputs->walk);
+    while (inputs->walk)
+        leave(inputs);
     if (inputs->names && inputs->names != stdin)
         fclose(inputs->names);
+    free(inputs->path.bytes);
     free(inputs->name);
     return is_whole;
 }

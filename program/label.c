@@ -38,6 +38,7 @@ void free_labeller(struct labeller *labeller) {
 static const char *kind_of(mode_t mode) {
     return S_ISREG(mode)    ? NULL
            : S_ISDIR(mode)  ? "folder"
+           : S_ISLNK(mode)  ? "link"
            : S_ISFIFO(mode) ? "fifo"
            : S_ISSOCK(mode) ? "socket"
            : S_ISCHR(mode)  ? "character device"
@@ -94,13 +95,12 @@ static void note_missing(const char *path, struct read *front) {
 }
 
 static void read_path(struct labeller *labeller, const char *path, bool is_walked, struct read *front) {
-    struct stat about = {0};
-    /* A walk has just asked what it is. What it is by now the open file says. */
-    if (!is_walked && stat(path, &about) != 0) {
+    struct stat about;
+    if (fstatat(AT_FDCWD, path, &about, is_walked ? AT_SYMLINK_NOFOLLOW : 0) != 0) {
         note_missing(path, front);
         return;
     }
-    front->kind = is_walked ? NULL : kind_of(about.st_mode);
+    front->kind = kind_of(about.st_mode);
     if (front->kind)
         return;
     int fd = open_file(path, is_walked);
@@ -204,12 +204,12 @@ static void put_kind(struct labeller *labeller, const char *name, size_t name_si
 
 static void label_item(struct labeller *labeller, struct batch *batch, struct item *item) {
     const char *path = batch->paths.bytes + item->path;
-    struct read front = {.fault = item->fault ? strerror(item->fault) : NULL, .kind = item->kind};
+    struct read front = {.fault = item->fault ? strerror(item->fault) : NULL};
     if (strlen(path) != item->path_size && !item->is_input)
         front.fault = "a name with a zero byte";
     else if (item->is_input)
         read_input(labeller, &front);
-    else if (!front.fault && !front.kind)
+    else if (!front.fault)
         read_path(labeller, path, item->is_walked, &front);
     item->line = batch->lines.size;
     item->bytes = front.bytes;

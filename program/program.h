@@ -33,7 +33,6 @@ struct options {
 struct item {
     size_t path, path_size; /* where its path stands in the batch's texts */
     int fault;              /* why it cannot be looked at, or 0 */
-    const char *kind;       /* what it is if it has no bytes, as `fifo`, or a null pointer */
     bool is_input;          /* it is standard input */
     bool is_walked;         /* it was met on a walk, which follows no link */
     bool is_fault, is_known, is_lie, is_told;
