@@ -76,7 +76,7 @@ static void read_open(struct labeller *labeller, int fd, const struct stat *abou
         front->bytes = front->size;
 }
 
-/* Opens a regular file and nothing else: a device can act as soon as it is opened. */
+/* Opens what was a regular file just before, and does not wait if something else has taken its place. */
 static int open_file(const char *path, bool is_walked) {
     int fd;
     do
@@ -94,6 +94,8 @@ static void note_missing(const char *path, struct read *front) {
     front->fault = is_broken ? NULL : strerror(fault);
 }
 
+/* Reads a regular file and nothing else: a device can act as soon as it is opened. Its kind and size are those just before, as to
+ * ask the open file would be one more call for each. */
 static void read_path(struct labeller *labeller, const char *path, bool is_walked, struct read *front) {
     struct stat about;
     if (fstatat(AT_FDCWD, path, &about, is_walked ? AT_SYMLINK_NOFOLLOW : 0) != 0) {
@@ -104,12 +106,12 @@ static void read_path(struct labeller *labeller, const char *path, bool is_walke
     if (front->kind)
         return;
     int fd = open_file(path, is_walked);
-    if (fd < 0 || fstat(fd, &about) != 0)
+    if (fd < 0)
         front->fault = strerror(errno);
-    else if (!(front->kind = kind_of(about.st_mode)))
+    else {
         read_open(labeller, fd, &about, front);
-    if (fd >= 0)
         close(fd);
+    }
 }
 
 static void read_input(struct labeller *labeller, struct read *front) {
