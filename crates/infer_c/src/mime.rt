@@ -202,17 +202,26 @@ fn write_together(found: &Extracted<'_>, out: &mut [u8]) -> usize
     }
 }
 
+/// The MIME type that the values of `Content-Type` together say.
+fn extracted(value: &[u8]) -> Option<MimeType<'_>>
+    ensures { (found : Option Extracted) × IsExtracted value.now found × (result ≡ mime_extracted found) }
+{
+    match mime_types::extract(value) {
+        Some(found) => Some(found.mime_type),
+        None => None,
+    }
+}
+
 /// Whether a response with `nosniff` is blocked, by the values of `Content-Type` and by what it is fetched for.
 pub fn is_blocked(value: &[u8], code: i32) -> bool
     ensures { (found : Option Extracted) × IsExtracted value.now found
         × (wanted : Option Destination) × IsDestinationOf code wanted
         × (IsTrue result ↔ IsBlocked (mime_extracted found) (unwrap_or wanted Destination.Other)) }
 {
-    let told = match mime_types::extract(value) {
-        Some(found) => Some(found.mime_type),
-        None => None,
-    };
-    mime_types::is_blocked(told, destination(code).unwrap_or(Destination::Other))
+    mime_types::is_blocked(
+        extracted(value),
+        destination(code).unwrap_or(Destination::Other),
+    )
 }
 
 /// The destination with this number.

@@ -1,4 +1,4 @@
-use Rattle.std.proofs.Common.{◌≡◌, arith, length, min, subst, take}
+use Rattle.std.proofs.Common.{◌≡◌, arith, length, min, replicate, subst, take}
 use Rattle.mime_types.specs.Groups.{essence}
 use Rattle.mime_types.specs.Seen.{kind_of}
 use Rattle.infer_c.specs.Mime.{IsWithRoom}
@@ -11,5 +11,5 @@ returns-in-Some c =
     let room = c.write_essence.new.out in
     let size : length room ≡ MOST = omega arith in
     let end : min c.in-Some.end MOST ≡ c.min.result = omega arith in
-    let is = wrote_whole _ room (essence (kind_of c.args.view.now)) c.in-Some.end size c.in-Some.ensures in
+    let is = wrote_whole (replicate 4095 0) room (essence (kind_of c.args.view.now)) c.in-Some.end size c.in-Some.ensures in
     (take c.min.result room, subst (λ n. IsWithRoom (essence (kind_of c.args.view.now)) (take n room)) end is, c.write_bytes.ensures.length, c.write_bytes.ensures.written)
