@@ -93,6 +93,7 @@ static void ask_named(const unsigned char *buf, size_t len) {
     infer_named(name, kept + strlen(last), buf, len, &found);
     note(infer_oddities(name, kept + strlen(last)));
     note(found.standing);
+    note_text(infer_standing_text(found.standing));
     note(found.row);
     note_text(found.told.mime_type);
     note_text(found.told.extension);
