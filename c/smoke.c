@@ -498,6 +498,9 @@ static void names(void) {
     named_is("disk.iso", 8, "\0\0\0\0", 4, INFER_NAME_ALONE, "application/x-cd-image", "application/x-cd-image");
     named_is("x.unknown", 9, "\0\1", 2, INFER_NOTHING, "", "");
     named_is(NULL, 0, NULL, 0, INFER_NOTHING, "", "");
+    same("the text of a standing", strcmp(infer_standing_text(INFER_NAME_REFINES), "name refines"), 0);
+    same("that of the last", strcmp(infer_standing_text(INFER_NOTHING), "nothing"), 0);
+    same("that of none", strcmp(infer_standing_text(-1), "") + strcmp(infer_standing_text(INFER_NOTHING + 1), ""), 0);
     infer_named("a.dz", 4, "\x1F\x8B\x08", 3, &got);
     same("an own name", got.told.is_own_name && got.name.is_own_name, true);
     same("its extension", *got.told.extension, 0);

@@ -86,7 +86,6 @@ mod c {
         ) -> i32;
         pub fn infer_oddities(name: *const c_void, name_len: usize) -> u32;
         pub fn infer_named(name: *const c_void, name_len: usize, buf: *const c_void, len: usize, answer: *mut super::NamedAnswer);
-        #[cfg(feature = "std")]
         pub fn infer_label_write(
             name: *const c_void,
             name_len: usize,
@@ -407,12 +406,13 @@ pub struct NamedAnswer {
     pub name: NamedTexts,
 }
 
-/// What a name and bytes tell.
+/// What is odd in a name, as bits.
 pub fn oddities(name: &[u8]) -> u32 {
     // SAFETY: the pointer and the length are those of a slice.
     unsafe { c::infer_oddities(name.as_ptr().cast(), name.len()) }
 }
 
+/// The answer by a name and bytes.
 pub fn named(name: &[u8], buf: &[u8]) -> NamedAnswer {
     let mut answer = NamedAnswer { standing: 0, row: 0, told: NamedTexts::EMPTY, name: NamedTexts::EMPTY };
     // SAFETY: as above, and `answer` is written.
