@@ -202,7 +202,7 @@ def versions():
         ("docs/RELEASING.md", r"infer-tools_(\d+\.\d+\.\d+)_amd64"),
         ("bindings/javascript/README.md", r"hoarvelt-infer-(\d+\.\d+\.\d+)\.tgz"),
         ("bindings/java/README.md", r"hoarvelt-infer-(\d+\.\d+\.\d+)\.jar"),
-        *([("dist/MADE", r"^infer (\S+) for wasm64-unknown-unknown, ")] if os.path.isfile("dist/infer.c") else []),
+        ("dist/MADE", r"^infer (\S+) for wasm64-unknown-unknown, "),
     ]:
         found = re.search(pattern, text_of(path), re.M)
         yield path, found[1] if found else "none"

@@ -55,7 +55,7 @@ def is_made(path):
 
 def check_paths(page):
     """Each path of the repository between backticks leads somewhere."""
-    tops = {it for it in os.listdir(".") if os.path.isdir(it) and it not in PRUNED - {".ci"}}
+    tops = {it for it in os.listdir(".") if os.path.isdir(it) and it not in PRUNED - {".ci", "dist"}}
     for span in spans(page):
         if re.fullmatch(r"[\w.-]+(?:/[\w.-]+)+/?", span) and span.split("/")[0] in tops:
             yield is_there(span, page) or is_made(span), f"{page}: there is no {span}"
