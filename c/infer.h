@@ -119,9 +119,9 @@ bool infer_more_may_become(const void *buf, size_t len, int32_t row);
  * The row of a range is the answer, which these bytes match, or the built-in row that a further row makes more exact,
  * which they match too; or it is a row before the answer, which they rule out. If `is_exact` is true, only a buffer of
  * the same length has the same answer. `wanted` is the number of ranges. The first `room` of them are written to
- * `ranges`, and nothing after them. If there are more, or more than INFER_MOST_RANGES, those that were written are not
- * enough; infer_evidence has at most 68. With `room` 0 `ranges` may be null. `needs` must not be null. A call takes
- * some 3 KB of the stack. */
+ * `ranges`, and nothing after them. If there are more, those that were written are not enough: there are at most
+ * INFER_MOST_RANGES, and infer_evidence has at most 68. With `room` 0 `ranges` may be null. `needs` must not be null. A
+ * call takes some 3 KB of the stack. */
 #define INFER_MOST_RANGES 80
 typedef struct infer_range {
     size_t place, len, step;

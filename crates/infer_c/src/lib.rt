@@ -244,8 +244,9 @@ pub extern "C" fn infer_more_evidence(
     ranges: &mut [WrittenRange],
     needs: &mut Needs,
 ) -> i32
-    ensures { (wider : Option ℕ) × IsWider buf.now wider × (result ≡ row_code wider)
+    ensures wider { (wider : Option ℕ) × IsWider buf.now wider × (result ≡ row_code wider)
         × TellsWhy (λ e. wider_why.Decides e buf.now wider) buf.now ranges.old ranges.new needs.new }
+    ensures few { needs.new.wanted ≤ 80 }
 {
     let mut evidence = Evidence::new();
     let found = infer_more::evidence(buf, &mut evidence);
