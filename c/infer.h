@@ -168,7 +168,7 @@ size_t infer_detect_content_type(const void *buf, size_t len, char *out, size_t 
  * it: a text that would take more is empty.
  *
  * The MIME type in the text, as the standard writes it: "text/html;charset=utf-8". It is empty if there is none, or if
- * the text has more than 256 parameters. */
+ * the text has more than 256 parameters, those that do not count among them, such as repeated ones. */
 #define INFER_MIME_SIZE 4096
 size_t infer_mime_parse(const char *text, size_t text_len, char *out, size_t size);
 
@@ -231,7 +231,10 @@ enum infer_mime_context {
 size_t infer_mime_compute(const char *content_type, size_t content_type_len, uint32_t flags, int32_t context, const void *buf, size_t len, char *out, size_t size);
 
 /* Whether no bytes that may follow change what is computed for a page, and whether some make a browser run scripts that
- * got no type from the server. True of the first is certain, and false of the second: the other values are not. */
+ * got no type from the server. True of the first is certain, and false of the second. With INFER_MIME_HEADER bytes the
+ * other values are certain too. With fewer, the first can be false although no bytes change what is computed, except
+ * where the standard asks no bytes; and true of the second means that some bytes that may follow match, as if more than
+ * INFER_MIME_HEADER bytes counted. */
 bool infer_mime_is_decided(const char *content_type, size_t content_type_len, uint32_t flags, const void *buf, size_t len);
 bool infer_mime_may_be_scriptable(const void *buf, size_t len);
 
@@ -273,7 +276,8 @@ int32_t infer_types_get(const void *text, size_t text_len, const void *buf, size
 
 /* The number, from 1, of the line whose type infer_types_get gives, and 0 if it gives the wider answer or none. So you
  * can distinguish a type of your own from a further type with the same MIME type and extension. If a file has a name
- * too, ask infer_named if this is 0: a line of your own wins over names, since whoever wrote it knows the files. */
+ * too, ask infer_named if this is 0: a line of your own wins over names, since whoever wrote it knows the files. For a
+ * text for which infer_types_check does not give 0 the call is safe, but its result means nothing. */
 size_t infer_types_line(const void *text, size_t text_len, const void *buf, size_t len);
 
 /* A NAME AND ITS BYTES. The bytes win: a name only chooses among what they leave open, and the standing says what the
