@@ -404,7 +404,7 @@ module _ (base : List ℕ) (some : 0 < length base) where
       let place : length (base ++ ending) - 1 ≡ length base + (length ending - 1) = omega (arith, length-append base ending) in
       let last = ap (λ i. get_or (base ++ ending) i 0) place ∙ get_or-append-add base ending (length ending - 1) 0 in
       false_from_ne_true _ (λ is.
-        let on : true ≡ false = sym (eq-eqb _ _ (sym (ap to_ascii_lowercase last) ∙ last_is (base ++ ending) other more is)) ∙ off in absurd (cc))
+      let on : true ≡ false = sym (eq-eqb _ _ (sym (ap to_ascii_lowercase last) ∙ last_is (base ++ ending) other more is)) ∙ off in absurd (cc))
 
   copied : (ending : List ℕ) → IsTrue (list_any (bytes_eq ending) copies) → copy_length (base ++ ending) ≡ length ending
   copied ending copy =
@@ -432,10 +432,10 @@ copy_same table name base ending k l copy is_base some none here there =
     let slashes = nowhere_of (is_byte2 0x2F 0x5C) ending (by_copies (λ e. IsTrue (not (list_any (is_byte2 0x2F 0x5C) e))) refl refl refl refl ending copy) in
     let P = Passes (is_byte2 0x2F 0x5C) name in
     same_name table name (name ++ ending) (λ x y (place, last, is) (other, its_last, its).
-      let (slash, slash_last, whole) = is_base in
-      let own : x ≡ base = is ∙ (ap (behind name) (one_last P P 0 (length name) (λ k low lt on. on) (λ k low lt on. on) place slash last slash_last) ∙ sym whole) in
-      let more : y ≡ base ++ ending
-      = its ∙ (ap (behind (name ++ ending)) (sym (kept_last (is_byte2 0x2F 0x5C) name ending slashes place other last its_last))
-      ∙ (behind_ending name ending place last ∙ ap (λ b. b ++ ending) (sym is ∙ own))) in
-      ap small (ap stem_of own ∙ (own_stem base none ∙ (sym (copied_stem base (some_bytes base some) ending copy) ∙ sym (ap stem_of more))))) k l
+    let (slash, slash_last, whole) = is_base in
+    let own : x ≡ base = is ∙ (ap (behind name) (one_last P P 0 (length name) (λ k low lt on. on) (λ k low lt on. on) place slash last slash_last) ∙ sym whole) in
+    let more : y ≡ base ++ ending
+    = its ∙ (ap (behind (name ++ ending)) (sym (kept_last (is_byte2 0x2F 0x5C) name ending slashes place other last its_last))
+    ∙ (behind_ending name ending place last ∙ ap (λ b. b ++ ending) (sym is ∙ own))) in
+    ap small (ap stem_of own ∙ (own_stem base none ∙ (sym (copied_stem base (some_bytes base some) ending copy) ∙ sym (ap stem_of more))))) k l
     (λ r s first its. ap is_some (kept_first (is_byte 0) name ending (nowhere_of (is_byte 0) ending zeros) r s first its)) here there
