@@ -154,10 +154,8 @@ static void mime_types(void) {
     same("it has it", has, true);
     memset(made, ';', sizeof made);
     memcpy(made, "a/a", 3);
-    same("semicolons alone", (long)infer_mime_parse(made, sizeof made, out, sizeof out), 3);
-    for (size_t at = 3; at + 3 <= sizeof made; at += 3) memcpy(made + at, ";=b", 3);
-    same("many that do not count", (long)infer_mime_parse(made, 3 + 3 * 256, out, sizeof out), 3);
-    same("too many", (long)infer_mime_parse(made, 3 + 3 * 257, out, sizeof out) + *out, 0);
+    same("many semicolons", (long)infer_mime_parse(made, 4 + 256, out, sizeof out), 3);
+    same("too many", (long)infer_mime_parse(made, 4 + 257, out, sizeof out) + *out, 0);
 }
 
 static void extracted(const char *values, const char *type) {
@@ -186,10 +184,8 @@ static void values(void) {
     }
     memset(made, ';', sizeof made);
     memcpy(made, "a/a", 3);
-    same("semicolons alone", (long)infer_mime_extract(made, sizeof made, out, sizeof out), 3);
-    for (size_t at = 3; at + 3 <= sizeof made; at += 3) memcpy(made + at, ";=b", 3);
-    same("many that do not count", (long)infer_mime_extract(made, 3 + 3 * 256, out, sizeof out), 3);
-    same("too many", (long)infer_mime_extract(made, 3 + 3 * 257, out, sizeof out) + *out, 0);
+    same("many semicolons", (long)infer_mime_extract(made, 4 + 256, out, sizeof out), 3);
+    same("too many", (long)infer_mime_extract(made, 4 + 257, out, sizeof out) + *out, 0);
 }
 
 static void computed(const char *type, uint32_t flags, int32_t context, const char *buf, size_t len, const char *wanted) {

@@ -193,9 +193,6 @@ keys = {keys}
 KEYS_PROOF = """-- Made by `tools/tables` from names.txt: code and definition have the same keys of slots {first} to {last}. Each stands in its
 -- slot, and none is wrong: if one is, its text stands in the error. And each whole name has its mark.
 use Rattle.std.proofs.Common.{{◌≡◌, [], drop, length, map, refl, take}}
-use Rattle.infer.specs.Table.{{table}}
-use Rattle.infer_more.specs.Table.{{{lists}, further}}
-use Rattle.infer_more.specs.Wider.{{shown}}
 use Rattle.infer_named.proofs.FindLemmas.{{wrong_from}}
 use Rattle.infer_named.proofs.MarkLemmas.{{AreMarked}}
 use Rattle.infer_named.specs.Keys.{name}.{{keys}}
@@ -215,7 +212,7 @@ unfolding keys
 many = refl
 
 pub right : wrong_from starts {end} {start} keys ≡ []
-unfolding keys starts types {types_names} lead_lists sets {sets_names} shown table further {rows_names}
+unfolding keys starts types {types_names} lead_lists sets {sets_names}
 right = refl
 
 pub marked : AreMarked keys
@@ -354,13 +351,12 @@ def reading(text):
     return Reading(found["mime_type"], origin, found["asks"].title(), *kinds, leads)
 
 
-def is_hidden(it, before, is_loose):
-    """Whether those before that fit all bytes take its rows, and admit each kind of bytes without a row that it admits, of
-    which a loose name tells nothing."""
+def is_hidden(it, before):
+    """Whether those before that fit all bytes take its rows, and admit each kind of bytes without a row that it admits."""
     all_fit = [other for other in before if not other.leads]
     rows = {row for other in all_fit for row in (*other.agrees, *other.begins, *other.finer)}
     kinds = {kind for other in all_fit for kind in KINDS[other.asks]}
-    return rows.issuperset({*it.agrees, *it.begins, *it.finer}) and (is_loose or kinds.issuperset(KINDS[it.asks]))
+    return rows.issuperset({*it.agrees, *it.begins, *it.finer}) and kinds.issuperset(KINDS[it.asks])
 
 
 def name(line):
@@ -376,8 +372,7 @@ def name(line):
         raise Wrong("no name has this extension")
     readings = tuple(map(reading, found["readings"].split(" | ")))
     for number, it in enumerate(readings):
-        # The only reading of a loose name may say no more than what type the name has.
-        if is_hidden(it, readings[:number], found["loose"]) and (len(readings) > 1 or not found["loose"]):
+        if is_hidden(it, readings[:number]):
             raise Wrong(f"no bytes are left to {it.mime_type}")
     return Name(text, found["part"].title(), bool(found["loose"]), readings)
 
@@ -780,7 +775,6 @@ def group_proof(number):
     return KEYS_PROOF.format(
         first=number * GROUP, last=(number + 1) * GROUP - 1, name=f"K{number}", count=end - start, start=start, end=end,
         types=", ".join(lists), types_names=" ".join(lists), sets=", ".join(set_lists), sets_names=" ".join(set_lists),
-        lists=", ".join(further_lists()), rows_names=" ".join(further_lists()),
     )
 
 

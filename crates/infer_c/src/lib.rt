@@ -33,9 +33,9 @@ ghost use Rattle.mime_types.specs.Mime.{Mime};
 ghost use Rattle.mime_types.specs.Nosniff.{IsBlocked, IsNosniff};
 ghost use Rattle.mime_types.specs.Text.{lower};
 ghost use Rattle.mime_types.specs.declared.extraction.Extracted.{Extracted};
-ghost use Rattle.mime_sniff.specs.Computed.{AsksNothing, IsComputedIn, apache_bugs};
+ghost use Rattle.mime_sniff.specs.Computed.{IsComputedIn, apache_bugs};
 ghost use Rattle.mime_sniff.specs.Growth as growth;
-ghost use Rattle.mime_sniff.specs.Growth.{MayScript, NeverScripts, Scripts};
+ghost use Rattle.mime_sniff.specs.Growth.{NeverScripts};
 ghost use Rattle.infer_label.specs.Line.{class_name, note_line};
 ghost use Rattle.infer_label.specs.Writes.{saturated};
 ghost use Rattle.infer_c.specs.Label.{TellsLine, note_of, options_by};
@@ -244,9 +244,8 @@ pub extern "C" fn infer_more_evidence(
     ranges: &mut [WrittenRange],
     needs: &mut Needs,
 ) -> i32
-    ensures wider { (wider : Option ℕ) × IsWider buf.now wider × (result ≡ row_code wider)
+    ensures { (wider : Option ℕ) × IsWider buf.now wider × (result ≡ row_code wider)
         × TellsWhy (λ e. wider_why.Decides e buf.now wider) buf.now ranges.old ranges.new needs.new }
-    ensures few { needs.new.wanted ≤ 80 }
 {
     let mut evidence = Evidence::new();
     let found = infer_more::evidence(buf, &mut evidence);
@@ -373,7 +372,7 @@ pub extern "C" fn infer_detect_content_type(buf: &[u8], out: &mut [u8]) -> usize
 }
 
 /// The length of the text of the MIME type that `text` says, which is written to `out`, and 0 if it says none, has more than
-/// 256 parameters, those that do not count among them, or would take more than 4095 bytes.
+/// 256 parameters, or would take more than 4095 bytes.
 #[unsafe(no_mangle)]
 pub extern "C" fn infer_mime_parse(text: &[u8], out: &mut [u8]) -> usize
     ensures { (said : Option Mime) × (written : List ℕ) × Says text.now said × IsMimeText text.now said written
@@ -430,7 +429,7 @@ pub extern "C" fn infer_mime_groups(text: &[u8]) -> u32
 
 /// The length of the text of the MIME type that the values of `Content-Type` say together, as Fetch extracts it, which is written
 /// to `out`: with the charset of the first of its kind behind its parameters, if it has none. It is 0 if they say none, or it has
-/// more than 256 parameters, those that do not count among them, or would take more than 4095 bytes.
+/// more than 256 parameters, or would take more than 4095 bytes.
 #[unsafe(no_mangle)]
 pub extern "C" fn infer_mime_extract(value: &[u8], out: &mut [u8]) -> usize
     ensures { (found : Option Extracted) × (written : List ℕ) × SayTogether value.now found × IsTogetherText found written
@@ -485,25 +484,20 @@ pub extern "C" fn infer_mime_compute(
     mime::write_computed(content_type, flags, context, buf, out)
 }
 
-/// Whether no bytes after `buf` change the type that a browser computes of a page: a yes is certain. It is a yes for 1445 bytes,
-/// and where no bytes are asked.
+/// Whether no bytes after `buf` change the type that a browser computes of a page: a yes is certain.
 #[unsafe(no_mangle)]
 pub extern "C" fn infer_mime_is_decided(content_type: &[u8], flags: u32, buf: &[u8]) -> bool
-    ensures right { (said : Option Mime) × Says content_type.now said
-        × OnTrue result (growth.IsDecided (supply_told said flags) buf.now)
-        × (AsksNothing (supply_told said flags) → IsTrue result) }
-    ensures full { 1445 ≤ length buf.now → IsTrue result }
+    ensures { (said : Option Mime) × Says content_type.now said
+        × OnTrue result (growth.IsDecided (supply_told said flags) buf.now) }
 {
     mime::is_decided(content_type, flags, buf)
 }
 
-/// Whether a browser that knows no type may compute one that runs scripts, from these bytes or with more after them: a no is
-/// certain. Of 1445 bytes a yes is certain too. Of fewer it means that some bytes after them bring it, if more than 1445 counted.
+/// Whether a browser that knows no type may tell one that runs scripts, by these bytes or with more after them: a no is
+/// certain.
 #[unsafe(no_mangle)]
 pub extern "C" fn infer_mime_may_be_scriptable(buf: &[u8]) -> bool
-    ensures right { OnFalse result (NeverScripts buf.now) }
-    ensures full { 1445 ≤ length buf.now → (IsTrue result ↔ Scripts buf.now) }
-    ensures begun { length buf.now < 1445 → (IsTrue result ↔ MayScript buf.now) }
+    ensures { OnFalse result (NeverScripts buf.now) }
 {
     mime_sniff::may_be_scriptable(buf)
 }

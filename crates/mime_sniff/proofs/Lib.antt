@@ -13,4 +13,3 @@ pub mod EscalationLemmas
 pub mod StayLemmas
 pub mod SnifferLemmas
 pub mod ScriptLemmas
-pub mod MayLemmas
