@@ -162,7 +162,7 @@ impl<'a> Rows<'a> {
 }
 
 /// What the first row of the text shows that is asked below the built-in answer of the buffer and accepts it, and the
-/// wider answer if there is none.
+/// wider answer if there is none. Nothing is promised of a text with a mistake: [`check`] reports it.
 ///
 /// ```
 /// let text = b"draw image/x-drawing image - 4: @0 \"DRAW\"";
@@ -181,7 +181,7 @@ pub fn get<'a>(text: &'a [u8], buf: &[u8]) -> Option<Found<'a>>
 }
 
 /// What the first row of the text shows that is asked below the built-in answer of the buffer and accepts it, and `None` if
-/// there is none. The wider answer is not asked.
+/// there is none. The wider answer is not asked. Nothing is promised of a text with a mistake.
 pub fn own<'a>(text: &'a [u8], buf: &[u8]) -> Option<Found<'a>>
     ensures { (rows : List Row) → rows_of text.now ≡ Some rows
         → IsOwnAnswer rows buf.now (option_map found_shows result) }
@@ -191,7 +191,7 @@ pub fn own<'a>(text: &'a [u8], buf: &[u8]) -> Option<Found<'a>>
 }
 
 /// The number, from 1, of the line whose type [`get`] answers, and `None` if no line's type is the answer, so that the
-/// wider answer is.
+/// wider answer is. Nothing is promised of a text with a mistake.
 pub fn answer_line(text: &[u8], buf: &[u8]) -> Option<usize>
     ensures { IsTrue (is_some (rows_of text.now)) → IsAnswerLine text.now buf.now result }
 {

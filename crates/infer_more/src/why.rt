@@ -1,8 +1,8 @@
 //! The bytes of a buffer that decide its wider answer.
-ghost use Rattle.std.specs.Prelude.{◌≡◌, ◌↔◌, ◌+◌, ◌<◌, All, Any, IfSome, IsTrue, Some, false, slice_get};
+ghost use Rattle.std.specs.Prelude.{◌≡◌, ◌↔◌, ◌+◌, ◌<◌, ◌≤◌, ℕ, List, All, Any, IfSome, IsTrue, Some, false, slice_get};
 ghost use Rattle.infer.specs.First.{IsFirstOf};
 ghost use Rattle.infer.specs.declared.table.rows.TheConstants.{ROW_COUNT};
-ghost use Rattle.infer_evidence.specs.Evidence.{IsOf};
+ghost use Rattle.infer_evidence.specs.Evidence.{AgreesOn, IsOf};
 ghost use Rattle.infer_notation.specs.Alternative.{Accepted};
 ghost use Rattle.infer_more.specs.Index.{FindsBelow, ascends, entry_row};
 ghost use Rattle.infer_more.specs.declared.index.Below.TheVariants as ways;
@@ -24,7 +24,7 @@ use crate::open::may_become_accepted;
 use crate::signature;
 use infer::rows::{ROW_COUNT, numbers as law_numbers};
 use infer_evidence::{
-    AsPart, Evidence, Part, Range, Set, Told, accept, fits, refuse, shortest_front,
+    AsPart, Evidence, MOST_RANGES, Part, Range, Set, Told, accept, fits, refuse, shortest_front,
 };
 
 impl AsPart for Piece {
@@ -309,18 +309,30 @@ fn may_widen(parent: Option<usize>) -> bool
     }
 }
 
-/// The number of the wider answer of `buf`, as [`position`](crate::position) answers, and what decides it: the bytes of
-/// ranges, and what is needed of the length. Every buffer with the same bytes in these ranges and such a length has the same
-/// answer, unless more ranges are wanted than there is room for.
+/// Asks for the whole buffer, and for nothing else.
+fn ask_whole(buf: &[u8], evidence: &mut Evidence)
+    ensures decides { (c : List ℕ) → AgreesOn evidence.new buf.now c → c ≡ buf.now }
+    ensures inside { IsOf evidence.new buf.now }
+    ensures few { evidence.new.count ≤ 1 }
+{
+    evidence.clear();
+    evidence.ask_held(Range::new(0, buf.len(), None));
+    evidence.ask_exact();
+}
+
+/// The number of the wider answer of `buf`, as [`position`](crate::position) answers, and what decides it: the bytes of at
+/// most [`MOST_RANGES`](infer_evidence::MOST_RANGES) ranges, and what is needed of the length. Every buffer with the same
+/// bytes in these ranges and such a length has the same answer.
 ///
 /// The built-in answer accepts by its bytes too. A further row that asks for bytes at fixed places has those, or one that is
 /// another. Of every other row they are the shortest front that tells, and the whole buffer if more bytes may always change
-/// it, as of text.
+/// it, as of text. Where more ranges are wanted than there is room for, there is one range: the whole buffer.
 pub fn evidence(buf: &[u8], evidence: &mut Evidence) -> Option<usize>
     ensures wider { IsWider buf.now result }
     ensures bound { IfSome result (λ i. i < ROW_COUNT + FURTHER_COUNT) }
     ensures decides { Decides evidence.new buf.now result }
     ensures inside { IsOf evidence.new buf.now }
+    ensures few { evidence.new.count ≤ 80 }
 {
     law_numbers();
     let parent = infer::evidence(buf, evidence);
@@ -328,7 +340,11 @@ pub fn evidence(buf: &[u8], evidence: &mut Evidence) -> Option<usize>
     if !may_widen(parent) {
         return parent;
     }
-    match widen_any(parent, buf, evidence) {
+    let found = widen_any(parent, buf, evidence);
+    if evidence.wanted() > MOST_RANGES {
+        ask_whole(buf, evidence);
+    }
+    match found {
         Some(i) => Some(ROW_COUNT + i),
         None => parent,
     }

@@ -8,23 +8,23 @@ use Rattle.std.specs.Prelude.{nat_lt}
 use Rattle.std.specs.Str.{bytes_eq}
 use Rattle.infer_named.specs.Names.{copy_length, ends_copy, ends_in, small}
 
-module _ (base : List ℕ) (off : ends_copy (to_ascii_lowercase (get_or base (length base - 1) 0)) ≡ false) where
-  -- the last byte of the base in small letters is that of its ending
-  last_is : (ending : List ℕ) → 0 < length ending → ends_in base ending ≡ true
-      → to_ascii_lowercase (get_or base (length base - 1) 0) ≡ get_or ending (length ending - 1) 0
-  last_is ending some is =
-      let from = length base - length ending in
-      let parts = and_parts (nat_lt (length ending) (length base)) (bytes_eq (small (drop from base)) ending) is in
-      let long : length ending < length base = ltb-true _ _ parts.0 in
-      let same : small (drop from base) ≡ ending = (bytes_eq-Decides (small (drop from base)) ending).0 parts.1 in
-      let rest : length (drop from base) ≡ length base - from = length-drop from base in
-      let place = length ending - 1 in
-      let at : from + place ≡ length base - 1 = omega arith in
-      ap to_ascii_lowercase (ap (λ i. get_or base i 0) (sym at) ∙ sym (get_or-drop from base place 0))
-      ∙ (sym (get_or-map to_ascii_lowercase (drop from base) place 0 0 (omega (arith, rest))) ∙ ap (λ l. get_or l place 0) same)
+-- the last byte of a base in small letters is that of its ending
+pub last_is : (base ending : List ℕ) → 0 < length ending → ends_in base ending ≡ true
+    → to_ascii_lowercase (get_or base (length base - 1) 0) ≡ get_or ending (length ending - 1) 0
+last_is base ending some is =
+    let from = length base - length ending in
+    let parts = and_parts (nat_lt (length ending) (length base)) (bytes_eq (small (drop from base)) ending) is in
+    let long : length ending < length base = ltb-true _ _ parts.0 in
+    let same : small (drop from base) ≡ ending = (bytes_eq-Decides (small (drop from base)) ending).0 parts.1 in
+    let rest : length (drop from base) ≡ length base - from = length-drop from base in
+    let place = length ending - 1 in
+    let at : from + place ≡ length base - 1 = omega arith in
+    ap to_ascii_lowercase (ap (λ i. get_or base i 0) (sym at) ∙ sym (get_or-drop from base place 0))
+    ∙ (sym (get_or-map to_ascii_lowercase (drop from base) place 0 0 (omega (arith, rest))) ∙ ap (λ l. get_or l place 0) same)
 
+module _ (base : List ℕ) (off : ends_copy (to_ascii_lowercase (get_or base (length base - 1) 0)) ≡ false) where
   not_in : (ending : List ℕ) → 0 < length ending → ends_copy (get_or ending (length ending - 1) 0) ≡ true → ends_in base ending ≡ false
-  not_in ending some ends = false_from_ne_true _ (λ is. let on = subst (λ x. ends_copy x ≡ true) (sym (last_is ending some is)) ends in absurd (cc))
+  not_in ending some ends = false_from_ne_true _ (λ is. let on = subst (λ x. ends_copy x ≡ true) (sym (last_is base ending some is)) ends in absurd (cc))
 
   pub no_copy : copy_length base ≡ 0
   no_copy =

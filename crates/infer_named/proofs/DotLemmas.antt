@@ -13,7 +13,7 @@ use Rattle.infer_named.proofs.EdgeLemmas.{last_before}
 use Rattle.infer_named.proofs.TableLemmas.{all_right}
 use Rattle.infer_named.specs.Dots.{IsNear}
 use Rattle.infer_named.specs.Key.{Key}
-use Rattle.infer_named.specs.Laws.{are_left, has_form, has_most, has_name, is_key_byte, is_key_right, wrong_keys}
+use Rattle.infer_named.specs.Laws.{are_told, has_form, has_most, has_name, is_key_byte, is_key_right, wrong_keys}
 use Rattle.infer_named.specs.Names.{IsExtensionKey, IsLastDot, IsVersioned, entry, extension_at, is_key, same_part, small}
 use Rattle.infer_named.specs.Table.{keys}
 use Rattle.infer_named.specs.declared.table.Part.{Part}
@@ -24,7 +24,7 @@ first_right : (k : Key) (keys : List Key) → wrong_keys (k ∷ keys) ≡ [] →
 first_right k keys e = elim (cases_Bool (is_key_right k && not (list_any (is_key k.part k.text) keys))) [
   | inl on ↦ (
       let parts = and_parts (is_key_right k) (not (list_any (is_key k.part k.text) keys)) on in
-      let form = and_parts (has_form k) (has_name k.part k.text && are_left [] k.readings) parts.0 in
+      let form = and_parts (has_form k) (has_name k.part k.text && are_told k) parts.0 in
       let named = and_parts (has_most 27 k.text && list_all is_key_byte k.text && nat_le 1 (length k.readings)) (list_all (λ r. has_most 73 r.named.mime_type) k.readings) form.0 in
       let some = and_parts (has_most 27 k.text && list_all is_key_byte k.text) (nat_le 1 (length k.readings)) named.0 in
       let most = and_parts (has_most 27 k.text) (list_all is_key_byte k.text) some.0 in

@@ -18,7 +18,7 @@ use Rattle.infer_named.specs.Asks.{admits}
 use Rattle.infer_named.specs.Join.{Answer, answer, fits, is_among, join, joined_with, joined_without, of_bytes, of_name, reading_of, reading_without, takes}
 use Rattle.infer_named.specs.Key.{Key, Reading}
 use Rattle.infer_named.specs.Bytes.{HasZero, IsKind, lead_of, shown, unmarked, without_white}
-use Rattle.infer_named.specs.Laws.{AnswersLast, AnswersLastByKind, ChangesOnce, DecidedAnswersLast, KindsLast, LeadsLast, LiesStayVisible, NothingIsInvented, OnlyTheKeyCounts, OnlyThreeCount, SilenceIsExact, TheBytesWin, has_no_leads, is_silent, tells_bytes}
+use Rattle.infer_named.specs.Laws.{AnswersLast, AnswersLastByKind, ChangesOnce, DecidedAnswersLast, KindsLast, LeadStays, LeadsLast, LiesStayVisible, NothingIsInvented, OnlyTheKeyCounts, OnlyThreeCount, SilenceIsExact, TheBytesWin, has_no_lead, has_no_leads, is_silent, tells_bytes}
 use Rattle.infer_named.specs.Named.{key_of}
 use Rattle.infer_named.specs.declared.bytes.Kind.{Kind}
 use Rattle.infer_named.specs.declared.bytes.Kind.TheVariants.{Binary, Empty, Marked, Text}
@@ -305,20 +305,29 @@ kinds_last = record {
   binary = λ b more bytes h. (not_empty b more h.0, no_text_comes b more bytes h.0 h.1, zero_stays b more h.2);
 }
 
+-- a lead that stays changes nothing
+no_lead_counts : (k : Option Key) (t : Option Triple) (kind : Kind) (lead other : List ℕ) → IsTrue (has_no_lead k) → join k t kind lead ≡ join k t kind other
+no_lead_counts None t kind lead other h = refl
+no_lead_counts (Some k) t kind lead other h = any_lead k t kind lead other h
+
+same_lead : (k : Option Key) (t : Option Triple) (kind : Kind) (b more : List ℕ) → LeadStays k b → join k t kind (lead_of b) ≡ join k t kind (lead_of (b ++ more))
+same_lead k t kind b more (inl (two, apart)) = ap (join k t kind) (sym (leads_last b more two apart))
+same_lead k t kind b more (inr none) = no_lead_counts k t kind (lead_of b) (lead_of (b ++ more)) none
+
 pub answers_last : AnswersLast
-answers_last name b more n m t kind other is later f g wide wider_later two apart same =
+answers_last name renamed b more n m t kind other is later f g wide wider_later stays same =
     let w = one_wider b f.wider (Some t) f.is_wider wide in
     let v = one_wider (b ++ more) g.wider (Some t) g.is_wider wider_later in
     f.is kind is ∙ (ap (λ k. join k f.wider kind (lead_of b)) same ∙ (ap (λ o. join (key_of m) o kind (lead_of b)) w
-    ∙ (any_kind (key_of m) t kind other (lead_of b) ∙ (ap (λ l. join (key_of m) (Some t) other l) (sym (leads_last b more two apart))
+    ∙ (any_kind (key_of m) t kind other (lead_of b) ∙ (same_lead (key_of m) (Some t) other b more (subst (λ k. LeadStays k b) same stays)
     ∙ (ap (λ o. join (key_of m) o other (lead_of (b ++ more))) (sym v) ∙ sym (g.is other later))))))
 
 pub answers_last_by_kind : AnswersLastByKind
-answers_last_by_kind name b more n m o kind is later f g wide wider_later two apart same =
+answers_last_by_kind name renamed b more n m o kind is later f g wide wider_later stays same =
     let w = one_wider b f.wider o f.is_wider wide in
     let v = one_wider (b ++ more) g.wider o g.is_wider wider_later in
     f.is kind is ∙ (ap (λ k. join k f.wider kind (lead_of b)) same ∙ (ap (λ p. join (key_of m) p kind (lead_of b)) w
-    ∙ (ap (λ l. join (key_of m) o kind l) (sym (leads_last b more two apart))
+    ∙ (same_lead (key_of m) o kind b more (subst (λ k. LeadStays k b) same stays)
     ∙ (ap (λ p. join (key_of m) p kind (lead_of (b ++ more))) (sym v) ∙ sym (g.is kind later)))))
 
 -- what is no text stays of its kind, or becomes binary
@@ -335,33 +344,32 @@ kind_moves b more Marked Text bytes some marked is later = absurd (no_text_comes
 kind_moves b more Marked Binary bytes some marked is later = inr refl
 kind_moves b more Marked Marked bytes some marked is later = inl refl
 
--- bytes with a lead of two are some, and more of them are EF BB only if they are
-two_some : (b : List ℕ) → length (lead_of b) ≡ 2 → b ≢ []
-two_some [] two e = absurd (cc)
-two_some (x ∷ b) two e = absurd (cc)
-
+-- what bytes lead with stays with more of them: more than EF BB are these only if they are
 two_apart : (b more : List ℕ) → length (lead_of b) ≡ 2 → b ≢ (0xEF ∷ 0xBB ∷ []) → (b ++ more) ≢ (0xEF ∷ 0xBB ∷ [])
 two_apart [] more two apart e = absurd (cc)
 two_apart (x ∷ []) more two apart e = short_lead (has_mark (x ∷ [])) (is_wide (x ∷ [])) x two
 two_apart (x ∷ y ∷ []) more two apart e = absurd (let none : more ≡ [] = cc in apart (cc))
 two_apart (x ∷ y ∷ z ∷ rest) more two apart e = absurd (cc)
 
+stays_longer : (k : Option Key) (b more : List ℕ) → LeadStays k b → LeadStays k (b ++ more)
+stays_longer k b more (inl (two, apart)) = inl (ap length (leads_last b more two apart) ∙ two, two_apart b more two apart)
+stays_longer k b more (inr none) = inr none
+
 pub changes_once : ChangesOnce
-changes_once name b more most n m l kind other last bytes rest is later latest marked f g h wide wide_later widest two apart same again =
-    let some = two_some b two in
+changes_once name renamed again b more most n m l kind other last bytes rest is later latest marked f g h wide wide_later widest some stays same anew =
     elim (kind_moves b more kind other bytes some marked is later) [
-      | inl kept ↦ inl (answers_last_by_kind name b more n m None kind is (subst (λ k. IsKind (b ++ more) k) kept later) f g wide wide_later two apart same)
+      | inl kept ↦ inl (answers_last_by_kind name renamed b more n m None kind is (subst (λ k. IsKind (b ++ more) k) kept later) f g wide wide_later stays same)
       | inr binary ↦ (let zero : IsKind (b ++ more) Binary = subst (λ k. IsKind (b ++ more) k) binary later in
           let still : IsKind ((b ++ more) ++ most) Binary = kinds_last.binary (b ++ more) most rest zero in
-          let lead = ap length (leads_last b more two apart) ∙ two in
-          inr (answers_last_by_kind name (b ++ more) most m l None Binary zero still g h wide_later widest lead (two_apart b more two apart) again))
+          let lead = stays_longer (key_of m) b more (subst (λ k. LeadStays k b) same stays) in
+          inr (answers_last_by_kind renamed again (b ++ more) most m l None Binary zero still g h wide_later widest lead anew))
     ]
 
 pub decided_answers_last : DecidedAnswersLast
-decided_answers_last name b more n m t kind other decided buffer is later f g wide two apart same =
-    let stays : IsWiderAnswer (b ++ more) (Some t) = record {
+decided_answers_last name renamed b more n m t kind other decided buffer is later f g wide stays same =
+    let wide_later : IsWiderAnswer (b ++ more) (Some t) = record {
       number = wide.number;
       is_wider = decided more wide.number buffer wide.is_wider;
       is_shown = wide.is_shown;
     } in
-    answers_last name b more n m t kind other is later f g wide stays two apart same
+    answers_last name renamed b more n m t kind other is later f g wide wide_later stays same

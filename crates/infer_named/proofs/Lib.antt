@@ -13,6 +13,7 @@ pub mod LeastLemmas
 pub mod EndLemmas
 pub mod KindLemmas
 pub mod CopyLemmas
+pub mod SameLemmas
 pub mod MakerLemmas
 pub mod RowLemmas
 pub mod SetLemmas

@@ -48,7 +48,7 @@ unfolding shown table further packages headers markup code records archives imag
 named_3 = refl
 
 takers_4 : List ℕ
-takers_4 = 2002 ∷ 2003 ∷ 178 ∷ 565 ∷ 1062 ∷ 757 ∷ 1809 ∷ 598 ∷ 1964 ∷ 393 ∷ 433 ∷ 2103 ∷ 1753 ∷ 615 ∷ 576 ∷ 32 ∷ 45 ∷ 1067 ∷ 108 ∷ 277 ∷ 519 ∷ 496 ∷ 2267 ∷ 2218 ∷ 2307 ∷ 1537 ∷ 1311 ∷ 392 ∷ 1826 ∷ 610 ∷ 2186 ∷ 704 ∷ 556 ∷ 1252 ∷ 695 ∷ 844 ∷ 399 ∷ 399 ∷ 0 ∷ 1053 ∷ 0 ∷ 1276 ∷ 1674 ∷ 2007 ∷ 21 ∷ 1413 ∷ 692 ∷ 701 ∷ 811 ∷ 135 ∷ 104 ∷ 1514 ∷ 1292 ∷ 635 ∷ 1238 ∷ 1153 ∷ 10 ∷ 1590 ∷ 2289 ∷ 545 ∷ 1215 ∷ 879 ∷ 1548 ∷ 1289 ∷ 1303 ∷ 1900 ∷ 1565 ∷ 1565 ∷ 318 ∷ 1399 ∷ 932 ∷ 511 ∷ 1565 ∷ 2180 ∷ 1275 ∷ 200 ∷ 1565 ∷ 2160 ∷ 2050 ∷ 964 ∷ 682 ∷ 2236 ∷ 2113 ∷ 0 ∷ 1448 ∷ 730 ∷ 894 ∷ 756 ∷ 424 ∷ 295 ∷ 1639 ∷ 1304 ∷ 1424 ∷ 1609 ∷ 1373 ∷ 440 ∷ 1285 ∷ 1447 ∷ 2251 ∷ 332 ∷ 2058 ∷ 147 ∷ 1212 ∷ 672 ∷ 728 ∷ 2066 ∷ 400 ∷ 363 ∷ 325 ∷ 0 ∷ 357 ∷ 1913 ∷ 1821 ∷ 62 ∷ 1714 ∷ 620 ∷ 1144 ∷ 647 ∷ 5 ∷ 105 ∷ 1606 ∷ 1198 ∷ 1355 ∷ 1527 ∷ 650 ∷ 2091 ∷ 129 ∷ 1745 ∷ []
+takers_4 = 2002 ∷ 2003 ∷ 178 ∷ 565 ∷ 1062 ∷ 757 ∷ 1809 ∷ 598 ∷ 1964 ∷ 393 ∷ 433 ∷ 2103 ∷ 1753 ∷ 615 ∷ 576 ∷ 32 ∷ 45 ∷ 1067 ∷ 108 ∷ 277 ∷ 519 ∷ 496 ∷ 2267 ∷ 2218 ∷ 2307 ∷ 1537 ∷ 1311 ∷ 392 ∷ 1826 ∷ 610 ∷ 2186 ∷ 704 ∷ 556 ∷ 1252 ∷ 695 ∷ 844 ∷ 399 ∷ 399 ∷ 0 ∷ 1053 ∷ 0 ∷ 1276 ∷ 1674 ∷ 2007 ∷ 21 ∷ 1413 ∷ 692 ∷ 701 ∷ 811 ∷ 135 ∷ 104 ∷ 1514 ∷ 1292 ∷ 635 ∷ 1237 ∷ 1153 ∷ 10 ∷ 1590 ∷ 2289 ∷ 545 ∷ 1215 ∷ 879 ∷ 1548 ∷ 1289 ∷ 1303 ∷ 1900 ∷ 1565 ∷ 1565 ∷ 318 ∷ 1399 ∷ 932 ∷ 511 ∷ 1565 ∷ 2180 ∷ 1275 ∷ 200 ∷ 1565 ∷ 2160 ∷ 2050 ∷ 964 ∷ 682 ∷ 2236 ∷ 2113 ∷ 0 ∷ 1448 ∷ 730 ∷ 894 ∷ 756 ∷ 424 ∷ 295 ∷ 1639 ∷ 1304 ∷ 1424 ∷ 1609 ∷ 1373 ∷ 440 ∷ 1285 ∷ 1447 ∷ 2251 ∷ 332 ∷ 2058 ∷ 147 ∷ 1212 ∷ 672 ∷ 728 ∷ 2066 ∷ 400 ∷ 363 ∷ 325 ∷ 0 ∷ 357 ∷ 1913 ∷ 1821 ∷ 62 ∷ 1714 ∷ 620 ∷ 1144 ∷ 647 ∷ 5 ∷ 105 ∷ 1606 ∷ 1198 ∷ 1355 ∷ 1527 ∷ 650 ∷ 2091 ∷ 129 ∷ 1745 ∷ []
 
 named_4 : unnamed (take 128 (drop 512 shown)) takers_4 ≡ []
 unfolding shown table further packages headers markup code records archives images media late office kinds roots elements pictures rasters sounds packed disks papers stores games others scripts documents secrets bitmaps shapes chunks tunes squeezed bundles volumes assorted databases science measures prints compiled keyrings consoles shallow schemas dialects notations unheaded mended openings prefaces remarks captions headlines letters settings scores objects inner deeper farther buried texts nameless keys k0.keys k1.keys k2.keys k3.keys k4.keys k5.keys k6.keys k7.keys lead_lists sets sets_0 sets_1 sets_2 sets_3 sets_4 sets_5 sets_6 sets_7 types types_0 types_1 types_2 types_3 types_4 types_5 takers_4

@@ -76,7 +76,7 @@ types_4-listed : map type_listed (take 256 (drop 1024 TYPES)) ≡ types_4
 unfolding types_4 mime_types row_texts
 types_4-listed = refl
 
-types_5-listed : map type_listed (take 139 (drop 1280 TYPES)) ≡ types_5
+types_5-listed : map type_listed (take 138 (drop 1280 TYPES)) ≡ types_5
 unfolding types_5 mime_types row_texts
 types_5-listed = refl
 
@@ -88,7 +88,7 @@ types_listed =
     (listed_append type_listed TYPES 512 256 types_2-listed
     (listed_append type_listed TYPES 768 256 types_3-listed
     (listed_append type_listed TYPES 1024 256 types_4-listed
-    (listed_last type_listed TYPES 1280 139 refl types_5-listed)))))
+    (listed_last type_listed TYPES 1280 138 refl types_5-listed)))))
 
 sets_0-listed : map set_listed (take 128 (drop 0 SETS)) ≡ sets_0
 unfolding sets_0 ranges row_spans row_texts

@@ -10,11 +10,12 @@ use Rattle.std.specs.List.{All, find, list_any}
 use Rattle.std.specs.Option.{option_map_or, option_or}
 use Rattle.std.specs.Prelude.{nat_le, slice_index, slice_index_or}
 use Rattle.std.specs.Str.{bytes_eq}
-use Rattle.memchr.specs.Find.{IsFirstByte, IsLast, IsLastByte, Nowhere, Passes, is_byte, is_byte2}
+use Rattle.memchr.specs.Find.{IsLast, Nowhere, Passes, is_byte, is_byte2}
 use Rattle.infer_named.proofs.DotLemmas.{none_long}
+use Rattle.infer_named.proofs.SameLemmas.{nowhere_of}
 use Rattle.infer_named.proofs.TableLemmas.{all_right}
 use Rattle.infer_named.specs.Key.{Key}
-use Rattle.infer_named.specs.Laws.{EachKeyIsReached, are_left, edge_of, has_form, has_name, is_key_right, is_unversioned, last_below, last_dot, name_of, shows_extension, shows_key, wrong_keys}
+use Rattle.infer_named.specs.Laws.{EachKeyIsReached, are_told, edge_of, has_form, has_name, is_key_right, is_unversioned, last_below, last_dot, name_of, shows_extension, shows_key, wrong_keys}
 use Rattle.infer_named.specs.Names.{IsBase, IsExtensionKey, IsKey, IsStemKey, behind, copies, copy_length, ends_in, entry, extension_at, is_key, is_version, is_version_byte, same_part, small, stem_of, up_to}
 use Rattle.infer_named.specs.Table.{keys}
 use Rattle.infer_named.specs.declared.table.Part.{Part}
@@ -45,12 +46,6 @@ module _ (test : ℕ → Bool) (text : List ℕ) (i : ℕ) where
     ]
     | inr past ↦ rw past (λ k low lt here. absurd (let reached : nat_le i n ≡ true = le-leb i n (omega arith) in let wrong : true ≡ false = sym reached ∙ past in cc))
   ]
-
--- no byte passes
-nowhere_of : (test : ℕ → Bool) (text : List ℕ) → IsTrue (not (list_any test text)) → Nowhere (Passes test text) 0 (length text)
-nowhere_of test text h k low lt on =
-    let some : list_any test text ≡ true = list_any_at test text k 0 lt on in
-    absurd (let wrong : IsTrue (not true) = subst (λ b. IsTrue (not b)) some h in cc)
 
 find_nothing : {A : Type 0} (p : A → Bool) (xs : List A) → IsTrue (not (list_any p xs)) → find p xs ≡ None
 find_nothing p [] h = refl
@@ -91,8 +86,8 @@ first_key : (k : Key) (rows : List Key) → wrong_keys (k ∷ rows) ≡ []
     → IsTrue (has_name k.part k.text) × IsTrue (not (list_any (is_key k.part k.text) rows)) × (wrong_keys rows ≡ [])
 first_key k rows e = elim (cases_Bool (is_key_right k && not (list_any (is_key k.part k.text) rows))) [
   | inl on ↦ (let (right, once) = and_parts (is_key_right k) (not (list_any (is_key k.part k.text) rows)) on in
-      let parts = and_parts (has_form k) (has_name k.part k.text && are_left [] k.readings) right in
-      let later : wrong_keys rows ≡ [] = rw on at e in ((and_parts (has_name k.part k.text) (are_left [] k.readings) parts.1).0, once, later))
+      let parts = and_parts (has_form k) (has_name k.part k.text && are_told k) right in
+      let later : wrong_keys rows ≡ [] = rw on at e in ((and_parts (has_name k.part k.text) (are_told k) parts.1).0, once, later))
   | inr off ↦ absurd (let some : k.text ∷ wrong_keys rows ≡ [] = rw off at e in cc)
 ]
 

@@ -1,25 +1,24 @@
 -- Laws of names and bytes. They hold for every key, so for every table.
 use Rattle.std.specs.Prelude.{All, ◌==◌, ◌&&◌, ◌||◌, if◌then◌else◌, codes, drop, nat_le, nat_lt, slice_index, unwrap_or, zero, suc, ◌+◌, ◌≡◌, ◌≢◌, ◌↔◌, ◌⊎◌, ◌<◌, ◌++◌, ℕ, Bool, false, true, IsTrue, List, [], ◌∷◌, Option, None, Some, length, not, option_map}
-use Rattle.std.specs.List.{list_all, list_any}
+use Rattle.std.specs.List.{Contains, find, list_all, list_any}
 use Rattle.std.specs.Option.{option_map_or, option_or}
 use Rattle.std.specs.Str.{bytes_eq}
 use Rattle.memchr.specs.Find.{is_byte, is_byte2}
 use Rattle.infer.specs.Buffer.{IsBuffer}
-use Rattle.infer.specs.Triple.{Triple, triple}
-use Rattle.infer.specs.declared.table.file_type.MatcherType.TheVariants.{Custom}
+use Rattle.infer.specs.Triple.{Triple}
 use Rattle.infer_formats.specs.Text.{IsText}
 use Rattle.infer_more.specs.Decided.{IsDecided}
 use Rattle.infer_more.specs.Wider.{IsWiderAnswer, shown}
 use Rattle.infer_named.specs.Asks.{admits}
 use Rattle.infer_named.specs.Bytes.{IsKind, lead_of}
-use Rattle.infer_named.specs.Join.{answer, fits, is_among, join, of_bytes, of_name, reading_of, reading_without, takes}
+use Rattle.infer_named.specs.Join.{answer, fits, is_among, join, of_bytes, of_name, reading_of, reading_without, takes, told_by}
 use Rattle.infer_named.specs.Key.{Key, Reading}
 use Rattle.infer_named.specs.Nameless.{nameless}
-use Rattle.infer_named.specs.Names.{IsKey, behind, copies, ends_in, is_key, is_version, is_version_byte, small, up_to}
+use Rattle.infer_named.specs.Names.{IsBase, IsKey, behind, copies, copy_length, ends_in, is_key, is_version, is_version_byte, small, up_to}
 use Rattle.infer_named.specs.Table.{keys}
 use Rattle.infer_named.specs.Named.{IsNamed, answer_of, key_of}
 use Rattle.infer_named.specs.declared.bytes.Kind.{Kind}
-use Rattle.infer_named.specs.declared.bytes.Kind.TheVariants.{Binary, Empty, Marked}
+use Rattle.infer_named.specs.declared.bytes.Kind.TheVariants.{Binary, Empty, Marked, Text}
 use Rattle.infer_named.specs.declared.join.Named.{Named}
 use Rattle.infer_named.specs.declared.table.Part.{Part}
 use Rattle.infer_named.specs.declared.table.Part.TheVariants.{Extension, Whole}
@@ -87,6 +86,22 @@ OnlyTheKeyCounts =
     (name other b : List ℕ) (n m : Named) (kind : Kind) → IsKind b kind → IsNamed name b n → IsNamed other b m → key_of n ≡ key_of m
     → answer_of n ≡ answer_of m
 
+-- The case of its letters is none of the key, in any table.
+abbrev pub CaseChangesNoKey : Type 0
+CaseChangesNoKey = (table : List Key) (name other : List ℕ) (k l : Option Key) → small name ≡ small other → IsKey table name k → IsKey table other l → k ≡ l
+
+-- Nor is a folder, which ends in / or \ and has no byte 00.
+abbrev pub FoldersChangeNoKey : Type 0
+FoldersChangeNoKey =
+    (table : List Key) (folder name : List ℕ) (slash : ℕ) (k l : Option Key) → IsTrue (is_byte2 0x2F 0x5C slash) → IsTrue (not (list_any (is_byte 0) folder))
+    → IsKey table name k → IsKey table (folder ++ (slash ∷ name)) l → k ≡ l
+
+-- Nor is the ending of a copy, behind a base that has a byte and is no copy itself.
+abbrev pub CopiesChangeNoKey : Type 0
+CopiesChangeNoKey =
+    (table : List Key) (name base ending : List ℕ) (k l : Option Key) → IsTrue (list_any (bytes_eq ending) copies)
+    → IsBase name base → base ≢ [] → copy_length base ≡ 0 → IsKey table name k → IsKey table (name ++ ending) l → k ≡ l
+
 -- A lead of two bytes stays, whatever follows, but of EF BB: with BF it becomes a byte order mark.
 abbrev pub LeadsLast : Type 0
 LeadsLast = (b more : List ℕ) → length (lead_of b) ≡ 2 → b ≢ (0xEF ∷ 0xBB ∷ []) → lead_of (b ++ more) ≡ lead_of b
@@ -96,36 +111,45 @@ pub record KindsLast : Type 0 where
   pub no_text : (b more : List ℕ) → All (λ x. x < 256) more → b ≢ [] → (¬ IsText b) → ¬ IsText (b ++ more)
   pub binary : (b more : List ℕ) → All (λ x. x < 256) more → IsKind b Binary → IsKind (b ++ more) Binary
 
--- So as long as the bytes have the same type, and their lead has two bytes, what follows changes nothing.
+-- no reading of the key has leads, or there is no key
+abbrev pub has_no_lead : Option Key → Bool
+has_no_lead k = option_map_or (λ key. list_all (λ r. has_no_leads r.leads) key.readings) k true
+
+-- What follows the bytes does not change how they lead, as far as the key asks.
+abbrev pub LeadStays : Option Key → List ℕ → Type 0
+LeadStays k b = ((length (lead_of b) ≡ 2) × (b ≢ (0xEF ∷ 0xBB ∷ []))) ⊎ IsTrue (has_no_lead k)
+
+-- So as long as the bytes have the same type, and their lead stays, what follows changes nothing. Here and below the names
+-- may be others with the same key.
 abbrev pub AnswersLast : Type 0
 AnswersLast =
-    (name b more : List ℕ) (n m : Named) (t : Triple) (kind other : Kind) → IsKind b kind → IsKind (b ++ more) other
-    → IsNamed name b n → IsNamed name (b ++ more) m → IsWiderAnswer b (Some t) → IsWiderAnswer (b ++ more) (Some t)
-    → length (lead_of b) ≡ 2 → b ≢ (0xEF ∷ 0xBB ∷ []) → key_of n ≡ key_of m → answer_of n ≡ answer_of m
+    (name renamed b more : List ℕ) (n m : Named) (t : Triple) (kind other : Kind) → IsKind b kind → IsKind (b ++ more) other
+    → IsNamed name b n → IsNamed renamed (b ++ more) m → IsWiderAnswer b (Some t) → IsWiderAnswer (b ++ more) (Some t)
+    → LeadStays (key_of n) b → key_of n ≡ key_of m → answer_of n ≡ answer_of m
 
 -- While the kind stays too, that holds of bytes without a type as well.
 abbrev pub AnswersLastByKind : Type 0
 AnswersLastByKind =
-    (name b more : List ℕ) (n m : Named) (o : Option Triple) (kind : Kind) → IsKind b kind → IsKind (b ++ more) kind
-    → IsNamed name b n → IsNamed name (b ++ more) m → IsWiderAnswer b o → IsWiderAnswer (b ++ more) o
-    → length (lead_of b) ≡ 2 → b ≢ (0xEF ∷ 0xBB ∷ []) → key_of n ≡ key_of m → answer_of n ≡ answer_of m
+    (name renamed b more : List ℕ) (n m : Named) (o : Option Triple) (kind : Kind) → IsKind b kind → IsKind (b ++ more) kind
+    → IsNamed name b n → IsNamed renamed (b ++ more) m → IsWiderAnswer b o → IsWiderAnswer (b ++ more) o
+    → LeadStays (key_of n) b → key_of n ≡ key_of m → answer_of n ≡ answer_of m
 
 -- So what is no text and has no type changes its answer at most once, as its first 00 comes.
 abbrev pub ChangesOnce : Type 0
 ChangesOnce =
-    (name b more most : List ℕ) (n m l : Named) (kind other last : Kind) → All (λ x. x < 256) more → All (λ x. x < 256) most
+    (name renamed again b more most : List ℕ) (n m l : Named) (kind other last : Kind) → All (λ x. x < 256) more → All (λ x. x < 256) most
     → IsKind b kind → IsKind (b ++ more) other → IsKind ((b ++ more) ++ most) last → (¬ IsText b)
-    → IsNamed name b n → IsNamed name (b ++ more) m → IsNamed name ((b ++ more) ++ most) l
+    → IsNamed name b n → IsNamed renamed (b ++ more) m → IsNamed again ((b ++ more) ++ most) l
     → IsWiderAnswer b None → IsWiderAnswer (b ++ more) None → IsWiderAnswer ((b ++ more) ++ most) None
-    → length (lead_of b) ≡ 2 → b ≢ (0xEF ∷ 0xBB ∷ []) → key_of n ≡ key_of m → key_of m ≡ key_of l
+    → b ≢ [] → LeadStays (key_of n) b → key_of n ≡ key_of m → key_of m ≡ key_of l
     → (answer_of n ≡ answer_of m) ⊎ (answer_of m ≡ answer_of l)
 
 -- The type of bytes whose wider answer is decided stays, so the answer about them does.
 abbrev pub DecidedAnswersLast : Type 0
 DecidedAnswersLast =
-    (name b more : List ℕ) (n m : Named) (t : Triple) (kind other : Kind) → IsDecided b → IsBuffer more → IsKind b kind → IsKind (b ++ more) other
-    → IsNamed name b n → IsNamed name (b ++ more) m → IsWiderAnswer b (Some t)
-    → length (lead_of b) ≡ 2 → b ≢ (0xEF ∷ 0xBB ∷ []) → key_of n ≡ key_of m → answer_of n ≡ answer_of m
+    (name renamed b more : List ℕ) (n m : Named) (t : Triple) (kind other : Kind) → IsDecided b → IsBuffer more → IsKind b kind → IsKind (b ++ more) other
+    → IsNamed name b n → IsNamed renamed (b ++ more) m → IsWiderAnswer b (Some t)
+    → LeadStays (key_of n) b → key_of n ≡ key_of m → answer_of n ≡ answer_of m
 
 -- a byte that a key may have: a visible one of ASCII but / and \ and capital letters
 abbrev pub is_key_byte : ℕ → Bool
@@ -135,37 +159,45 @@ is_key_byte x = nat_lt 0x20 x && nat_lt x 0x7F && not (x == 0x2F) && not (x == 0
 abbrev pub has_most : ℕ → List ℕ → Bool
 has_most n text = nat_le 1 (length text) && nat_le (length text) n
 
--- the rows of a reading's sets, and a type with such a row's name
-abbrev pub rows_of : Reading → List (List ℕ)
-rows_of r = r.agrees ++ (r.begins ++ r.finer)
-
-abbrev pub type_of_row : List ℕ → Triple
-type_of_row row = triple Custom row row
+-- what the first row shows that has the text as extension or MIME type
+abbrev pub row_of : List ℕ → Option Triple
+row_of text = find (λ t. is_among t (text ∷ [])) shown
 
 -- the first text with which its files begin, if that is known
 abbrev pub first_lead : List (List ℕ) → List ℕ
 first_lead [] = []
 first_lead (lead ∷ leads) = lead
 
--- the kinds of bytes without a type
-abbrev pub kinds_without : List Kind
-kinds_without = Empty ∷ Binary ∷ Marked ∷ []
+-- whether bytes without a type may be of this kind and have this lead: they are no text, and if there are none the lead is empty
+abbrev pub may_lead : Kind → List ℕ → Bool
+may_lead Empty lead = length lead == 0
+may_lead Text lead = false
+may_lead Binary lead = true
+may_lead Marked lead = true
 
 -- the reading passes the test, and none before does
 abbrev pub is_first : (Reading → Bool) → List Reading → Reading → Bool
 is_first test before r = test r && not (list_any test before)
 
--- with a reading's first lead there are bytes of which it is the first that fits: of a kind that it admits, or of a row in its
--- sets
-abbrev pub is_left : List Reading → Reading → Bool
-is_left before r =
-    list_any (λ kind. is_first (λ e. fits (first_lead r.leads) e && admits e.asks kind) before r) kinds_without
-    || list_any (λ row. is_first (λ e. fits (first_lead r.leads) e && takes (type_of_row row) e) before r) (rows_of r)
+-- with a reading's first lead there are bytes of which it is the first that fits: without a type, of a kind that it admits, if
+-- the key is not loose; or with that of a row in its sets
+abbrev pub is_left : Bool → List Reading → Reading → Bool
+is_left is_loose before r =
+    let lead = first_lead r.leads in
+    (not is_loose && list_any (λ kind. may_lead kind lead && is_first (λ e. fits lead e && admits e.asks kind) before r) (Empty ∷ Binary ∷ Marked ∷ []))
+    || list_any (λ row. option_map_or (λ t. is_first (λ e. fits lead e && takes t e) before r) (row_of row) false) (r.agrees ++ (r.begins ++ r.finer))
 
 -- such bytes are left to each reading
-abbrev pub are_left : List Reading → List Reading → Bool
-are_left before [] = true
-are_left before (r ∷ readings) = is_left before r && are_left (before ++ (r ∷ [])) readings
+abbrev pub are_left : Bool → List Reading → List Reading → Bool
+are_left is_loose before [] = true
+are_left is_loose before (r ∷ readings) = is_left is_loose before r && are_left is_loose (before ++ (r ∷ [])) readings
+
+-- a loose key's only reading may be told of no bytes: it is the type of the name
+abbrev pub is_name_only : Key → Bool
+is_name_only k = k.is_loose && length k.readings == 1
+
+abbrev pub are_told : Key → Bool
+are_told k = are_left k.is_loose [] k.readings || is_name_only k
 
 -- the last place from i on and below n whose byte passes the test
 abbrev pub last_below : (ℕ → Bool) → List ℕ → ℕ → ℕ → Option ℕ
@@ -211,7 +243,7 @@ has_form k =
 
 -- and some name has it, and none of its readings is hidden
 abbrev pub is_key_right : Key → Bool
-is_key_right k = has_form k && (has_name k.part k.text && are_left [] k.readings)
+is_key_right k = has_form k && (has_name k.part k.text && are_told k)
 
 -- the texts of the keys that are not so, or that stand once more behind
 abbrev pub wrong_keys : List Key → List (List ℕ)
@@ -222,14 +254,25 @@ wrong_keys (k ∷ keys) = if is_key_right k && not (list_any (is_key k.part k.te
 abbrev pub KeysAreRight : Type 0
 KeysAreRight = wrong_keys keys ≡ []
 
--- No reading is hidden by those before it. Each is the one that is found of some type and lead, or of some kind and lead.
-abbrev pub IsFound : List Reading → Reading → Type 0
-IsFound readings r =
-    ((t : Triple) × (lead : List ℕ) × (reading_of readings t lead ≡ Some r))
-    ⊎ ((kind : Kind) × (lead : List ℕ) × (reading_without readings kind lead ≡ Some r))
+-- a row shows the type, and of some lead the key tells by this reading what its sets make of the type, whatever the kind is
+pub record IsToldOfRow (k : Key) (r : Reading) : Type 0 where
+  pub t : Triple
+  pub lead : List ℕ
+  pub is_shown : Contains shown t
+  pub found : reading_of k.readings t lead ≡ Some r
+  pub is : (kind : Kind) → join (Some k) (Some t) kind lead ≡ told_by r t
 
+-- bytes without a type may be of some kind and have some lead of which the key tells this reading's type, by the name alone
+pub record IsToldAlone (k : Key) (r : Reading) : Type 0 where
+  pub kind : Kind
+  pub lead : List ℕ
+  pub may_be : IsTrue (may_lead kind lead)
+  pub found : reading_without k.readings kind lead ≡ Some r
+  pub is : join (Some k) None kind lead ≡ answer NameAlone (Some (of_name r.named))
+
+-- No reading is hidden by those before it: each is told of some bytes, unless it is the only one of a loose key.
 abbrev pub EachReadingIsFound : Type 0
-EachReadingIsFound = All (λ k. All (IsFound k.readings) k.readings) keys
+EachReadingIsFound = All (λ k. All (λ r. IsToldOfRow k r ⊎ IsToldAlone k r) k.readings ⊎ IsTrue (is_name_only k)) keys
 
 -- Each key is that of some name.
 abbrev pub EachKeyIsReached : Type 0

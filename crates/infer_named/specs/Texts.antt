@@ -1,4 +1,4 @@
--- Sets of rows that many readings have.
+-- Made by `tools/tables` from names.txt: sets of rows that many readings have.
 use Rattle.std.specs.Prelude.{ℕ, List, [], ◌∷◌, codes}
 
 -- no rows

@@ -770,3494 +770,3491 @@ is-application-x-apt-cache = 254
 abbrev pub is-application-x-arb-json : ℕ
 is-application-x-arb-json = 255
 
-abbrev pub is-application-x-arc : ℕ
-is-application-x-arc = 256
-
 abbrev pub is-application-x-arj : ℕ
-is-application-x-arj = 257
+is-application-x-arj = 256
 
 abbrev pub is-application-x-asar : ℕ
-is-application-x-asar = 258
+is-application-x-asar = 257
 
 abbrev pub is-application-x-asp : ℕ
-is-application-x-asp = 259
+is-application-x-asp = 258
 
 abbrev pub is-application-x-aspx : ℕ
-is-application-x-aspx = 260
+is-application-x-aspx = 259
 
 abbrev pub is-application-x-atari-7800-rom : ℕ
-is-application-x-atari-7800-rom = 261
+is-application-x-atari-7800-rom = 260
 
 abbrev pub is-application-x-atari-lynx-rom : ℕ
-is-application-x-atari-lynx-rom = 262
+is-application-x-atari-lynx-rom = 261
 
 abbrev pub is-application-x-atari-msa : ℕ
-is-application-x-atari-msa = 263
+is-application-x-atari-msa = 262
 
 abbrev pub is-application-x-audacity-project : ℕ
-is-application-x-audacity-project = 264
+is-application-x-audacity-project = 263
 
 abbrev pub is-application-x-audacity-project-sqlite3 : ℕ
-is-application-x-audacity-project-sqlite3 = 265
+is-application-x-audacity-project-sqlite3 = 264
 
 abbrev pub is-application-x-autodesk-max : ℕ
-is-application-x-autodesk-max = 266
+is-application-x-autodesk-max = 265
 
 abbrev pub is-application-x-avro : ℕ
-is-application-x-avro = 267
+is-application-x-avro = 266
 
 abbrev pub is-application-x-avro-schema-json : ℕ
-is-application-x-avro-schema-json = 268
+is-application-x-avro-schema-json = 267
 
 abbrev pub is-application-x-bai : ℕ
-is-application-x-bai = 269
+is-application-x-bai = 268
 
 abbrev pub is-application-x-bam : ℕ
-is-application-x-bam = 270
+is-application-x-bam = 269
 
 abbrev pub is-application-x-bash : ℕ
-is-application-x-bash = 271
+is-application-x-bash = 270
 
 abbrev pub is-application-x-bcachefs : ℕ
-is-application-x-bcachefs = 272
+is-application-x-bcachefs = 271
 
 abbrev pub is-application-x-bdf : ℕ
-is-application-x-bdf = 273
+is-application-x-bdf = 272
 
 abbrev pub is-application-x-bentley-dgn : ℕ
-is-application-x-bentley-dgn = 274
+is-application-x-bentley-dgn = 273
 
 abbrev pub is-application-x-bittorrent : ℕ
-is-application-x-bittorrent = 275
+is-application-x-bittorrent = 274
 
 abbrev pub is-application-x-blender : ℕ
-is-application-x-blender = 276
+is-application-x-blender = 275
 
 abbrev pub is-application-x-blorb : ℕ
-is-application-x-blorb = 277
+is-application-x-blorb = 276
 
 abbrev pub is-application-x-bplist : ℕ
-is-application-x-bplist = 278
+is-application-x-bplist = 277
 
 abbrev pub is-application-x-bps-patch : ℕ
-is-application-x-bps-patch = 279
+is-application-x-bps-patch = 278
 
 abbrev pub is-application-x-bsdiff : ℕ
-is-application-x-bsdiff = 280
+is-application-x-bsdiff = 279
 
 abbrev pub is-application-x-bufr : ℕ
-is-application-x-bufr = 281
+is-application-x-bufr = 280
 
 abbrev pub is-application-x-build-grp : ℕ
-is-application-x-build-grp = 282
+is-application-x-build-grp = 281
 
 abbrev pub is-application-x-bzip-compressed-tar : ℕ
-is-application-x-bzip-compressed-tar = 283
+is-application-x-bzip-compressed-tar = 282
 
 abbrev pub is-application-x-bzip2 : ℕ
-is-application-x-bzip2 = 284
+is-application-x-bzip2 = 283
 
 abbrev pub is-application-x-cb7 : ℕ
-is-application-x-cb7 = 285
+is-application-x-cb7 = 284
 
 abbrev pub is-application-x-cbt : ℕ
-is-application-x-cbt = 286
+is-application-x-cbt = 285
 
 abbrev pub is-application-x-ccmx : ℕ
-is-application-x-ccmx = 287
+is-application-x-ccmx = 286
 
 abbrev pub is-application-x-cd-image : ℕ
-is-application-x-cd-image = 288
+is-application-x-cd-image = 287
 
 abbrev pub is-application-x-cdf : ℕ
-is-application-x-cdf = 289
+is-application-x-cdf = 288
 
 abbrev pub is-application-x-cdrdao-toc : ℕ
-is-application-x-cdrdao-toc = 290
+is-application-x-cdrdao-toc = 289
 
 abbrev pub is-application-x-cern-root : ℕ
-is-application-x-cern-root = 291
+is-application-x-cern-root = 290
 
 abbrev pub is-application-x-cisco-vpn-settings : ℕ
-is-application-x-cisco-vpn-settings = 292
+is-application-x-cisco-vpn-settings = 291
 
 abbrev pub is-application-x-clang-pch : ℕ
-is-application-x-clang-pch = 293
+is-application-x-clang-pch = 292
 
 abbrev pub is-application-x-cmi : ℕ
-is-application-x-cmi = 294
+is-application-x-cmi = 293
 
 abbrev pub is-application-x-com-executable : ℕ
-is-application-x-com-executable = 295
+is-application-x-com-executable = 294
 
 abbrev pub is-application-x-compress : ℕ
-is-application-x-compress = 296
+is-application-x-compress = 295
 
 abbrev pub is-application-x-compressed-iso : ℕ
-is-application-x-compressed-iso = 297
+is-application-x-compressed-iso = 296
 
 abbrev pub is-application-x-compressed-tar : ℕ
-is-application-x-compressed-tar = 298
+is-application-x-compressed-tar = 297
 
 abbrev pub is-application-x-core : ℕ
-is-application-x-core = 299
+is-application-x-core = 298
 
 abbrev pub is-application-x-corelpresentations : ℕ
-is-application-x-corelpresentations = 300
+is-application-x-corelpresentations = 299
 
 abbrev pub is-application-x-cpio : ℕ
-is-application-x-cpio = 301
+is-application-x-cpio = 300
 
 abbrev pub is-application-x-cram : ℕ
-is-application-x-cram = 302
+is-application-x-cram = 301
 
 abbrev pub is-application-x-cramfs : ℕ
-is-application-x-cramfs = 303
+is-application-x-cramfs = 302
 
 abbrev pub is-application-x-csh : ℕ
-is-application-x-csh = 304
+is-application-x-csh = 303
 
 abbrev pub is-application-x-csi : ℕ
-is-application-x-csi = 305
+is-application-x-csi = 304
 
 abbrev pub is-application-x-cubin : ℕ
-is-application-x-cubin = 306
+is-application-x-cubin = 305
 
 abbrev pub is-application-x-cue : ℕ
-is-application-x-cue = 307
+is-application-x-cue = 306
 
 abbrev pub is-application-x-dar : ℕ
-is-application-x-dar = 308
+is-application-x-dar = 307
 
 abbrev pub is-application-x-dbm : ℕ
-is-application-x-dbm = 309
+is-application-x-dbm = 308
 
 abbrev pub is-application-x-designer : ℕ
-is-application-x-designer = 310
+is-application-x-designer = 309
 
 abbrev pub is-application-x-desktop : ℕ
-is-application-x-desktop = 311
+is-application-x-desktop = 310
 
 abbrev pub is-application-x-devhelp-xml : ℕ
-is-application-x-devhelp-xml = 312
+is-application-x-devhelp-xml = 311
 
 abbrev pub is-application-x-device-tree-blob : ℕ
-is-application-x-device-tree-blob = 313
+is-application-x-device-tree-blob = 312
 
 abbrev pub is-application-x-dfont : ℕ
-is-application-x-dfont = 314
+is-application-x-dfont = 313
 
 abbrev pub is-application-x-dia-diagram : ℕ
-is-application-x-dia-diagram = 315
+is-application-x-dia-diagram = 314
 
 abbrev pub is-application-x-dia-shape : ℕ
-is-application-x-dia-shape = 316
+is-application-x-dia-shape = 315
 
 abbrev pub is-application-x-dictzip : ℕ
-is-application-x-dictzip = 317
+is-application-x-dictzip = 316
 
 abbrev pub is-application-x-dif : ℕ
-is-application-x-dif = 318
+is-application-x-dif = 317
 
 abbrev pub is-application-x-director : ℕ
-is-application-x-director = 319
+is-application-x-director = 318
 
 abbrev pub is-application-x-dmp : ℕ
-is-application-x-dmp = 320
+is-application-x-dmp = 319
 
 abbrev pub is-application-x-docbook-xml : ℕ
-is-application-x-docbook-xml = 321
+is-application-x-docbook-xml = 320
 
 abbrev pub is-application-x-doom-wad : ℕ
-is-application-x-doom-wad = 322
+is-application-x-doom-wad = 321
 
 abbrev pub is-application-x-drawio-xml : ℕ
-is-application-x-drawio-xml = 323
+is-application-x-drawio-xml = 322
 
 abbrev pub is-application-x-dtb : ℕ
-is-application-x-dtb = 324
+is-application-x-dtb = 323
 
 abbrev pub is-application-x-dtbncx-xml : ℕ
-is-application-x-dtbncx-xml = 325
+is-application-x-dtbncx-xml = 324
 
 abbrev pub is-application-x-dvi : ℕ
-is-application-x-dvi = 326
+is-application-x-dvi = 325
 
 abbrev pub is-application-x-eclipse-xml : ℕ
-is-application-x-eclipse-xml = 327
+is-application-x-eclipse-xml = 326
 
 abbrev pub is-application-x-edf : ℕ
-is-application-x-edf = 328
+is-application-x-edf = 327
 
 abbrev pub is-application-x-edid-dump : ℕ
-is-application-x-edid-dump = 329
+is-application-x-edid-dump = 328
 
 abbrev pub is-application-x-eet : ℕ
-is-application-x-eet = 330
+is-application-x-eet = 329
 
 abbrev pub is-application-x-egg : ℕ
-is-application-x-egg = 331
+is-application-x-egg = 330
 
 abbrev pub is-application-x-elc : ℕ
-is-application-x-elc = 332
+is-application-x-elc = 331
 
 abbrev pub is-application-x-emz : ℕ
-is-application-x-emz = 333
+is-application-x-emz = 332
 
 abbrev pub is-application-x-entitlements : ℕ
-is-application-x-entitlements = 334
+is-application-x-entitlements = 333
 
 abbrev pub is-application-x-erb : ℕ
-is-application-x-erb = 335
+is-application-x-erb = 334
 
 abbrev pub is-application-x-erlang-beam : ℕ
-is-application-x-erlang-beam = 336
+is-application-x-erlang-beam = 335
 
 abbrev pub is-application-x-executable-as-row-elf : ℕ
-is-application-x-executable-as-row-elf = 337
+is-application-x-executable-as-row-elf = 336
 
 abbrev pub is-application-x-executable-as-row-obj : ℕ
-is-application-x-executable-as-row-obj = 338
+is-application-x-executable-as-row-obj = 337
 
 abbrev pub is-application-x-ext-filesystem : ℕ
-is-application-x-ext-filesystem = 339
+is-application-x-ext-filesystem = 338
 
 abbrev pub is-application-x-fbx : ℕ
-is-application-x-fbx = 340
+is-application-x-fbx = 339
 
 abbrev pub is-application-x-fds-disk : ℕ
-is-application-x-fds-disk = 341
+is-application-x-fds-disk = 340
 
 abbrev pub is-application-x-fictionbook-xml : ℕ
-is-application-x-fictionbook-xml = 342
+is-application-x-fictionbook-xml = 341
 
 abbrev pub is-application-x-fishscript : ℕ
-is-application-x-fishscript = 343
+is-application-x-fishscript = 342
 
 abbrev pub is-application-x-flash-authoring : ℕ
-is-application-x-flash-authoring = 344
+is-application-x-flash-authoring = 343
 
 abbrev pub is-application-x-fluid : ℕ
-is-application-x-fluid = 345
+is-application-x-fluid = 344
 
 abbrev pub is-application-x-font-afm : ℕ
-is-application-x-font-afm = 346
+is-application-x-font-afm = 345
 
 abbrev pub is-application-x-font-bdf : ℕ
-is-application-x-font-bdf = 347
+is-application-x-font-bdf = 346
 
 abbrev pub is-application-x-font-linux-psf : ℕ
-is-application-x-font-linux-psf = 348
+is-application-x-font-linux-psf = 347
 
 abbrev pub is-application-x-font-pcf : ℕ
-is-application-x-font-pcf = 349
+is-application-x-font-pcf = 348
 
 abbrev pub is-application-x-font-pf2 : ℕ
-is-application-x-font-pf2 = 350
+is-application-x-font-pf2 = 349
 
 abbrev pub is-application-x-font-speedo : ℕ
-is-application-x-font-speedo = 351
+is-application-x-font-speedo = 350
 
 abbrev pub is-application-x-font-ttx : ℕ
-is-application-x-font-ttx = 352
+is-application-x-font-ttx = 351
 
 abbrev pub is-application-x-font-type1 : ℕ
-is-application-x-font-type1 = 353
+is-application-x-font-type1 = 352
 
 abbrev pub is-application-x-fontconfig-cache : ℕ
-is-application-x-fontconfig-cache = 354
+is-application-x-fontconfig-cache = 353
 
 abbrev pub is-application-x-freecad : ℕ
-is-application-x-freecad = 355
+is-application-x-freecad = 354
 
 abbrev pub is-application-x-freemind : ℕ
-is-application-x-freemind = 356
+is-application-x-freemind = 355
 
 abbrev pub is-application-x-g64-disk : ℕ
-is-application-x-g64-disk = 357
+is-application-x-g64-disk = 356
 
 abbrev pub is-application-x-gameboy-color-rom : ℕ
-is-application-x-gameboy-color-rom = 358
+is-application-x-gameboy-color-rom = 357
 
 abbrev pub is-application-x-gameboy-rom : ℕ
-is-application-x-gameboy-rom = 359
+is-application-x-gameboy-rom = 358
 
 abbrev pub is-application-x-gamecube-rom : ℕ
-is-application-x-gamecube-rom = 360
+is-application-x-gamecube-rom = 359
 
 abbrev pub is-application-x-gamegear-rom : ℕ
-is-application-x-gamegear-rom = 361
+is-application-x-gamegear-rom = 360
 
 abbrev pub is-application-x-gba-rom-as-known : ℕ
-is-application-x-gba-rom-as-known = 362
+is-application-x-gba-rom-as-known = 361
 
 abbrev pub is-application-x-gba-rom-as-row-gba : ℕ
-is-application-x-gba-rom-as-row-gba = 363
+is-application-x-gba-rom-as-row-gba = 362
 
 abbrev pub is-application-x-gcc-pch : ℕ
-is-application-x-gcc-pch = 364
+is-application-x-gcc-pch = 363
 
 abbrev pub is-application-x-gconv-cache : ℕ
-is-application-x-gconv-cache = 365
+is-application-x-gconv-cache = 364
 
 abbrev pub is-application-x-gcov-data : ℕ
-is-application-x-gcov-data = 366
+is-application-x-gcov-data = 365
 
 abbrev pub is-application-x-gcov-notes : ℕ
-is-application-x-gcov-notes = 367
+is-application-x-gcov-notes = 366
 
 abbrev pub is-application-x-gdbm : ℕ
-is-application-x-gdbm = 368
+is-application-x-gdbm = 367
 
 abbrev pub is-application-x-gdf : ℕ
-is-application-x-gdf = 369
+is-application-x-gdf = 368
 
 abbrev pub is-application-x-gds : ℕ
-is-application-x-gds = 370
+is-application-x-gds = 369
 
 abbrev pub is-application-x-gdscript : ℕ
-is-application-x-gdscript = 371
+is-application-x-gdscript = 370
 
 abbrev pub is-application-x-genesis-32x-rom : ℕ
-is-application-x-genesis-32x-rom = 372
+is-application-x-genesis-32x-rom = 371
 
 abbrev pub is-application-x-genesis-rom-as-known : ℕ
-is-application-x-genesis-rom-as-known = 373
+is-application-x-genesis-rom-as-known = 372
 
 abbrev pub is-application-x-genesis-rom-as-row-md : ℕ
-is-application-x-genesis-rom-as-row-md = 374
+is-application-x-genesis-rom-as-row-md = 373
 
 abbrev pub is-application-x-gettext-translation : ℕ
-is-application-x-gettext-translation = 375
+is-application-x-gettext-translation = 374
 
 abbrev pub is-application-x-gguf : ℕ
-is-application-x-gguf = 376
+is-application-x-gguf = 375
 
 abbrev pub is-application-x-ghc-interface : ℕ
-is-application-x-ghc-interface = 377
+is-application-x-ghc-interface = 376
 
 abbrev pub is-application-x-gir-xml : ℕ
-is-application-x-gir-xml = 378
+is-application-x-gir-xml = 377
 
 abbrev pub is-application-x-gir-typelib : ℕ
-is-application-x-gir-typelib = 379
+is-application-x-gir-typelib = 378
 
 abbrev pub is-application-x-git : ℕ
-is-application-x-git = 380
+is-application-x-git = 379
 
 abbrev pub is-application-x-git-bundle : ℕ
-is-application-x-git-bundle = 381
+is-application-x-git-bundle = 380
 
 abbrev pub is-application-x-git-index : ℕ
-is-application-x-git-index = 382
+is-application-x-git-index = 381
 
 abbrev pub is-application-x-git-pack-index : ℕ
-is-application-x-git-pack-index = 383
+is-application-x-git-pack-index = 382
 
 abbrev pub is-application-x-glade : ℕ
-is-application-x-glade = 384
+is-application-x-glade = 383
 
 abbrev pub is-application-x-glibc-locale-archive : ℕ
-is-application-x-glibc-locale-archive = 385
+is-application-x-glibc-locale-archive = 384
 
 abbrev pub is-application-x-glulx : ℕ
-is-application-x-glulx = 386
+is-application-x-glulx = 385
 
 abbrev pub is-application-x-gnucash : ℕ
-is-application-x-gnucash = 387
+is-application-x-gnucash = 386
 
 abbrev pub is-application-x-gnumeric : ℕ
-is-application-x-gnumeric = 388
+is-application-x-gnumeric = 387
 
 abbrev pub is-application-x-gnupg-keybox : ℕ
-is-application-x-gnupg-keybox = 389
+is-application-x-gnupg-keybox = 388
 
 abbrev pub is-application-x-gnupg-private-key : ℕ
-is-application-x-gnupg-private-key = 390
+is-application-x-gnupg-private-key = 389
 
 abbrev pub is-application-x-gnupg-trustdb : ℕ
-is-application-x-gnupg-trustdb = 391
+is-application-x-gnupg-trustdb = 390
 
 abbrev pub is-application-x-gnuplot : ℕ
-is-application-x-gnuplot = 392
+is-application-x-gnuplot = 391
 
 abbrev pub is-application-x-go-object : ℕ
-is-application-x-go-object = 393
+is-application-x-go-object = 392
 
 abbrev pub is-application-x-go-sgf : ℕ
-is-application-x-go-sgf = 394
+is-application-x-go-sgf = 393
 
 abbrev pub is-application-x-godot-package : ℕ
-is-application-x-godot-package = 395
+is-application-x-godot-package = 394
 
 abbrev pub is-application-x-godot-resource : ℕ
-is-application-x-godot-resource = 396
+is-application-x-godot-resource = 395
 
 abbrev pub is-application-x-godot-scene : ℕ
-is-application-x-godot-scene = 397
+is-application-x-godot-scene = 396
 
 abbrev pub is-application-x-google-chrome-extension : ℕ
-is-application-x-google-chrome-extension = 398
+is-application-x-google-chrome-extension = 397
 
 abbrev pub is-application-x-grib : ℕ
-is-application-x-grib = 399
+is-application-x-grib = 398
 
 abbrev pub is-application-x-grib2 : ℕ
-is-application-x-grib2 = 400
+is-application-x-grib2 = 399
 
 abbrev pub is-application-x-grub-keyboard : ℕ
-is-application-x-grub-keyboard = 401
+is-application-x-grub-keyboard = 400
 
 abbrev pub is-application-x-gschema-xml : ℕ
-is-application-x-gschema-xml = 402
+is-application-x-gschema-xml = 401
 
 abbrev pub is-application-x-gschema-compiled : ℕ
-is-application-x-gschema-compiled = 403
+is-application-x-gschema-compiled = 402
 
 abbrev pub is-application-x-gtk-builder : ℕ
-is-application-x-gtk-builder = 404
+is-application-x-gtk-builder = 403
 
 abbrev pub is-application-x-guitar-pro : ℕ
-is-application-x-guitar-pro = 405
+is-application-x-guitar-pro = 404
 
 abbrev pub is-application-x-gvdb : ℕ
-is-application-x-gvdb = 406
+is-application-x-gvdb = 405
 
 abbrev pub is-application-x-har-json : ℕ
-is-application-x-har-json = 407
+is-application-x-har-json = 406
 
 abbrev pub is-application-x-haskell-interface : ℕ
-is-application-x-haskell-interface = 408
+is-application-x-haskell-interface = 407
 
 abbrev pub is-application-x-hdf : ℕ
-is-application-x-hdf = 409
+is-application-x-hdf = 408
 
 abbrev pub is-application-x-hdf5 : ℕ
-is-application-x-hdf5 = 410
+is-application-x-hdf5 = 409
 
 abbrev pub is-application-x-hfe-floppy-image : ℕ
-is-application-x-hfe-floppy-image = 411
+is-application-x-hfe-floppy-image = 410
 
 abbrev pub is-application-x-hg-bundle : ℕ
-is-application-x-hg-bundle = 412
+is-application-x-hg-bundle = 411
 
 abbrev pub is-application-x-hwp : ℕ
-is-application-x-hwp = 413
+is-application-x-hwp = 412
 
 abbrev pub is-application-x-hwpx : ℕ
-is-application-x-hwpx = 414
+is-application-x-hwpx = 413
 
 abbrev pub is-application-x-hxml : ℕ
-is-application-x-hxml = 415
+is-application-x-hxml = 414
 
 abbrev pub is-application-x-ia-arc : ℕ
-is-application-x-ia-arc = 416
+is-application-x-ia-arc = 415
 
 abbrev pub is-application-x-icu-data : ℕ
-is-application-x-icu-data = 417
+is-application-x-icu-data = 416
 
 abbrev pub is-application-x-iff : ℕ
-is-application-x-iff = 418
+is-application-x-iff = 417
 
 abbrev pub is-application-x-indesign : ℕ
-is-application-x-indesign = 419
+is-application-x-indesign = 418
 
 abbrev pub is-application-x-innodb : ℕ
-is-application-x-innodb = 420
+is-application-x-innodb = 419
 
 abbrev pub is-application-x-innosetup : ℕ
-is-application-x-innosetup = 421
+is-application-x-innosetup = 420
 
 abbrev pub is-application-x-intel-aml : ℕ
-is-application-x-intel-aml = 422
+is-application-x-intel-aml = 421
 
 abbrev pub is-application-x-intellij-xml : ℕ
-is-application-x-intellij-xml = 423
+is-application-x-intellij-xml = 422
 
 abbrev pub is-application-x-ios-app : ℕ
-is-application-x-ios-app = 424
+is-application-x-ios-app = 423
 
 abbrev pub is-application-x-ips-patch : ℕ
-is-application-x-ips-patch = 425
+is-application-x-ips-patch = 424
 
 abbrev pub is-application-x-ipynb-json : ℕ
-is-application-x-ipynb-json = 426
+is-application-x-ipynb-json = 425
 
 abbrev pub is-application-x-it87 : ℕ
-is-application-x-it87 = 427
+is-application-x-it87 = 426
 
 abbrev pub is-application-x-jasper-xml : ℕ
-is-application-x-jasper-xml = 428
+is-application-x-jasper-xml = 427
 
 abbrev pub is-application-x-java-enterprise-archive : ℕ
-is-application-x-java-enterprise-archive = 429
+is-application-x-java-enterprise-archive = 428
 
 abbrev pub is-application-x-java-flight-recording : ℕ
-is-application-x-java-flight-recording = 430
+is-application-x-java-flight-recording = 429
 
 abbrev pub is-application-x-java-hprof : ℕ
-is-application-x-java-hprof = 431
+is-application-x-java-hprof = 430
 
 abbrev pub is-application-x-java-image : ℕ
-is-application-x-java-image = 432
+is-application-x-java-image = 431
 
 abbrev pub is-application-x-java-jce-keystore : ℕ
-is-application-x-java-jce-keystore = 433
+is-application-x-java-jce-keystore = 432
 
 abbrev pub is-application-x-java-jmod : ℕ
-is-application-x-java-jmod = 434
+is-application-x-java-jmod = 433
 
 abbrev pub is-application-x-java-jnlp-file : ℕ
-is-application-x-java-jnlp-file = 435
+is-application-x-java-jnlp-file = 434
 
 abbrev pub is-application-x-java-keystore : ℕ
-is-application-x-java-keystore = 436
+is-application-x-java-keystore = 435
 
 abbrev pub is-application-x-java-pack200 : ℕ
-is-application-x-java-pack200 = 437
+is-application-x-java-pack200 = 436
 
 abbrev pub is-application-x-java-serialized-object : ℕ
-is-application-x-java-serialized-object = 438
+is-application-x-java-serialized-object = 437
 
 abbrev pub is-application-x-java-web-archive : ℕ
-is-application-x-java-web-archive = 439
+is-application-x-java-web-archive = 438
 
 abbrev pub is-application-x-jffs2 : ℕ
-is-application-x-jffs2 = 440
+is-application-x-jffs2 = 439
 
 abbrev pub is-application-x-jfs-filesystem : ℕ
-is-application-x-jfs-filesystem = 441
+is-application-x-jfs-filesystem = 440
 
 abbrev pub is-application-x-jmeter-xml : ℕ
-is-application-x-jmeter-xml = 442
+is-application-x-jmeter-xml = 441
 
 abbrev pub is-application-x-jsa : ℕ
-is-application-x-jsa = 443
+is-application-x-jsa = 442
 
 abbrev pub is-application-x-jsonc : ℕ
-is-application-x-jsonc = 444
+is-application-x-jsonc = 443
 
 abbrev pub is-application-x-jsp : ℕ
-is-application-x-jsp = 445
+is-application-x-jsp = 444
 
 abbrev pub is-application-x-karbon : ℕ
-is-application-x-karbon = 446
+is-application-x-karbon = 445
 
 abbrev pub is-application-x-kchart : ℕ
-is-application-x-kchart = 447
+is-application-x-kchart = 446
 
 abbrev pub is-application-x-kdenlive : ℕ
-is-application-x-kdenlive = 448
+is-application-x-kdenlive = 447
 
 abbrev pub is-application-x-kdump : ℕ
-is-application-x-kdump = 449
+is-application-x-kdump = 448
 
 abbrev pub is-application-x-keepass : ℕ
-is-application-x-keepass = 450
+is-application-x-keepass = 449
 
 abbrev pub is-application-x-keepass2 : ℕ
-is-application-x-keepass2 = 451
+is-application-x-keepass2 = 450
 
 abbrev pub is-application-x-kerberos-keytab : ℕ
-is-application-x-kerberos-keytab = 452
+is-application-x-kerberos-keytab = 451
 
 abbrev pub is-application-x-kformula : ℕ
-is-application-x-kformula = 453
+is-application-x-kformula = 452
 
 abbrev pub is-application-x-killustrator : ℕ
-is-application-x-killustrator = 454
+is-application-x-killustrator = 453
 
 abbrev pub is-application-x-kivio : ℕ
-is-application-x-kivio = 455
+is-application-x-kivio = 454
 
 abbrev pub is-application-x-kontour : ℕ
-is-application-x-kontour = 456
+is-application-x-kontour = 455
 
 abbrev pub is-application-x-kpresenter : ℕ
-is-application-x-kpresenter = 457
+is-application-x-kpresenter = 456
 
 abbrev pub is-application-x-krita : ℕ
-is-application-x-krita = 458
+is-application-x-krita = 457
 
 abbrev pub is-application-x-ksh : ℕ
-is-application-x-ksh = 459
+is-application-x-ksh = 458
 
 abbrev pub is-application-x-kspread : ℕ
-is-application-x-kspread = 460
+is-application-x-kspread = 459
 
 abbrev pub is-application-x-kword : ℕ
-is-application-x-kword = 461
+is-application-x-kword = 460
 
 abbrev pub is-application-x-ld-so-cache : ℕ
-is-application-x-ld-so-cache = 462
+is-application-x-ld-so-cache = 461
 
 abbrev pub is-application-x-ldml-xml : ℕ
-is-application-x-ldml-xml = 463
+is-application-x-ldml-xml = 462
 
 abbrev pub is-application-x-leveldb-table : ℕ
-is-application-x-leveldb-table = 464
+is-application-x-leveldb-table = 463
 
 abbrev pub is-application-x-linux-kernel-as-row-bzimage : ℕ
-is-application-x-linux-kernel-as-row-bzimage = 465
+is-application-x-linux-kernel-as-row-bzimage = 464
 
 abbrev pub is-application-x-linux-kernel-as-row-zimage : ℕ
-is-application-x-linux-kernel-as-row-zimage = 466
+is-application-x-linux-kernel-as-row-zimage = 465
 
 abbrev pub is-application-x-llvm : ℕ
-is-application-x-llvm = 467
+is-application-x-llvm = 466
 
 abbrev pub is-application-x-llvm-profdata : ℕ
-is-application-x-llvm-profdata = 468
+is-application-x-llvm-profdata = 467
 
 abbrev pub is-application-x-llvm-profraw : ℕ
-is-application-x-llvm-profraw = 469
+is-application-x-llvm-profraw = 468
 
 abbrev pub is-application-x-lmdb : ℕ
-is-application-x-lmdb = 470
+is-application-x-lmdb = 469
 
 abbrev pub is-application-x-locale-archive : ℕ
-is-application-x-locale-archive = 471
+is-application-x-locale-archive = 470
 
 abbrev pub is-application-x-locate-database : ℕ
-is-application-x-locate-database = 472
+is-application-x-locate-database = 471
 
 abbrev pub is-application-x-lottie-json : ℕ
-is-application-x-lottie-json = 473
+is-application-x-lottie-json = 472
 
 abbrev pub is-application-x-lrzip : ℕ
-is-application-x-lrzip = 474
+is-application-x-lrzip = 473
 
 abbrev pub is-application-x-lua-bytecode : ℕ
-is-application-x-lua-bytecode = 475
+is-application-x-lua-bytecode = 474
 
 abbrev pub is-application-x-luks : ℕ
-is-application-x-luks = 476
+is-application-x-luks = 475
 
 abbrev pub is-application-x-lyx : ℕ
-is-application-x-lyx = 477
+is-application-x-lyx = 476
 
 abbrev pub is-application-x-lz4 : ℕ
-is-application-x-lz4 = 478
+is-application-x-lz4 = 477
 
 abbrev pub is-application-x-lz4-json : ℕ
-is-application-x-lz4-json = 479
+is-application-x-lz4-json = 478
 
 abbrev pub is-application-x-lz4-compressed-tar : ℕ
-is-application-x-lz4-compressed-tar = 480
+is-application-x-lz4-compressed-tar = 479
 
 abbrev pub is-application-x-lzfse : ℕ
-is-application-x-lzfse = 481
+is-application-x-lzfse = 480
 
 abbrev pub is-application-x-lzh-compressed : ℕ
-is-application-x-lzh-compressed = 482
+is-application-x-lzh-compressed = 481
 
 abbrev pub is-application-x-lzip : ℕ
-is-application-x-lzip = 483
+is-application-x-lzip = 482
 
 abbrev pub is-application-x-lzip-compressed-tar : ℕ
-is-application-x-lzip-compressed-tar = 484
+is-application-x-lzip-compressed-tar = 483
 
 abbrev pub is-application-x-lzma : ℕ
-is-application-x-lzma = 485
+is-application-x-lzma = 484
 
 abbrev pub is-application-x-lzma-compressed-tar : ℕ
-is-application-x-lzma-compressed-tar = 486
+is-application-x-lzma-compressed-tar = 485
 
 abbrev pub is-application-x-lzop : ℕ
-is-application-x-lzop = 487
+is-application-x-lzop = 486
 
 abbrev pub is-application-x-m4 : ℕ
-is-application-x-m4 = 488
+is-application-x-m4 = 487
 
 abbrev pub is-application-x-macbinary : ℕ
-is-application-x-macbinary = 489
+is-application-x-macbinary = 488
 
 abbrev pub is-application-x-mach-binary : ℕ
-is-application-x-mach-binary = 490
+is-application-x-mach-binary = 489
 
 abbrev pub is-application-x-magic-database : ℕ
-is-application-x-magic-database = 491
+is-application-x-magic-database = 490
 
 abbrev pub is-application-x-mame-chd : ℕ
-is-application-x-mame-chd = 492
+is-application-x-mame-chd = 491
 
 abbrev pub is-application-x-matlab-data : ℕ
-is-application-x-matlab-data = 493
+is-application-x-matlab-data = 492
 
 abbrev pub is-application-x-maxis-dbpf : ℕ
-is-application-x-maxis-dbpf = 494
+is-application-x-maxis-dbpf = 493
 
 abbrev pub is-application-x-maya-binary : ℕ
-is-application-x-maya-binary = 495
+is-application-x-maya-binary = 494
 
 abbrev pub is-application-x-md-raid : ℕ
-is-application-x-md-raid = 496
+is-application-x-md-raid = 495
 
 abbrev pub is-application-x-mimecache : ℕ
-is-application-x-mimecache = 497
+is-application-x-mimecache = 496
 
 abbrev pub is-application-x-minecraft-world : ℕ
-is-application-x-minecraft-world = 498
+is-application-x-minecraft-world = 497
 
 abbrev pub is-application-x-minisign : ℕ
-is-application-x-minisign = 499
+is-application-x-minisign = 498
 
 abbrev pub is-application-x-mobipocket-ebook : ℕ
-is-application-x-mobipocket-ebook = 500
+is-application-x-mobipocket-ebook = 499
 
 abbrev pub is-application-x-monotone-database : ℕ
-is-application-x-monotone-database = 501
+is-application-x-monotone-database = 500
 
 abbrev pub is-application-x-mpq : ℕ
-is-application-x-mpq = 502
+is-application-x-mpq = 501
 
 abbrev pub is-application-x-ms-compress-kwaj : ℕ
-is-application-x-ms-compress-kwaj = 503
+is-application-x-ms-compress-kwaj = 502
 
 abbrev pub is-application-x-ms-compress-szdd : ℕ
-is-application-x-ms-compress-szdd = 504
+is-application-x-ms-compress-szdd = 503
 
 abbrev pub is-application-x-ms-crash-dump : ℕ
-is-application-x-ms-crash-dump = 505
+is-application-x-ms-crash-dump = 504
 
 abbrev pub is-application-x-ms-evtx : ℕ
-is-application-x-ms-evtx = 506
+is-application-x-ms-evtx = 505
 
 abbrev pub is-application-x-ms-pdb : ℕ
-is-application-x-ms-pdb = 507
+is-application-x-ms-pdb = 506
 
 abbrev pub is-application-x-ms-reader : ℕ
-is-application-x-ms-reader = 508
+is-application-x-ms-reader = 507
 
 abbrev pub is-application-x-ms-registry : ℕ
-is-application-x-ms-registry = 509
+is-application-x-ms-registry = 508
 
 abbrev pub is-application-x-ms-registry-hive : ℕ
-is-application-x-ms-registry-hive = 510
+is-application-x-ms-registry-hive = 509
 
 abbrev pub is-application-x-ms-resource : ℕ
-is-application-x-ms-resource = 511
+is-application-x-ms-resource = 510
 
 abbrev pub is-application-x-ms-sdb : ℕ
-is-application-x-ms-sdb = 512
+is-application-x-ms-sdb = 511
 
 abbrev pub is-application-x-ms-sdi : ℕ
-is-application-x-ms-sdi = 513
+is-application-x-ms-sdi = 512
 
 abbrev pub is-application-x-ms-shortcut : ℕ
-is-application-x-ms-shortcut = 514
+is-application-x-ms-shortcut = 513
 
 abbrev pub is-application-x-ms-wim : ℕ
-is-application-x-ms-wim = 515
+is-application-x-ms-wim = 514
 
 abbrev pub is-application-x-msaccess-as-row-accdb : ℕ
-is-application-x-msaccess-as-row-accdb = 516
+is-application-x-msaccess-as-row-accdb = 515
 
 abbrev pub is-application-x-msaccess-as-row-mdb : ℕ
-is-application-x-msaccess-as-row-mdb = 517
+is-application-x-msaccess-as-row-mdb = 516
 
 abbrev pub is-application-x-msbuild-xml : ℕ
-is-application-x-msbuild-xml = 518
+is-application-x-msbuild-xml = 517
 
 abbrev pub is-application-x-msi : ℕ
-is-application-x-msi = 519
+is-application-x-msi = 518
 
 abbrev pub is-application-x-mswinurl : ℕ
-is-application-x-mswinurl = 520
+is-application-x-mswinurl = 519
 
 abbrev pub is-application-x-mswrite : ℕ
-is-application-x-mswrite = 521
+is-application-x-mswrite = 520
 
 abbrev pub is-application-x-musescore : ℕ
-is-application-x-musescore = 522
+is-application-x-musescore = 521
 
 abbrev pub is-application-x-musescore-xml : ℕ
-is-application-x-musescore-xml = 523
+is-application-x-musescore-xml = 522
 
 abbrev pub is-application-x-mxml : ℕ
-is-application-x-mxml = 524
+is-application-x-mxml = 523
 
 abbrev pub is-application-x-mysql-myisam : ℕ
-is-application-x-mysql-myisam = 525
+is-application-x-mysql-myisam = 524
 
 abbrev pub is-application-x-n64-rom : ℕ
-is-application-x-n64-rom = 526
+is-application-x-n64-rom = 525
 
 abbrev pub is-application-x-natvis-xml : ℕ
-is-application-x-natvis-xml = 527
+is-application-x-natvis-xml = 526
 
 abbrev pub is-application-x-navi-animation : ℕ
-is-application-x-navi-animation = 528
+is-application-x-navi-animation = 527
 
 abbrev pub is-application-x-ndjson : ℕ
-is-application-x-ndjson = 529
+is-application-x-ndjson = 528
 
 abbrev pub is-application-x-nekovm-bytecode : ℕ
-is-application-x-nekovm-bytecode = 530
+is-application-x-nekovm-bytecode = 529
 
 abbrev pub is-application-x-neo-geo-pocket-color-rom : ℕ
-is-application-x-neo-geo-pocket-color-rom = 531
+is-application-x-neo-geo-pocket-color-rom = 530
 
 abbrev pub is-application-x-neo-geo-pocket-rom : ℕ
-is-application-x-neo-geo-pocket-rom = 532
+is-application-x-neo-geo-pocket-rom = 531
 
 abbrev pub is-application-x-netcdf : ℕ
-is-application-x-netcdf = 533
+is-application-x-netcdf = 532
 
 abbrev pub is-application-x-netmon : ℕ
-is-application-x-netmon = 534
+is-application-x-netmon = 533
 
 abbrev pub is-application-x-netshow-channel : ℕ
-is-application-x-netshow-channel = 535
+is-application-x-netshow-channel = 534
 
 abbrev pub is-application-x-nintendo-3ds-executable : ℕ
-is-application-x-nintendo-3ds-executable = 536
+is-application-x-nintendo-3ds-executable = 535
 
 abbrev pub is-application-x-nintendo-3ds-rom : ℕ
-is-application-x-nintendo-3ds-rom = 537
+is-application-x-nintendo-3ds-rom = 536
 
 abbrev pub is-application-x-nintendo-ds-rom : ℕ
-is-application-x-nintendo-ds-rom = 538
+is-application-x-nintendo-ds-rom = 537
 
 abbrev pub is-application-x-nintendo-ncch : ℕ
-is-application-x-nintendo-ncch = 539
+is-application-x-nintendo-ncch = 538
 
 abbrev pub is-application-x-nintendo-nes-rom : ℕ
-is-application-x-nintendo-nes-rom = 540
+is-application-x-nintendo-nes-rom = 539
 
 abbrev pub is-application-x-nintendo-nso : ℕ
-is-application-x-nintendo-nso = 541
+is-application-x-nintendo-nso = 540
 
 abbrev pub is-application-x-npy : ℕ
-is-application-x-npy = 542
+is-application-x-npy = 541
 
 abbrev pub is-application-x-npz : ℕ
-is-application-x-npz = 543
+is-application-x-npz = 542
 
 abbrev pub is-application-x-nuget-package : ℕ
-is-application-x-nuget-package = 544
+is-application-x-nuget-package = 543
 
 abbrev pub is-application-x-nuspec-xml : ℕ
-is-application-x-nuspec-xml = 545
+is-application-x-nuspec-xml = 544
 
 abbrev pub is-application-x-nzb : ℕ
-is-application-x-nzb = 546
+is-application-x-nzb = 545
 
 abbrev pub is-application-x-object : ℕ
-is-application-x-object = 547
+is-application-x-object = 546
 
 abbrev pub is-application-x-ocaml-cma : ℕ
-is-application-x-ocaml-cma = 548
+is-application-x-ocaml-cma = 547
 
 abbrev pub is-application-x-ocaml-cmi : ℕ
-is-application-x-ocaml-cmi = 549
+is-application-x-ocaml-cmi = 548
 
 abbrev pub is-application-x-ocaml-cmo : ℕ
-is-application-x-ocaml-cmo = 550
+is-application-x-ocaml-cmo = 549
 
 abbrev pub is-application-x-ocaml-cmt : ℕ
-is-application-x-ocaml-cmt = 551
+is-application-x-ocaml-cmt = 550
 
 abbrev pub is-application-x-ocaml-cmx : ℕ
-is-application-x-ocaml-cmx = 552
+is-application-x-ocaml-cmx = 551
 
 abbrev pub is-application-x-ocaml-cmxa : ℕ
-is-application-x-ocaml-cmxa = 553
+is-application-x-ocaml-cmxa = 552
 
 abbrev pub is-application-x-openssh-private-key : ℕ
-is-application-x-openssh-private-key = 554
+is-application-x-openssh-private-key = 553
 
 abbrev pub is-application-x-openssl-encrypted : ℕ
-is-application-x-openssl-encrypted = 555
+is-application-x-openssl-encrypted = 554
 
 abbrev pub is-application-x-openzim : ℕ
-is-application-x-openzim = 556
+is-application-x-openzim = 555
 
 abbrev pub is-application-x-orc : ℕ
-is-application-x-orc = 557
+is-application-x-orc = 556
 
 abbrev pub is-application-x-os2-hlp : ℕ
-is-application-x-os2-hlp = 558
+is-application-x-os2-hlp = 557
 
 abbrev pub is-application-x-os2-inf : ℕ
-is-application-x-os2-inf = 559
+is-application-x-os2-inf = 558
 
 abbrev pub is-application-x-os2-msg : ℕ
-is-application-x-os2-msg = 560
+is-application-x-os2-msg = 559
 
 abbrev pub is-application-x-osm-pbf : ℕ
-is-application-x-osm-pbf = 561
+is-application-x-osm-pbf = 560
 
 abbrev pub is-application-x-ova : ℕ
-is-application-x-ova = 562
+is-application-x-ova = 561
 
 abbrev pub is-application-x-pak : ℕ
-is-application-x-pak = 563
+is-application-x-pak = 562
 
 abbrev pub is-application-x-par : ℕ
-is-application-x-par = 564
+is-application-x-par = 563
 
 abbrev pub is-application-x-par2 : ℕ
-is-application-x-par2 = 565
+is-application-x-par2 = 564
 
 abbrev pub is-application-x-parallels-disk : ℕ
-is-application-x-parallels-disk = 566
+is-application-x-parallels-disk = 565
 
 abbrev pub is-application-x-pascal-resource-strings-json : ℕ
-is-application-x-pascal-resource-strings-json = 567
+is-application-x-pascal-resource-strings-json = 566
 
 abbrev pub is-application-x-pascal-unit : ℕ
-is-application-x-pascal-unit = 568
+is-application-x-pascal-unit = 567
 
 abbrev pub is-application-x-pcapng : ℕ
-is-application-x-pcapng = 569
+is-application-x-pcapng = 568
 
 abbrev pub is-application-x-pef-executable : ℕ
-is-application-x-pef-executable = 570
+is-application-x-pef-executable = 569
 
 abbrev pub is-application-x-pem-key : ℕ
-is-application-x-pem-key = 571
+is-application-x-pem-key = 570
 
 abbrev pub is-application-x-perf-data : ℕ
-is-application-x-perf-data = 572
+is-application-x-perf-data = 571
 
 abbrev pub is-application-x-phylip : ℕ
-is-application-x-phylip = 573
+is-application-x-phylip = 572
 
 abbrev pub is-application-x-plist : ℕ
-is-application-x-plist = 574
+is-application-x-plist = 573
 
 abbrev pub is-application-x-ply : ℕ
-is-application-x-ply = 575
+is-application-x-ply = 574
 
 abbrev pub is-application-x-pocket-word : ℕ
-is-application-x-pocket-word = 576
+is-application-x-pocket-word = 575
 
 abbrev pub is-application-x-postgresql-dump : ℕ
-is-application-x-postgresql-dump = 577
+is-application-x-postgresql-dump = 576
 
 abbrev pub is-application-x-pov : ℕ
-is-application-x-pov = 578
+is-application-x-pov = 577
 
 abbrev pub is-application-x-powershell : ℕ
-is-application-x-powershell = 579
+is-application-x-powershell = 578
 
 abbrev pub is-application-x-ppf-patch : ℕ
-is-application-x-ppf-patch = 580
+is-application-x-ppf-patch = 579
 
 abbrev pub is-application-x-ps1xml : ℕ
-is-application-x-ps1xml = 581
+is-application-x-ps1xml = 580
 
 abbrev pub is-application-x-psx-executable : ℕ
-is-application-x-psx-executable = 582
+is-application-x-psx-executable = 581
 
 abbrev pub is-application-x-putty-private-key : ℕ
-is-application-x-putty-private-key = 583
+is-application-x-putty-private-key = 582
 
 abbrev pub is-application-x-pyspread-spreadsheet : ℕ
-is-application-x-pyspread-spreadsheet = 584
+is-application-x-pyspread-spreadsheet = 583
 
 abbrev pub is-application-x-python-bytecode : ℕ
-is-application-x-python-bytecode = 585
+is-application-x-python-bytecode = 584
 
 abbrev pub is-application-x-python-pickle : ℕ
-is-application-x-python-pickle = 586
+is-application-x-python-pickle = 585
 
 abbrev pub is-application-x-python-zipapp : ℕ
-is-application-x-python-zipapp = 587
+is-application-x-python-zipapp = 586
 
 abbrev pub is-application-x-pytorch : ℕ
-is-application-x-pytorch = 588
+is-application-x-pytorch = 587
 
 abbrev pub is-application-x-qed-disk : ℕ
-is-application-x-qed-disk = 589
+is-application-x-qed-disk = 588
 
 abbrev pub is-application-x-qemu-disk : ℕ
-is-application-x-qemu-disk = 590
+is-application-x-qemu-disk = 589
 
 abbrev pub is-application-x-qgis-project-as-own : ℕ
-is-application-x-qgis-project-as-own = 591
+is-application-x-qgis-project-as-own = 590
 
 abbrev pub is-application-x-qgis-project-as-row-qgz : ℕ
-is-application-x-qgis-project-as-row-qgz = 592
+is-application-x-qgis-project-as-row-qgz = 591
 
 abbrev pub is-application-x-qpress : ℕ
-is-application-x-qpress = 593
+is-application-x-qpress = 592
 
 abbrev pub is-application-x-qt-resource : ℕ
-is-application-x-qt-resource = 594
+is-application-x-qt-resource = 593
 
 abbrev pub is-application-x-qtiplot : ℕ
-is-application-x-qtiplot = 595
+is-application-x-qtiplot = 594
 
 abbrev pub is-application-x-quake-bsp : ℕ
-is-application-x-quake-bsp = 596
+is-application-x-quake-bsp = 595
 
 abbrev pub is-application-x-quake-model : ℕ
-is-application-x-quake-model = 597
+is-application-x-quake-model = 596
 
 abbrev pub is-application-x-quattropro : ℕ
-is-application-x-quattropro = 598
+is-application-x-quattropro = 597
 
 abbrev pub is-application-x-quicktime-media-link : ℕ
-is-application-x-quicktime-media-link = 599
+is-application-x-quicktime-media-link = 598
 
 abbrev pub is-application-x-r-data : ℕ
-is-application-x-r-data = 600
+is-application-x-r-data = 599
 
 abbrev pub is-application-x-raw-disk-image : ℕ
-is-application-x-raw-disk-image = 601
+is-application-x-raw-disk-image = 600
 
 abbrev pub is-application-x-redis-dump : ℕ
-is-application-x-redis-dump = 602
+is-application-x-redis-dump = 601
 
 abbrev pub is-application-x-resx-xml : ℕ
-is-application-x-resx-xml = 603
+is-application-x-resx-xml = 602
 
 abbrev pub is-application-x-rhino : ℕ
-is-application-x-rhino = 604
+is-application-x-rhino = 603
 
 abbrev pub is-application-x-romfs : ℕ
-is-application-x-romfs = 605
+is-application-x-romfs = 604
 
 abbrev pub is-application-x-rpm : ℕ
-is-application-x-rpm = 606
+is-application-x-rpm = 605
 
 abbrev pub is-application-x-rrd : ℕ
-is-application-x-rrd = 607
+is-application-x-rrd = 606
 
 abbrev pub is-application-x-ruby-gem : ℕ
-is-application-x-ruby-gem = 608
+is-application-x-ruby-gem = 607
 
 abbrev pub is-application-x-rust-metadata : ℕ
-is-application-x-rust-metadata = 609
+is-application-x-rust-metadata = 608
 
 abbrev pub is-application-x-rust-rlib : ℕ
-is-application-x-rust-rlib = 610
+is-application-x-rust-rlib = 609
 
 abbrev pub is-application-x-rzip : ℕ
-is-application-x-rzip = 611
+is-application-x-rzip = 610
 
 abbrev pub is-application-x-safetensors : ℕ
-is-application-x-safetensors = 612
+is-application-x-safetensors = 611
 
 abbrev pub is-application-x-sami : ℕ
-is-application-x-sami = 613
+is-application-x-sami = 612
 
 abbrev pub is-application-x-sas-data : ℕ
-is-application-x-sas-data = 614
+is-application-x-sas-data = 613
 
 abbrev pub is-application-x-scf : ℕ
-is-application-x-scf = 615
+is-application-x-scf = 614
 
 abbrev pub is-application-x-schematron-xml : ℕ
-is-application-x-schematron-xml = 616
+is-application-x-schematron-xml = 615
 
 abbrev pub is-application-x-scxml-xml : ℕ
-is-application-x-scxml-xml = 617
+is-application-x-scxml-xml = 616
 
 abbrev pub is-application-x-setupscript : ℕ
-is-application-x-setupscript = 618
+is-application-x-setupscript = 617
 
 abbrev pub is-application-x-shapefile-index : ℕ
-is-application-x-shapefile-index = 619
+is-application-x-shapefile-index = 618
 
 abbrev pub is-application-x-shar : ℕ
-is-application-x-shar = 620
+is-application-x-shar = 619
 
 abbrev pub is-application-x-shared-library-la : ℕ
-is-application-x-shared-library-la = 621
+is-application-x-shared-library-la = 620
 
 abbrev pub is-application-x-sharedlib : ℕ
-is-application-x-sharedlib = 622
+is-application-x-sharedlib = 621
 
 abbrev pub is-application-x-shockwave-flash : ℕ
-is-application-x-shockwave-flash = 623
+is-application-x-shockwave-flash = 622
 
 abbrev pub is-application-x-shorten : ℕ
-is-application-x-shorten = 624
+is-application-x-shorten = 623
 
 abbrev pub is-application-x-silverlight-app : ℕ
-is-application-x-silverlight-app = 625
+is-application-x-silverlight-app = 624
 
 abbrev pub is-application-x-sketch : ℕ
-is-application-x-sketch = 626
+is-application-x-sketch = 625
 
 abbrev pub is-application-x-sketchup : ℕ
-is-application-x-sketchup = 627
+is-application-x-sketchup = 626
 
 abbrev pub is-application-x-sms-rom : ℕ
-is-application-x-sms-rom = 628
+is-application-x-sms-rom = 627
 
 abbrev pub is-application-x-snappy-framed : ℕ
-is-application-x-snappy-framed = 629
+is-application-x-snappy-framed = 628
 
 abbrev pub is-application-x-snoop : ℕ
-is-application-x-snoop = 630
+is-application-x-snoop = 629
 
 abbrev pub is-application-x-sony-bbeb : ℕ
-is-application-x-sony-bbeb = 631
+is-application-x-sony-bbeb = 630
 
 abbrev pub is-application-x-source-rpm : ℕ
-is-application-x-source-rpm = 632
+is-application-x-source-rpm = 631
 
 abbrev pub is-application-x-spectrum-szx : ℕ
-is-application-x-spectrum-szx = 633
+is-application-x-spectrum-szx = 632
 
 abbrev pub is-application-x-spectrum-tzx : ℕ
-is-application-x-spectrum-tzx = 634
+is-application-x-spectrum-tzx = 633
 
 abbrev pub is-application-x-spirv : ℕ
-is-application-x-spirv = 635
+is-application-x-spirv = 634
 
 abbrev pub is-application-x-spss-por : ℕ
-is-application-x-spss-por = 636
+is-application-x-spss-por = 635
 
 abbrev pub is-application-x-spss-sav : ℕ
-is-application-x-spss-sav = 637
+is-application-x-spss-sav = 636
 
 abbrev pub is-application-x-sqlite2 : ℕ
-is-application-x-sqlite2 = 638
+is-application-x-sqlite2 = 637
 
 abbrev pub is-application-x-ssh-public-key : ℕ
-is-application-x-ssh-public-key = 639
+is-application-x-ssh-public-key = 638
 
 abbrev pub is-application-x-ssh1-private-key : ℕ
-is-application-x-ssh1-private-key = 640
+is-application-x-ssh1-private-key = 639
 
 abbrev pub is-application-x-stata-dta : ℕ
-is-application-x-stata-dta = 641
+is-application-x-stata-dta = 640
 
 abbrev pub is-application-x-storyboard-xml : ℕ
-is-application-x-storyboard-xml = 642
+is-application-x-storyboard-xml = 641
 
 abbrev pub is-application-x-stuffit : ℕ
-is-application-x-stuffit = 643
+is-application-x-stuffit = 642
 
 abbrev pub is-application-x-sublime-syntax : ℕ
-is-application-x-sublime-syntax = 644
+is-application-x-sublime-syntax = 643
 
 abbrev pub is-application-x-subrip : ℕ
-is-application-x-subrip = 645
+is-application-x-subrip = 644
 
 abbrev pub is-application-x-supercollider-synthdef : ℕ
-is-application-x-supercollider-synthdef = 646
+is-application-x-supercollider-synthdef = 645
 
 abbrev pub is-application-x-svn-dump : ℕ
-is-application-x-svn-dump = 647
+is-application-x-svn-dump = 646
 
 abbrev pub is-application-x-svr4-package : ℕ
-is-application-x-svr4-package = 648
+is-application-x-svr4-package = 647
 
 abbrev pub is-application-x-swap : ℕ
-is-application-x-swap = 649
+is-application-x-swap = 648
 
 abbrev pub is-application-x-swiftmodule : ℕ
-is-application-x-swiftmodule = 650
+is-application-x-swiftmodule = 649
 
 abbrev pub is-application-x-systemd-journal : ℕ
-is-application-x-systemd-journal = 651
+is-application-x-systemd-journal = 650
 
 abbrev pub is-application-x-t602 : ℕ
-is-application-x-t602 = 652
+is-application-x-t602 = 651
 
 abbrev pub is-application-x-tabix : ℕ
-is-application-x-tabix = 653
+is-application-x-tabix = 652
 
 abbrev pub is-application-x-tar : ℕ
-is-application-x-tar = 654
+is-application-x-tar = 653
 
 abbrev pub is-application-x-tarz : ℕ
-is-application-x-tarz = 655
+is-application-x-tarz = 654
 
 abbrev pub is-application-x-tdb : ℕ
-is-application-x-tdb = 656
+is-application-x-tdb = 655
 
 abbrev pub is-application-x-terminfo : ℕ
-is-application-x-terminfo = 657
+is-application-x-terminfo = 656
 
 abbrev pub is-application-x-terraform-state-json : ℕ
-is-application-x-terraform-state-json = 658
+is-application-x-terraform-state-json = 657
 
 abbrev pub is-application-x-tex-pk : ℕ
-is-application-x-tex-pk = 659
+is-application-x-tex-pk = 658
 
 abbrev pub is-application-x-tex-tfm : ℕ
-is-application-x-tex-tfm = 660
+is-application-x-tex-tfm = 659
 
 abbrev pub is-application-x-tflite : ℕ
-is-application-x-tflite = 661
+is-application-x-tflite = 660
 
 abbrev pub is-application-x-tgif : ℕ
-is-application-x-tgif = 662
+is-application-x-tgif = 661
 
 abbrev pub is-application-x-theme : ℕ
-is-application-x-theme = 663
+is-application-x-theme = 662
 
 abbrev pub is-application-x-theme-xml : ℕ
-is-application-x-theme-xml = 664
+is-application-x-theme-xml = 663
 
 abbrev pub is-application-x-thomson-sap-image : ℕ
-is-application-x-thomson-sap-image = 665
+is-application-x-thomson-sap-image = 664
 
 abbrev pub is-application-x-thumbs-db : ℕ
-is-application-x-thumbs-db = 666
+is-application-x-thumbs-db = 665
 
 abbrev pub is-application-x-tmx-xml : ℕ
-is-application-x-tmx-xml = 667
+is-application-x-tmx-xml = 666
 
 abbrev pub is-application-x-tokyocabinet-btree : ℕ
-is-application-x-tokyocabinet-btree = 668
+is-application-x-tokyocabinet-btree = 667
 
 abbrev pub is-application-x-tokyocabinet-fixed : ℕ
-is-application-x-tokyocabinet-fixed = 669
+is-application-x-tokyocabinet-fixed = 668
 
 abbrev pub is-application-x-tokyocabinet-hash : ℕ
-is-application-x-tokyocabinet-hash = 670
+is-application-x-tokyocabinet-hash = 669
 
 abbrev pub is-application-x-tokyocabinet-table : ℕ
-is-application-x-tokyocabinet-table = 671
+is-application-x-tokyocabinet-table = 670
 
 abbrev pub is-application-x-trid-trd : ℕ
-is-application-x-trid-trd = 672
+is-application-x-trid-trd = 671
 
 abbrev pub is-application-x-ubi : ℕ
-is-application-x-ubi = 673
+is-application-x-ubi = 672
 
 abbrev pub is-application-x-ubifs : ℕ
-is-application-x-ubifs = 674
+is-application-x-ubifs = 673
 
 abbrev pub is-application-x-udf-image : ℕ
-is-application-x-udf-image = 675
+is-application-x-udf-image = 674
 
 abbrev pub is-application-x-uf2 : ℕ
-is-application-x-uf2 = 676
+is-application-x-uf2 = 675
 
 abbrev pub is-application-x-uimage : ℕ
-is-application-x-uimage = 677
+is-application-x-uimage = 676
 
 abbrev pub is-application-x-unity-asmdef-json : ℕ
-is-application-x-unity-asmdef-json = 678
+is-application-x-unity-asmdef-json = 677
 
 abbrev pub is-application-x-unity-asset : ℕ
-is-application-x-unity-asset = 679
+is-application-x-unity-asset = 678
 
 abbrev pub is-application-x-unix-archive : ℕ
-is-application-x-unix-archive = 680
+is-application-x-unix-archive = 679
 
 abbrev pub is-application-x-unreal-package : ℕ
-is-application-x-unreal-package = 681
+is-application-x-unreal-package = 680
 
 abbrev pub is-application-x-uproject-json : ℕ
-is-application-x-uproject-json = 682
+is-application-x-uproject-json = 681
 
 abbrev pub is-application-x-ups-patch : ℕ
-is-application-x-ups-patch = 683
+is-application-x-ups-patch = 682
 
 abbrev pub is-application-x-urdf-xml : ℕ
-is-application-x-urdf-xml = 684
+is-application-x-urdf-xml = 683
 
 abbrev pub is-application-x-usdc : ℕ
-is-application-x-usdc = 685
+is-application-x-usdc = 684
 
 abbrev pub is-application-x-usdz : ℕ
-is-application-x-usdz = 686
+is-application-x-usdz = 685
 
 abbrev pub is-application-x-valve-pak : ℕ
-is-application-x-valve-pak = 687
+is-application-x-valve-pak = 686
 
 abbrev pub is-application-x-vcdiff : ℕ
-is-application-x-vcdiff = 688
+is-application-x-vcdiff = 687
 
 abbrev pub is-application-x-vdi-disk : ℕ
-is-application-x-vdi-disk = 689
+is-application-x-vdi-disk = 688
 
 abbrev pub is-application-x-vhd-disk : ℕ
-is-application-x-vhd-disk = 690
+is-application-x-vhd-disk = 689
 
 abbrev pub is-application-x-vhdx-disk : ℕ
-is-application-x-vhdx-disk = 691
+is-application-x-vhdx-disk = 690
 
 abbrev pub is-application-x-vim-spell : ℕ
-is-application-x-vim-spell = 692
+is-application-x-vim-spell = 691
 
 abbrev pub is-application-x-vim-swap : ℕ
-is-application-x-vim-swap = 693
+is-application-x-vim-swap = 692
 
 abbrev pub is-application-x-virtualbox-saved-state : ℕ
-is-application-x-virtualbox-saved-state = 694
+is-application-x-virtualbox-saved-state = 693
 
 abbrev pub is-application-x-vmdk-disk : ℕ
-is-application-x-vmdk-disk = 695
+is-application-x-vmdk-disk = 694
 
 abbrev pub is-application-x-wheel-zip : ℕ
-is-application-x-wheel-zip = 696
+is-application-x-wheel-zip = 695
 
 abbrev pub is-application-x-wii-rom-as-row-rvz : ℕ
-is-application-x-wii-rom-as-row-rvz = 697
+is-application-x-wii-rom-as-row-rvz = 696
 
 abbrev pub is-application-x-wii-rom-as-row-wbfs : ℕ
-is-application-x-wii-rom-as-row-wbfs = 698
+is-application-x-wii-rom-as-row-wbfs = 697
 
 abbrev pub is-application-x-wii-wad : ℕ
-is-application-x-wii-wad = 699
+is-application-x-wii-wad = 698
 
 abbrev pub is-application-x-windows-dump : ℕ
-is-application-x-windows-dump = 700
+is-application-x-windows-dump = 699
 
 abbrev pub is-application-x-wix-xml : ℕ
-is-application-x-wix-xml = 701
+is-application-x-wix-xml = 700
 
 abbrev pub is-application-x-wmz : ℕ
-is-application-x-wmz = 702
+is-application-x-wmz = 701
 
 abbrev pub is-application-x-wordperfect-wpm : ℕ
-is-application-x-wordperfect-wpm = 703
+is-application-x-wordperfect-wpm = 702
 
 abbrev pub is-application-x-x509-ca-cert-as-known : ℕ
-is-application-x-x509-ca-cert-as-known = 704
+is-application-x-x509-ca-cert-as-known = 703
 
 abbrev pub is-application-x-x509-ca-cert-as-row-der : ℕ
-is-application-x-x509-ca-cert-as-row-der = 705
+is-application-x-x509-ca-cert-as-row-der = 704
 
 abbrev pub is-application-x-x509-ca-cert-as-row-pem : ℕ
-is-application-x-x509-ca-cert-as-row-pem = 706
+is-application-x-x509-ca-cert-as-row-pem = 705
 
 abbrev pub is-application-x-xar : ℕ
-is-application-x-xar = 707
+is-application-x-xar = 706
 
 abbrev pub is-application-x-xbel : ℕ
-is-application-x-xbel = 708
+is-application-x-xbel = 707
 
 abbrev pub is-application-x-xbmc-xbt : ℕ
-is-application-x-xbmc-xbt = 709
+is-application-x-xbmc-xbt = 708
 
 abbrev pub is-application-x-xmp-xml : ℕ
-is-application-x-xmp-xml = 710
+is-application-x-xmp-xml = 709
 
 abbrev pub is-application-x-xpinstall : ℕ
-is-application-x-xpinstall = 711
+is-application-x-xpinstall = 710
 
 abbrev pub is-application-x-xz : ℕ
-is-application-x-xz = 712
+is-application-x-xz = 711
 
 abbrev pub is-application-x-xz-compressed-tar : ℕ
-is-application-x-xz-compressed-tar = 713
+is-application-x-xz-compressed-tar = 712
 
 abbrev pub is-application-x-zchunk : ℕ
-is-application-x-zchunk = 714
+is-application-x-zchunk = 713
 
 abbrev pub is-application-x-zcml : ℕ
-is-application-x-zcml = 715
+is-application-x-zcml = 714
 
 abbrev pub is-application-x-zip : ℕ
-is-application-x-zip = 716
+is-application-x-zip = 715
 
 abbrev pub is-application-x-zip-compressed-fb2 : ℕ
-is-application-x-zip-compressed-fb2 = 717
+is-application-x-zip-compressed-fb2 = 716
 
 abbrev pub is-application-x-zoo : ℕ
-is-application-x-zoo = 718
+is-application-x-zoo = 717
 
 abbrev pub is-application-x-zpaq : ℕ
-is-application-x-zpaq = 719
+is-application-x-zpaq = 718
 
 abbrev pub is-application-x-zsh : ℕ
-is-application-x-zsh = 720
+is-application-x-zsh = 719
 
 abbrev pub is-application-x-zstd-compressed-tar : ℕ
-is-application-x-zstd-compressed-tar = 721
+is-application-x-zstd-compressed-tar = 720
 
 abbrev pub is-application-xaml-xml : ℕ
-is-application-xaml-xml = 722
+is-application-xaml-xml = 721
 
 abbrev pub is-application-xhtml-xml : ℕ
-is-application-xhtml-xml = 723
+is-application-xhtml-xml = 722
 
 abbrev pub is-application-xliff-xml : ℕ
-is-application-xliff-xml = 724
+is-application-xliff-xml = 723
 
 abbrev pub is-application-xml : ℕ
-is-application-xml = 725
+is-application-xml = 724
 
 abbrev pub is-application-xml-dtd : ℕ
-is-application-xml-dtd = 726
+is-application-xml-dtd = 725
 
 abbrev pub is-application-xml-external-parsed-entity : ℕ
-is-application-xml-external-parsed-entity = 727
+is-application-xml-external-parsed-entity = 726
 
 abbrev pub is-application-xproc-xml : ℕ
-is-application-xproc-xml = 728
+is-application-xproc-xml = 727
 
 abbrev pub is-application-xquery : ℕ
-is-application-xquery = 729
+is-application-xquery = 728
 
 abbrev pub is-application-xslt-xml : ℕ
-is-application-xslt-xml = 730
+is-application-xslt-xml = 729
 
 abbrev pub is-application-xspf-xml : ℕ
-is-application-xspf-xml = 731
+is-application-xspf-xml = 730
 
 abbrev pub is-application-yaml : ℕ
-is-application-yaml = 732
+is-application-yaml = 731
 
 abbrev pub is-application-zip : ℕ
-is-application-zip = 733
+is-application-zip = 732
 
 abbrev pub is-application-zstd : ℕ
-is-application-zstd = 734
+is-application-zstd = 733
 
 abbrev pub is-audio-aac : ℕ
-is-audio-aac = 735
+is-audio-aac = 734
 
 abbrev pub is-audio-ac3 : ℕ
-is-audio-ac3 = 736
+is-audio-ac3 = 735
 
 abbrev pub is-audio-amr : ℕ
-is-audio-amr = 737
+is-audio-amr = 736
 
 abbrev pub is-audio-amr-wb : ℕ
-is-audio-amr-wb = 738
+is-audio-amr-wb = 737
 
 abbrev pub is-audio-basic : ℕ
-is-audio-basic = 739
+is-audio-basic = 738
 
 abbrev pub is-audio-eac3 : ℕ
-is-audio-eac3 = 740
+is-audio-eac3 = 739
 
 abbrev pub is-audio-m4a : ℕ
-is-audio-m4a = 741
+is-audio-m4a = 740
 
 abbrev pub is-audio-mid : ℕ
-is-audio-mid = 742
+is-audio-mid = 741
 
 abbrev pub is-audio-midi : ℕ
-is-audio-midi = 743
+is-audio-midi = 742
 
 abbrev pub is-audio-mobile-xmf : ℕ
-is-audio-mobile-xmf = 744
+is-audio-mobile-xmf = 743
 
 abbrev pub is-audio-mp4 : ℕ
-is-audio-mp4 = 745
+is-audio-mp4 = 744
 
 abbrev pub is-audio-mpeg : ℕ
-is-audio-mpeg = 746
+is-audio-mpeg = 745
 
 abbrev pub is-audio-ogg-as-row-oga : ℕ
-is-audio-ogg-as-row-oga = 747
+is-audio-ogg-as-row-oga = 746
 
 abbrev pub is-audio-ogg-as-row-ogg : ℕ
-is-audio-ogg-as-row-ogg = 748
+is-audio-ogg-as-row-ogg = 747
 
 abbrev pub is-audio-opus : ℕ
-is-audio-opus = 749
+is-audio-opus = 748
 
 abbrev pub is-audio-prs-sid : ℕ
-is-audio-prs-sid = 750
+is-audio-prs-sid = 749
 
 abbrev pub is-audio-sf2 : ℕ
-is-audio-sf2 = 751
+is-audio-sf2 = 750
 
 abbrev pub is-audio-vnd-audible : ℕ
-is-audio-vnd-audible = 752
+is-audio-vnd-audible = 751
 
 abbrev pub is-audio-vnd-audible-aax : ℕ
-is-audio-vnd-audible-aax = 753
+is-audio-vnd-audible-aax = 752
 
 abbrev pub is-audio-vnd-dolby-mlp : ℕ
-is-audio-vnd-dolby-mlp = 754
+is-audio-vnd-dolby-mlp = 753
 
 abbrev pub is-audio-vnd-dts : ℕ
-is-audio-vnd-dts = 755
+is-audio-vnd-dts = 754
 
 abbrev pub is-audio-vnd-rn-realaudio : ℕ
-is-audio-vnd-rn-realaudio = 756
+is-audio-vnd-rn-realaudio = 755
 
 abbrev pub is-audio-webm : ℕ
-is-audio-webm = 757
+is-audio-webm = 756
 
 abbrev pub is-audio-x-8svx : ℕ
-is-audio-x-8svx = 758
+is-audio-x-8svx = 757
 
 abbrev pub is-audio-x-aifc : ℕ
-is-audio-x-aifc = 759
+is-audio-x-aifc = 758
 
 abbrev pub is-audio-x-aiff : ℕ
-is-audio-x-aiff = 760
+is-audio-x-aiff = 759
 
 abbrev pub is-audio-x-ape : ℕ
-is-audio-x-ape = 761
+is-audio-x-ape = 760
 
 abbrev pub is-audio-x-avr : ℕ
-is-audio-x-avr = 762
+is-audio-x-avr = 761
 
 abbrev pub is-audio-x-ay : ℕ
-is-audio-x-ay = 763
+is-audio-x-ay = 762
 
 abbrev pub is-audio-x-bcstm : ℕ
-is-audio-x-bcstm = 764
+is-audio-x-bcstm = 763
 
 abbrev pub is-audio-x-bcwav : ℕ
-is-audio-x-bcwav = 765
+is-audio-x-bcwav = 764
 
 abbrev pub is-audio-x-bfstm : ℕ
-is-audio-x-bfstm = 766
+is-audio-x-bfstm = 765
 
 abbrev pub is-audio-x-brstm : ℕ
-is-audio-x-brstm = 767
+is-audio-x-brstm = 766
 
 abbrev pub is-audio-x-caf : ℕ
-is-audio-x-caf = 768
+is-audio-x-caf = 767
 
 abbrev pub is-audio-x-dbm : ℕ
-is-audio-x-dbm = 769
+is-audio-x-dbm = 768
 
 abbrev pub is-audio-x-dff : ℕ
-is-audio-x-dff = 770
+is-audio-x-dff = 769
 
 abbrev pub is-audio-x-dsf : ℕ
-is-audio-x-dsf = 771
+is-audio-x-dsf = 770
 
 abbrev pub is-audio-x-dss : ℕ
-is-audio-x-dss = 772
+is-audio-x-dss = 771
 
 abbrev pub is-audio-x-flac : ℕ
-is-audio-x-flac = 773
+is-audio-x-flac = 772
 
 abbrev pub is-audio-x-gbs : ℕ
-is-audio-x-gbs = 774
+is-audio-x-gbs = 773
 
 abbrev pub is-audio-x-gsm : ℕ
-is-audio-x-gsm = 775
+is-audio-x-gsm = 774
 
 abbrev pub is-audio-x-ircam : ℕ
-is-audio-x-ircam = 776
+is-audio-x-ircam = 775
 
 abbrev pub is-audio-x-iriver-pla : ℕ
-is-audio-x-iriver-pla = 777
+is-audio-x-iriver-pla = 776
 
 abbrev pub is-audio-x-it : ℕ
-is-audio-x-it = 778
+is-audio-x-it = 777
 
 abbrev pub is-audio-x-m4b : ℕ
-is-audio-x-m4b = 779
+is-audio-x-m4b = 778
 
 abbrev pub is-audio-x-matroska : ℕ
-is-audio-x-matroska = 780
+is-audio-x-matroska = 779
 
 abbrev pub is-audio-x-maud : ℕ
-is-audio-x-maud = 781
+is-audio-x-maud = 780
 
 abbrev pub is-audio-x-mids : ℕ
-is-audio-x-mids = 782
+is-audio-x-mids = 781
 
 abbrev pub is-audio-x-mo3 : ℕ
-is-audio-x-mo3 = 783
+is-audio-x-mo3 = 782
 
 abbrev pub is-audio-x-mod-as-known : ℕ
-is-audio-x-mod-as-known = 784
+is-audio-x-mod-as-known = 783
 
 abbrev pub is-audio-x-mod-as-row-mod : ℕ
-is-audio-x-mod-as-row-mod = 785
+is-audio-x-mod-as-row-mod = 784
 
 abbrev pub is-audio-x-mpegurl : ℕ
-is-audio-x-mpegurl = 786
+is-audio-x-mpegurl = 785
 
 abbrev pub is-audio-x-ms-asx : ℕ
-is-audio-x-ms-asx = 787
+is-audio-x-ms-asx = 786
 
 abbrev pub is-audio-x-ms-wma : ℕ
-is-audio-x-ms-wma = 788
+is-audio-x-ms-wma = 787
 
 abbrev pub is-audio-x-musepack : ℕ
-is-audio-x-musepack = 789
+is-audio-x-musepack = 788
 
 abbrev pub is-audio-x-nist : ℕ
-is-audio-x-nist = 790
+is-audio-x-nist = 789
 
 abbrev pub is-audio-x-nsf : ℕ
-is-audio-x-nsf = 791
+is-audio-x-nsf = 790
 
 abbrev pub is-audio-x-okt : ℕ
-is-audio-x-okt = 792
+is-audio-x-okt = 791
 
 abbrev pub is-audio-x-paf : ℕ
-is-audio-x-paf = 793
+is-audio-x-paf = 792
 
 abbrev pub is-audio-x-psf : ℕ
-is-audio-x-psf = 794
+is-audio-x-psf = 793
 
 abbrev pub is-audio-x-psion-wve : ℕ
-is-audio-x-psion-wve = 795
+is-audio-x-psion-wve = 794
 
 abbrev pub is-audio-x-ptm : ℕ
-is-audio-x-ptm = 796
+is-audio-x-ptm = 795
 
 abbrev pub is-audio-x-pvf : ℕ
-is-audio-x-pvf = 797
+is-audio-x-pvf = 796
 
 abbrev pub is-audio-x-rf64 : ℕ
-is-audio-x-rf64 = 798
+is-audio-x-rf64 = 797
 
 abbrev pub is-audio-x-s3m : ℕ
-is-audio-x-s3m = 799
+is-audio-x-s3m = 798
 
 abbrev pub is-audio-x-sample-vision : ℕ
-is-audio-x-sample-vision = 800
+is-audio-x-sample-vision = 799
 
 abbrev pub is-audio-x-sap : ℕ
-is-audio-x-sap = 801
+is-audio-x-sap = 800
 
 abbrev pub is-audio-x-scpls : ℕ
-is-audio-x-scpls = 802
+is-audio-x-scpls = 801
 
 abbrev pub is-audio-x-sds : ℕ
-is-audio-x-sds = 803
+is-audio-x-sds = 802
 
 abbrev pub is-audio-x-sfbk : ℕ
-is-audio-x-sfbk = 804
+is-audio-x-sfbk = 803
 
 abbrev pub is-audio-x-spc : ℕ
-is-audio-x-spc = 805
+is-audio-x-spc = 804
 
 abbrev pub is-audio-x-speex-ogg : ℕ
-is-audio-x-speex-ogg = 806
+is-audio-x-speex-ogg = 805
 
 abbrev pub is-audio-x-stm : ℕ
-is-audio-x-stm = 807
+is-audio-x-stm = 806
 
 abbrev pub is-audio-x-tta : ℕ
-is-audio-x-tta = 808
+is-audio-x-tta = 807
 
 abbrev pub is-audio-x-ult : ℕ
-is-audio-x-ult = 809
+is-audio-x-ult = 808
 
 abbrev pub is-audio-x-vgm : ℕ
-is-audio-x-vgm = 810
+is-audio-x-vgm = 809
 
 abbrev pub is-audio-x-voc : ℕ
-is-audio-x-voc = 811
+is-audio-x-voc = 810
 
 abbrev pub is-audio-x-w64 : ℕ
-is-audio-x-w64 = 812
+is-audio-x-w64 = 811
 
 abbrev pub is-audio-x-wav : ℕ
-is-audio-x-wav = 813
+is-audio-x-wav = 812
 
 abbrev pub is-audio-x-wavpack : ℕ
-is-audio-x-wavpack = 814
+is-audio-x-wavpack = 813
 
 abbrev pub is-audio-x-xbox-executable : ℕ
-is-audio-x-xbox-executable = 815
+is-audio-x-xbox-executable = 814
 
 abbrev pub is-audio-x-xbox360-executable : ℕ
-is-audio-x-xbox360-executable = 816
+is-audio-x-xbox360-executable = 815
 
 abbrev pub is-audio-x-xi : ℕ
-is-audio-x-xi = 817
+is-audio-x-xi = 816
 
 abbrev pub is-audio-x-xm : ℕ
-is-audio-x-xm = 818
+is-audio-x-xm = 817
 
 abbrev pub is-audio-x-yamaha-txw : ℕ
-is-audio-x-yamaha-txw = 819
+is-audio-x-yamaha-txw = 818
 
 abbrev pub is-chemical-x-cdx : ℕ
-is-chemical-x-cdx = 820
+is-chemical-x-cdx = 819
 
 abbrev pub is-chemical-x-cif : ℕ
-is-chemical-x-cif = 821
+is-chemical-x-cif = 820
 
 abbrev pub is-chemical-x-cml : ℕ
-is-chemical-x-cml = 822
+is-chemical-x-cml = 821
 
 abbrev pub is-chemical-x-mdl-molfile : ℕ
-is-chemical-x-mdl-molfile = 823
+is-chemical-x-mdl-molfile = 822
 
 abbrev pub is-chemical-x-mdl-sdfile : ℕ
-is-chemical-x-mdl-sdfile = 824
+is-chemical-x-mdl-sdfile = 823
 
 abbrev pub is-chemical-x-mol2 : ℕ
-is-chemical-x-mol2 = 825
+is-chemical-x-mol2 = 824
 
 abbrev pub is-chemical-x-pdb : ℕ
-is-chemical-x-pdb = 826
+is-chemical-x-pdb = 825
 
 abbrev pub is-chemical-x-xyz : ℕ
-is-chemical-x-xyz = 827
+is-chemical-x-xyz = 826
 
 abbrev pub is-font-collection : ℕ
-is-font-collection = 828
+is-font-collection = 827
 
 abbrev pub is-font-x-dos-cpi : ℕ
-is-font-x-dos-cpi = 829
+is-font-x-dos-cpi = 828
 
 abbrev pub is-font-x-drdos-cpi : ℕ
-is-font-x-drdos-cpi = 830
+is-font-x-drdos-cpi = 829
 
 abbrev pub is-image-apng : ℕ
-is-image-apng = 831
+is-image-apng = 830
 
 abbrev pub is-image-astc : ℕ
-is-image-astc = 832
+is-image-astc = 831
 
 abbrev pub is-image-avif : ℕ
-is-image-avif = 833
+is-image-avif = 832
 
 abbrev pub is-image-bmp : ℕ
-is-image-bmp = 834
+is-image-bmp = 833
 
 abbrev pub is-image-bpg : ℕ
-is-image-bpg = 835
+is-image-bpg = 834
 
 abbrev pub is-image-cineon : ℕ
-is-image-cineon = 836
+is-image-cineon = 835
 
 abbrev pub is-image-dpx : ℕ
-is-image-dpx = 837
+is-image-dpx = 836
 
 abbrev pub is-image-emf : ℕ
-is-image-emf = 838
+is-image-emf = 837
 
 abbrev pub is-image-fits : ℕ
-is-image-fits = 839
+is-image-fits = 838
 
 abbrev pub is-image-flif : ℕ
-is-image-flif = 840
+is-image-flif = 839
 
 abbrev pub is-image-geotiff : ℕ
-is-image-geotiff = 841
+is-image-geotiff = 840
 
 abbrev pub is-image-gif : ℕ
-is-image-gif = 842
+is-image-gif = 841
 
 abbrev pub is-image-heic : ℕ
-is-image-heic = 843
+is-image-heic = 842
 
 abbrev pub is-image-heic-sequence : ℕ
-is-image-heic-sequence = 844
+is-image-heic-sequence = 843
 
 abbrev pub is-image-heif : ℕ
-is-image-heif = 845
+is-image-heif = 844
 
 abbrev pub is-image-heif-sequence : ℕ
-is-image-heif-sequence = 846
+is-image-heif-sequence = 845
 
 abbrev pub is-image-jls : ℕ
-is-image-jls = 847
+is-image-jls = 846
 
 abbrev pub is-image-jp2 : ℕ
-is-image-jp2 = 848
+is-image-jp2 = 847
 
 abbrev pub is-image-jpeg : ℕ
-is-image-jpeg = 849
+is-image-jpeg = 848
 
 abbrev pub is-image-jph : ℕ
-is-image-jph = 850
+is-image-jph = 849
 
 abbrev pub is-image-jpm : ℕ
-is-image-jpm = 851
+is-image-jpm = 850
 
 abbrev pub is-image-jpx : ℕ
-is-image-jpx = 852
+is-image-jpx = 851
 
 abbrev pub is-image-jxl : ℕ
-is-image-jxl = 853
+is-image-jxl = 852
 
 abbrev pub is-image-ktx : ℕ
-is-image-ktx = 854
+is-image-ktx = 853
 
 abbrev pub is-image-ktx2 : ℕ
-is-image-ktx2 = 855
+is-image-ktx2 = 854
 
 abbrev pub is-image-openraster : ℕ
-is-image-openraster = 856
+is-image-openraster = 855
 
 abbrev pub is-image-png : ℕ
-is-image-png = 857
+is-image-png = 856
 
 abbrev pub is-image-pwg-raster : ℕ
-is-image-pwg-raster = 858
+is-image-pwg-raster = 857
 
 abbrev pub is-image-svg-xml : ℕ
-is-image-svg-xml = 859
+is-image-svg-xml = 858
 
 abbrev pub is-image-svg-xml-compressed : ℕ
-is-image-svg-xml-compressed = 860
+is-image-svg-xml-compressed = 859
 
 abbrev pub is-image-tiff : ℕ
-is-image-tiff = 861
+is-image-tiff = 860
 
 abbrev pub is-image-vnd-adobe-photoshop : ℕ
-is-image-vnd-adobe-photoshop = 862
+is-image-vnd-adobe-photoshop = 861
 
 abbrev pub is-image-vnd-djvu : ℕ
-is-image-vnd-djvu = 863
+is-image-vnd-djvu = 862
 
 abbrev pub is-image-vnd-dwg : ℕ
-is-image-vnd-dwg = 864
+is-image-vnd-dwg = 863
 
 abbrev pub is-image-vnd-dxf : ℕ
-is-image-vnd-dxf = 865
+is-image-vnd-dxf = 864
 
 abbrev pub is-image-vnd-fpx : ℕ
-is-image-vnd-fpx = 866
+is-image-vnd-fpx = 865
 
 abbrev pub is-image-vnd-microsoft-icon : ℕ
-is-image-vnd-microsoft-icon = 867
+is-image-vnd-microsoft-icon = 866
 
 abbrev pub is-image-vnd-ms-dds : ℕ
-is-image-vnd-ms-dds = 868
+is-image-vnd-ms-dds = 867
 
 abbrev pub is-image-vnd-ms-modi : ℕ
-is-image-vnd-ms-modi = 869
+is-image-vnd-ms-modi = 868
 
 abbrev pub is-image-vnd-ms-photo : ℕ
-is-image-vnd-ms-photo = 870
+is-image-vnd-ms-photo = 869
 
 abbrev pub is-image-vnd-radiance : ℕ
-is-image-vnd-radiance = 871
+is-image-vnd-radiance = 870
 
 abbrev pub is-image-vnd-valve-source-texture : ℕ
-is-image-vnd-valve-source-texture = 872
+is-image-vnd-valve-source-texture = 871
 
 abbrev pub is-image-vnd-zbrush-pcx : ℕ
-is-image-vnd-zbrush-pcx = 873
+is-image-vnd-zbrush-pcx = 872
 
 abbrev pub is-image-webp : ℕ
-is-image-webp = 874
+is-image-webp = 873
 
 abbrev pub is-image-wmf : ℕ
-is-image-wmf = 875
+is-image-wmf = 874
 
 abbrev pub is-image-x-3ds : ℕ
-is-image-x-3ds = 876
+is-image-x-3ds = 875
 
 abbrev pub is-image-x-adobe-dng : ℕ
-is-image-x-adobe-dng = 877
+is-image-x-adobe-dng = 876
 
 abbrev pub is-image-x-applix-graphics : ℕ
-is-image-x-applix-graphics = 878
+is-image-x-applix-graphics = 877
 
 abbrev pub is-image-x-award-bioslogo2 : ℕ
-is-image-x-award-bioslogo2 = 879
+is-image-x-award-bioslogo2 = 878
 
 abbrev pub is-image-x-blp : ℕ
-is-image-x-blp = 880
+is-image-x-blp = 879
 
 abbrev pub is-image-x-canon-cr2 : ℕ
-is-image-x-canon-cr2 = 881
+is-image-x-canon-cr2 = 880
 
 abbrev pub is-image-x-canon-cr3 : ℕ
-is-image-x-canon-cr3 = 882
+is-image-x-canon-cr3 = 881
 
 abbrev pub is-image-x-canon-crw : ℕ
-is-image-x-canon-crw = 883
+is-image-x-canon-crw = 882
 
 abbrev pub is-image-x-cmu-raster : ℕ
-is-image-x-cmu-raster = 884
+is-image-x-cmu-raster = 883
 
 abbrev pub is-image-x-cmx : ℕ
-is-image-x-cmx = 885
+is-image-x-cmx = 884
 
 abbrev pub is-image-x-corel-cpt : ℕ
-is-image-x-corel-cpt = 886
+is-image-x-corel-cpt = 885
 
 abbrev pub is-image-x-dcx : ℕ
-is-image-x-dcx = 887
+is-image-x-dcx = 886
 
 abbrev pub is-image-x-epoc-mbm : ℕ
-is-image-x-epoc-mbm = 888
+is-image-x-epoc-mbm = 887
 
 abbrev pub is-image-x-eps : ℕ
-is-image-x-eps = 889
+is-image-x-eps = 888
 
 abbrev pub is-image-x-epson-erf : ℕ
-is-image-x-epson-erf = 890
+is-image-x-epson-erf = 889
 
 abbrev pub is-image-x-exr : ℕ
-is-image-x-exr = 891
+is-image-x-exr = 890
 
 abbrev pub is-image-x-farbfeld : ℕ
-is-image-x-farbfeld = 892
+is-image-x-farbfeld = 891
 
 abbrev pub is-image-x-fuji-raf : ℕ
-is-image-x-fuji-raf = 893
+is-image-x-fuji-raf = 892
 
 abbrev pub is-image-x-gd2 : ℕ
-is-image-x-gd2 = 894
+is-image-x-gd2 = 893
 
 abbrev pub is-image-x-gimp-gbr : ℕ
-is-image-x-gimp-gbr = 895
+is-image-x-gimp-gbr = 894
 
 abbrev pub is-image-x-gimp-pat : ℕ
-is-image-x-gimp-pat = 896
+is-image-x-gimp-pat = 895
 
 abbrev pub is-image-x-godot-stex : ℕ
-is-image-x-godot-stex = 897
+is-image-x-godot-stex = 896
 
 abbrev pub is-image-x-hasselblad-3fr : ℕ
-is-image-x-hasselblad-3fr = 898
+is-image-x-hasselblad-3fr = 897
 
 abbrev pub is-image-x-hsi : ℕ
-is-image-x-hsi = 899
+is-image-x-hsi = 898
 
 abbrev pub is-image-x-icns : ℕ
-is-image-x-icns = 900
+is-image-x-icns = 899
 
 abbrev pub is-image-x-ilbm : ℕ
-is-image-x-ilbm = 901
+is-image-x-ilbm = 900
 
 abbrev pub is-image-x-itc : ℕ
-is-image-x-itc = 902
+is-image-x-itc = 901
 
 abbrev pub is-image-x-jbig2 : ℕ
-is-image-x-jbig2 = 903
+is-image-x-jbig2 = 902
 
 abbrev pub is-image-x-jng : ℕ
-is-image-x-jng = 904
+is-image-x-jng = 903
 
 abbrev pub is-image-x-jp2-codestream : ℕ
-is-image-x-jp2-codestream = 905
+is-image-x-jp2-codestream = 904
 
 abbrev pub is-image-x-kodak-dcr : ℕ
-is-image-x-kodak-dcr = 906
+is-image-x-kodak-dcr = 905
 
 abbrev pub is-image-x-kodak-kdc : ℕ
-is-image-x-kodak-kdc = 907
+is-image-x-kodak-kdc = 906
 
 abbrev pub is-image-x-lss16 : ℕ
-is-image-x-lss16 = 908
+is-image-x-lss16 = 907
 
 abbrev pub is-image-x-lwo : ℕ
-is-image-x-lwo = 909
+is-image-x-lwo = 908
 
 abbrev pub is-image-x-lytro-lfp : ℕ
-is-image-x-lytro-lfp = 910
+is-image-x-lytro-lfp = 909
 
 abbrev pub is-image-x-mamiya-mef : ℕ
-is-image-x-mamiya-mef = 911
+is-image-x-mamiya-mef = 910
 
 abbrev pub is-image-x-miff : ℕ
-is-image-x-miff = 912
+is-image-x-miff = 911
 
 abbrev pub is-image-x-minolta-mrw : ℕ
-is-image-x-minolta-mrw = 913
+is-image-x-minolta-mrw = 912
 
 abbrev pub is-image-x-mrc : ℕ
-is-image-x-mrc = 914
+is-image-x-mrc = 913
 
 abbrev pub is-image-x-mvg : ℕ
-is-image-x-mvg = 915
+is-image-x-mvg = 914
 
 abbrev pub is-image-x-niff : ℕ
-is-image-x-niff = 916
+is-image-x-niff = 915
 
 abbrev pub is-image-x-nikon-nef : ℕ
-is-image-x-nikon-nef = 917
+is-image-x-nikon-nef = 916
 
 abbrev pub is-image-x-nikon-nrw : ℕ
-is-image-x-nikon-nrw = 918
+is-image-x-nikon-nrw = 917
 
 abbrev pub is-image-x-olympus-orf : ℕ
-is-image-x-olympus-orf = 919
+is-image-x-olympus-orf = 918
 
 abbrev pub is-image-x-paintnet : ℕ
-is-image-x-paintnet = 920
+is-image-x-paintnet = 919
 
 abbrev pub is-image-x-paintshoppro : ℕ
-is-image-x-paintshoppro = 921
+is-image-x-paintshoppro = 920
 
 abbrev pub is-image-x-panasonic-rw2 : ℕ
-is-image-x-panasonic-rw2 = 922
+is-image-x-panasonic-rw2 = 921
 
 abbrev pub is-image-x-pentax-pef : ℕ
-is-image-x-pentax-pef = 923
+is-image-x-pentax-pef = 922
 
 abbrev pub is-image-x-pgf : ℕ
-is-image-x-pgf = 924
+is-image-x-pgf = 923
 
 abbrev pub is-image-x-phaseone-iiq : ℕ
-is-image-x-phaseone-iiq = 925
+is-image-x-phaseone-iiq = 924
 
 abbrev pub is-image-x-photo-cd : ℕ
-is-image-x-photo-cd = 926
+is-image-x-photo-cd = 925
 
 abbrev pub is-image-x-pic : ℕ
-is-image-x-pic = 927
+is-image-x-pic = 926
 
 abbrev pub is-image-x-pict : ℕ
-is-image-x-pict = 928
+is-image-x-pict = 927
 
 abbrev pub is-image-x-portable-anymap : ℕ
-is-image-x-portable-anymap = 929
+is-image-x-portable-anymap = 928
 
 abbrev pub is-image-x-portable-arbitrarymap : ℕ
-is-image-x-portable-arbitrarymap = 930
+is-image-x-portable-arbitrarymap = 929
 
 abbrev pub is-image-x-portable-bitmap : ℕ
-is-image-x-portable-bitmap = 931
+is-image-x-portable-bitmap = 930
 
 abbrev pub is-image-x-portable-floatmap : ℕ
-is-image-x-portable-floatmap = 932
+is-image-x-portable-floatmap = 931
 
 abbrev pub is-image-x-portable-graymap : ℕ
-is-image-x-portable-graymap = 933
+is-image-x-portable-graymap = 932
 
 abbrev pub is-image-x-portable-pixmap : ℕ
-is-image-x-portable-pixmap = 934
+is-image-x-portable-pixmap = 933
 
 abbrev pub is-image-x-pvr : ℕ
-is-image-x-pvr = 935
+is-image-x-pvr = 934
 
 abbrev pub is-image-x-qoi : ℕ
-is-image-x-qoi = 936
+is-image-x-qoi = 935
 
 abbrev pub is-image-x-quicktime : ℕ
-is-image-x-quicktime = 937
+is-image-x-quicktime = 936
 
 abbrev pub is-image-x-samsung-srw : ℕ
-is-image-x-samsung-srw = 938
+is-image-x-samsung-srw = 937
 
 abbrev pub is-image-x-sgi : ℕ
-is-image-x-sgi = 939
+is-image-x-sgi = 938
 
 abbrev pub is-image-x-sigma-x3f : ℕ
-is-image-x-sigma-x3f = 940
+is-image-x-sigma-x3f = 939
 
 abbrev pub is-image-x-skencil : ℕ
-is-image-x-skencil = 941
+is-image-x-skencil = 940
 
 abbrev pub is-image-x-sony-arw : ℕ
-is-image-x-sony-arw = 942
+is-image-x-sony-arw = 941
 
 abbrev pub is-image-x-sony-sr2 : ℕ
-is-image-x-sony-sr2 = 943
+is-image-x-sony-sr2 = 942
 
 abbrev pub is-image-x-sony-srf : ℕ
-is-image-x-sony-srf = 944
+is-image-x-sony-srf = 943
 
 abbrev pub is-image-x-svm : ℕ
-is-image-x-svm = 945
+is-image-x-svm = 944
 
 abbrev pub is-image-x-tga-as-known : ℕ
-is-image-x-tga-as-known = 946
+is-image-x-tga-as-known = 945
 
 abbrev pub is-image-x-tga-as-row-tga : ℕ
-is-image-x-tga-as-row-tga = 947
+is-image-x-tga-as-row-tga = 946
 
 abbrev pub is-image-x-vips : ℕ
-is-image-x-vips = 948
+is-image-x-vips = 947
 
 abbrev pub is-image-x-win-bitmap : ℕ
-is-image-x-win-bitmap = 949
+is-image-x-win-bitmap = 948
 
 abbrev pub is-image-x-wpg : ℕ
-is-image-x-wpg = 950
+is-image-x-wpg = 949
 
 abbrev pub is-image-x-xbitmap : ℕ
-is-image-x-xbitmap = 951
+is-image-x-xbitmap = 950
 
 abbrev pub is-image-x-xcf : ℕ
-is-image-x-xcf = 952
+is-image-x-xcf = 951
 
 abbrev pub is-image-x-xfig : ℕ
-is-image-x-xfig = 953
+is-image-x-xfig = 952
 
 abbrev pub is-image-x-xisf : ℕ
-is-image-x-xisf = 954
+is-image-x-xisf = 953
 
 abbrev pub is-image-x-xpixmap : ℕ
-is-image-x-xpixmap = 955
+is-image-x-xpixmap = 954
 
 abbrev pub is-image-x-xwindowdump : ℕ
-is-image-x-xwindowdump = 956
+is-image-x-xwindowdump = 955
 
 abbrev pub is-image-x-zeiss-czi : ℕ
-is-image-x-zeiss-czi = 957
+is-image-x-zeiss-czi = 956
 
 abbrev pub is-image-x-nifti : ℕ
-is-image-x-nifti = 958
+is-image-x-nifti = 957
 
 abbrev pub is-message-http : ℕ
-is-message-http = 959
+is-message-http = 958
 
 abbrev pub is-message-news : ℕ
-is-message-news = 960
+is-message-news = 959
 
 abbrev pub is-message-rfc822 : ℕ
-is-message-rfc822 = 961
+is-message-rfc822 = 960
 
 abbrev pub is-model-3mf : ℕ
-is-model-3mf = 962
+is-model-3mf = 961
 
 abbrev pub is-model-e57 : ℕ
-is-model-e57 = 963
+is-model-e57 = 962
 
 abbrev pub is-model-gltf-json : ℕ
-is-model-gltf-json = 964
+is-model-gltf-json = 963
 
 abbrev pub is-model-gltf-binary : ℕ
-is-model-gltf-binary = 965
+is-model-gltf-binary = 964
 
 abbrev pub is-model-iges : ℕ
-is-model-iges = 966
+is-model-iges = 965
 
 abbrev pub is-model-mtl : ℕ
-is-model-mtl = 967
+is-model-mtl = 966
 
 abbrev pub is-model-obj : ℕ
-is-model-obj = 968
+is-model-obj = 967
 
 abbrev pub is-model-step : ℕ
-is-model-step = 969
+is-model-step = 968
 
 abbrev pub is-model-stl : ℕ
-is-model-stl = 970
+is-model-stl = 969
 
 abbrev pub is-model-vnd-collada-xml : ℕ
-is-model-vnd-collada-xml = 971
+is-model-vnd-collada-xml = 970
 
 abbrev pub is-model-vnd-usda : ℕ
-is-model-vnd-usda = 972
+is-model-vnd-usda = 971
 
 abbrev pub is-model-vrml : ℕ
-is-model-vrml = 973
+is-model-vrml = 972
 
 abbrev pub is-model-x-milkshape : ℕ
-is-model-x-milkshape = 974
+is-model-x-milkshape = 973
 
 abbrev pub is-model-x-pcd : ℕ
-is-model-x-pcd = 975
+is-model-x-pcd = 974
 
 abbrev pub is-model-x3d-xml : ℕ
-is-model-x3d-xml = 976
+is-model-x3d-xml = 975
 
 abbrev pub is-model-x3d-vrml : ℕ
-is-model-x3d-vrml = 977
+is-model-x3d-vrml = 976
 
 abbrev pub is-multipart-related : ℕ
-is-multipart-related = 978
+is-multipart-related = 977
 
 abbrev pub is-text-cache-manifest : ℕ
-is-text-cache-manifest = 979
+is-text-cache-manifest = 978
 
 abbrev pub is-text-calendar : ℕ
-is-text-calendar = 980
+is-text-calendar = 979
 
 abbrev pub is-text-cql : ℕ
-is-text-cql = 981
+is-text-cql = 980
 
 abbrev pub is-text-css : ℕ
-is-text-css = 982
+is-text-css = 981
 
 abbrev pub is-text-csv : ℕ
-is-text-csv = 983
+is-text-csv = 982
 
 abbrev pub is-text-html : ℕ
-is-text-html = 984
+is-text-html = 983
 
 abbrev pub is-text-javascript : ℕ
-is-text-javascript = 985
+is-text-javascript = 984
 
 abbrev pub is-text-markdown : ℕ
-is-text-markdown = 986
+is-text-markdown = 985
 
 abbrev pub is-text-mdx : ℕ
-is-text-mdx = 987
+is-text-mdx = 986
 
 abbrev pub is-text-n3 : ℕ
-is-text-n3 = 988
+is-text-n3 = 987
 
 abbrev pub is-text-org : ℕ
-is-text-org = 989
+is-text-org = 988
 
 abbrev pub is-text-plain : ℕ
-is-text-plain = 990
+is-text-plain = 989
 
 abbrev pub is-text-rust : ℕ
-is-text-rust = 991
+is-text-rust = 990
 
 abbrev pub is-text-sgml : ℕ
-is-text-sgml = 992
+is-text-sgml = 991
 
 abbrev pub is-text-spreadsheet : ℕ
-is-text-spreadsheet = 993
+is-text-spreadsheet = 992
 
 abbrev pub is-text-tab-separated-values : ℕ
-is-text-tab-separated-values = 994
+is-text-tab-separated-values = 993
 
 abbrev pub is-text-troff : ℕ
-is-text-troff = 995
+is-text-troff = 994
 
 abbrev pub is-text-turtle : ℕ
-is-text-turtle = 996
+is-text-turtle = 995
 
 abbrev pub is-text-uri-list : ℕ
-is-text-uri-list = 997
+is-text-uri-list = 996
 
 abbrev pub is-text-vbscript : ℕ
-is-text-vbscript = 998
+is-text-vbscript = 997
 
 abbrev pub is-text-vcard : ℕ
-is-text-vcard = 999
+is-text-vcard = 998
 
 abbrev pub is-text-velocity : ℕ
-is-text-velocity = 1000
+is-text-velocity = 999
 
 abbrev pub is-text-vnd-abc : ℕ
-is-text-vnd-abc = 1001
+is-text-vnd-abc = 1000
 
 abbrev pub is-text-vnd-familysearch-gedcom : ℕ
-is-text-vnd-familysearch-gedcom = 1002
+is-text-vnd-familysearch-gedcom = 1001
 
 abbrev pub is-text-vnd-graphviz : ℕ
-is-text-vnd-graphviz = 1003
+is-text-vnd-graphviz = 1002
 
 abbrev pub is-text-vnd-sun-j2me-app-descriptor : ℕ
-is-text-vnd-sun-j2me-app-descriptor = 1004
+is-text-vnd-sun-j2me-app-descriptor = 1003
 
 abbrev pub is-text-vnd-trolltech-linguist : ℕ
-is-text-vnd-trolltech-linguist = 1005
+is-text-vnd-trolltech-linguist = 1004
 
 abbrev pub is-text-vnd-wap-wml : ℕ
-is-text-vnd-wap-wml = 1006
+is-text-vnd-wap-wml = 1005
 
 abbrev pub is-text-vtt : ℕ
-is-text-vtt = 1007
+is-text-vtt = 1006
 
 abbrev pub is-text-wgsl : ℕ
-is-text-wgsl = 1008
+is-text-wgsl = 1007
 
 abbrev pub is-text-x-abap : ℕ
-is-text-x-abap = 1009
+is-text-x-abap = 1008
 
 abbrev pub is-text-x-adasrc : ℕ
-is-text-x-adasrc = 1010
+is-text-x-adasrc = 1009
 
 abbrev pub is-text-x-agda : ℕ
-is-text-x-agda = 1011
+is-text-x-agda = 1010
 
 abbrev pub is-text-x-aidl : ℕ
-is-text-x-aidl = 1012
+is-text-x-aidl = 1011
 
 abbrev pub is-text-x-ampl : ℕ
-is-text-x-ampl = 1013
+is-text-x-ampl = 1012
 
 abbrev pub is-text-x-antlr : ℕ
-is-text-x-antlr = 1014
+is-text-x-antlr = 1013
 
 abbrev pub is-text-x-apacheconf : ℕ
-is-text-x-apacheconf = 1015
+is-text-x-apacheconf = 1014
 
 abbrev pub is-text-x-apex : ℕ
-is-text-x-apex = 1016
+is-text-x-apex = 1015
 
 abbrev pub is-text-x-apl : ℕ
-is-text-x-apl = 1017
+is-text-x-apl = 1016
 
 abbrev pub is-text-x-applescript : ℕ
-is-text-x-applescript = 1018
+is-text-x-applescript = 1017
 
 abbrev pub is-text-x-asciidoc : ℕ
-is-text-x-asciidoc = 1019
+is-text-x-asciidoc = 1018
 
 abbrev pub is-text-x-asm : ℕ
-is-text-x-asm = 1020
+is-text-x-asm = 1019
 
 abbrev pub is-text-x-asn1 : ℕ
-is-text-x-asn1 = 1021
+is-text-x-asn1 = 1020
 
 abbrev pub is-text-x-astro : ℕ
-is-text-x-astro = 1022
+is-text-x-astro = 1021
 
 abbrev pub is-text-x-asymptote : ℕ
-is-text-x-asymptote = 1023
+is-text-x-asymptote = 1022
 
 abbrev pub is-text-x-autoconf : ℕ
-is-text-x-autoconf = 1024
+is-text-x-autoconf = 1023
 
 abbrev pub is-text-x-autohotkey : ℕ
-is-text-x-autohotkey = 1025
+is-text-x-autohotkey = 1024
 
 abbrev pub is-text-x-autoit : ℕ
-is-text-x-autoit = 1026
+is-text-x-autoit = 1025
 
 abbrev pub is-text-x-automake : ℕ
-is-text-x-automake = 1027
+is-text-x-automake = 1026
 
 abbrev pub is-text-x-awk : ℕ
-is-text-x-awk = 1028
+is-text-x-awk = 1027
 
 abbrev pub is-text-x-ballerina : ℕ
-is-text-x-ballerina = 1029
+is-text-x-ballerina = 1028
 
 abbrev pub is-text-x-basic : ℕ
-is-text-x-basic = 1030
+is-text-x-basic = 1029
 
 abbrev pub is-text-x-bats : ℕ
-is-text-x-bats = 1031
+is-text-x-bats = 1030
 
 abbrev pub is-text-x-bc : ℕ
-is-text-x-bc = 1032
+is-text-x-bc = 1031
 
 abbrev pub is-text-x-bed : ℕ
-is-text-x-bed = 1033
+is-text-x-bed = 1032
 
 abbrev pub is-text-x-bibtex : ℕ
-is-text-x-bibtex = 1034
+is-text-x-bibtex = 1033
 
 abbrev pub is-text-x-bicep : ℕ
-is-text-x-bicep = 1035
+is-text-x-bicep = 1034
 
 abbrev pub is-text-x-bitbake : ℕ
-is-text-x-bitbake = 1036
+is-text-x-bitbake = 1035
 
 abbrev pub is-text-x-blade : ℕ
-is-text-x-blade = 1037
+is-text-x-blade = 1036
 
 abbrev pub is-text-x-bluespec : ℕ
-is-text-x-bluespec = 1038
+is-text-x-bluespec = 1037
 
 abbrev pub is-text-x-boo : ℕ
-is-text-x-boo = 1039
+is-text-x-boo = 1038
 
 abbrev pub is-text-x-bpftrace : ℕ
-is-text-x-bpftrace = 1040
+is-text-x-bpftrace = 1039
 
 abbrev pub is-text-x-bugs : ℕ
-is-text-x-bugs = 1041
+is-text-x-bugs = 1040
 
 abbrev pub is-text-x-c-hdr : ℕ
-is-text-x-c-hdr = 1042
+is-text-x-c-hdr = 1041
 
 abbrev pub is-text-x-c-src : ℕ
-is-text-x-c-src = 1043
+is-text-x-c-src = 1042
 
 abbrev pub is-text-x-cabal : ℕ
-is-text-x-cabal = 1044
+is-text-x-cabal = 1043
 
 abbrev pub is-text-x-cairo : ℕ
-is-text-x-cairo = 1045
+is-text-x-cairo = 1044
 
 abbrev pub is-text-x-capnp : ℕ
-is-text-x-capnp = 1046
+is-text-x-capnp = 1045
 
 abbrev pub is-text-x-cfm : ℕ
-is-text-x-cfm = 1047
+is-text-x-cfm = 1046
 
 abbrev pub is-text-x-chapel : ℕ
-is-text-x-chapel = 1048
+is-text-x-chapel = 1047
 
 abbrev pub is-text-x-chdr : ℕ
-is-text-x-chdr = 1049
+is-text-x-chdr = 1048
 
 abbrev pub is-text-x-checksums : ℕ
-is-text-x-checksums = 1050
+is-text-x-checksums = 1049
 
 abbrev pub is-text-x-chuck : ℕ
-is-text-x-chuck = 1051
+is-text-x-chuck = 1050
 
 abbrev pub is-text-x-clojure : ℕ
-is-text-x-clojure = 1052
+is-text-x-clojure = 1051
 
 abbrev pub is-text-x-cmake : ℕ
-is-text-x-cmake = 1053
+is-text-x-cmake = 1052
 
 abbrev pub is-text-x-cobol : ℕ
-is-text-x-cobol = 1054
+is-text-x-cobol = 1053
 
 abbrev pub is-text-x-cocci : ℕ
-is-text-x-cocci = 1055
+is-text-x-cocci = 1054
 
 abbrev pub is-text-x-common-lisp : ℕ
-is-text-x-common-lisp = 1056
+is-text-x-common-lisp = 1055
 
 abbrev pub is-text-x-component : ℕ
-is-text-x-component = 1057
+is-text-x-component = 1056
 
 abbrev pub is-text-x-coq : ℕ
-is-text-x-coq = 1058
+is-text-x-coq = 1057
 
 abbrev pub is-text-x-cppconf : ℕ
-is-text-x-cppconf = 1059
+is-text-x-cppconf = 1058
 
 abbrev pub is-text-x-creole : ℕ
-is-text-x-creole = 1060
+is-text-x-creole = 1059
 
 abbrev pub is-text-x-cron : ℕ
-is-text-x-cron = 1061
+is-text-x-cron = 1060
 
 abbrev pub is-text-x-crystal : ℕ
-is-text-x-crystal = 1062
+is-text-x-crystal = 1061
 
 abbrev pub is-text-x-csharp : ℕ
-is-text-x-csharp = 1063
+is-text-x-csharp = 1062
 
 abbrev pub is-text-x-csound : ℕ
-is-text-x-csound = 1064
+is-text-x-csound = 1063
 
 abbrev pub is-text-x-csrc : ℕ
-is-text-x-csrc = 1065
+is-text-x-csrc = 1064
 
 abbrev pub is-text-x-cuda : ℕ
-is-text-x-cuda = 1066
+is-text-x-cuda = 1065
 
 abbrev pub is-text-x-cwl : ℕ
-is-text-x-cwl = 1067
+is-text-x-cwl = 1066
 
 abbrev pub is-text-x-cypher : ℕ
-is-text-x-cypher = 1068
+is-text-x-cypher = 1067
 
 abbrev pub is-text-x-cython : ℕ
-is-text-x-cython = 1069
+is-text-x-cython = 1068
 
 abbrev pub is-text-x-d2 : ℕ
-is-text-x-d2 = 1070
+is-text-x-d2 = 1069
 
 abbrev pub is-text-x-dart : ℕ
-is-text-x-dart = 1071
+is-text-x-dart = 1070
 
 abbrev pub is-text-x-dbus-service : ℕ
-is-text-x-dbus-service = 1072
+is-text-x-dbus-service = 1071
 
 abbrev pub is-text-x-debian-control : ℕ
-is-text-x-debian-control = 1073
+is-text-x-debian-control = 1072
 
 abbrev pub is-text-x-dhall : ℕ
-is-text-x-dhall = 1074
+is-text-x-dhall = 1073
 
 abbrev pub is-text-x-dimacs : ℕ
-is-text-x-dimacs = 1075
+is-text-x-dimacs = 1074
 
 abbrev pub is-text-x-dns-zone : ℕ
-is-text-x-dns-zone = 1076
+is-text-x-dns-zone = 1075
 
 abbrev pub is-text-x-dockerfile : ℕ
-is-text-x-dockerfile = 1077
+is-text-x-dockerfile = 1076
 
 abbrev pub is-text-x-dotenv : ℕ
-is-text-x-dotenv = 1078
+is-text-x-dotenv = 1077
 
 abbrev pub is-text-x-dsrc : ℕ
-is-text-x-dsrc = 1079
+is-text-x-dsrc = 1078
 
 abbrev pub is-text-x-dts : ℕ
-is-text-x-dts = 1080
+is-text-x-dts = 1079
 
 abbrev pub is-text-x-dune : ℕ
-is-text-x-dune = 1081
+is-text-x-dune = 1080
 
 abbrev pub is-text-x-ebnf : ℕ
-is-text-x-ebnf = 1082
+is-text-x-ebnf = 1081
 
 abbrev pub is-text-x-ebuild : ℕ
-is-text-x-ebuild = 1083
+is-text-x-ebuild = 1082
 
 abbrev pub is-text-x-editorconfig : ℕ
-is-text-x-editorconfig = 1084
+is-text-x-editorconfig = 1083
 
 abbrev pub is-text-x-eex : ℕ
-is-text-x-eex = 1085
+is-text-x-eex = 1084
 
 abbrev pub is-text-x-eiffel : ℕ
-is-text-x-eiffel = 1086
+is-text-x-eiffel = 1085
 
 abbrev pub is-text-x-ejs : ℕ
-is-text-x-ejs = 1087
+is-text-x-ejs = 1086
 
 abbrev pub is-text-x-elixir : ℕ
-is-text-x-elixir = 1088
+is-text-x-elixir = 1087
 
 abbrev pub is-text-x-elm : ℕ
-is-text-x-elm = 1089
+is-text-x-elm = 1088
 
 abbrev pub is-text-x-emacs-config : ℕ
-is-text-x-emacs-config = 1090
+is-text-x-emacs-config = 1089
 
 abbrev pub is-text-x-emacs-lisp : ℕ
-is-text-x-emacs-lisp = 1091
+is-text-x-emacs-lisp = 1090
 
 abbrev pub is-text-x-erlang : ℕ
-is-text-x-erlang = 1092
+is-text-x-erlang = 1091
 
 abbrev pub is-text-x-expect : ℕ
-is-text-x-expect = 1093
+is-text-x-expect = 1092
 
 abbrev pub is-text-x-factor : ℕ
-is-text-x-factor = 1094
+is-text-x-factor = 1093
 
 abbrev pub is-text-x-fasta : ℕ
-is-text-x-fasta = 1095
+is-text-x-fasta = 1094
 
 abbrev pub is-text-x-fastq : ℕ
-is-text-x-fastq = 1096
+is-text-x-fastq = 1095
 
 abbrev pub is-text-x-fennel : ℕ
-is-text-x-fennel = 1097
+is-text-x-fennel = 1096
 
 abbrev pub is-text-x-flatbuffers : ℕ
-is-text-x-flatbuffers = 1098
+is-text-x-flatbuffers = 1097
 
 abbrev pub is-text-x-forth : ℕ
-is-text-x-forth = 1099
+is-text-x-forth = 1098
 
 abbrev pub is-text-x-fortran : ℕ
-is-text-x-fortran = 1100
+is-text-x-fortran = 1099
 
 abbrev pub is-text-x-fountain : ℕ
-is-text-x-fountain = 1101
+is-text-x-fountain = 1100
 
 abbrev pub is-text-x-freemarker : ℕ
-is-text-x-freemarker = 1102
+is-text-x-freemarker = 1101
 
 abbrev pub is-text-x-fsharp : ℕ
-is-text-x-fsharp = 1103
+is-text-x-fsharp = 1102
 
 abbrev pub is-text-x-gams : ℕ
-is-text-x-gams = 1104
+is-text-x-gams = 1103
 
 abbrev pub is-text-x-gap : ℕ
-is-text-x-gap = 1105
+is-text-x-gap = 1104
 
 abbrev pub is-text-x-gcode-gx : ℕ
-is-text-x-gcode-gx = 1106
+is-text-x-gcode-gx = 1105
 
 abbrev pub is-text-x-gdb : ℕ
-is-text-x-gdb = 1107
+is-text-x-gdb = 1106
 
 abbrev pub is-text-x-genbank : ℕ
-is-text-x-genbank = 1108
+is-text-x-genbank = 1107
 
 abbrev pub is-text-x-genie : ℕ
-is-text-x-genie = 1109
+is-text-x-genie = 1108
 
 abbrev pub is-text-x-gerber : ℕ
-is-text-x-gerber = 1110
+is-text-x-gerber = 1109
 
 abbrev pub is-text-x-gettext-translation : ℕ
-is-text-x-gettext-translation = 1111
+is-text-x-gettext-translation = 1110
 
 abbrev pub is-text-x-gettext-translation-template : ℕ
-is-text-x-gettext-translation-template = 1112
+is-text-x-gettext-translation-template = 1111
 
 abbrev pub is-text-x-gff : ℕ
-is-text-x-gff = 1113
+is-text-x-gff = 1112
 
 abbrev pub is-text-x-gff3 : ℕ
-is-text-x-gff3 = 1114
+is-text-x-gff3 = 1113
 
 abbrev pub is-text-x-gfortran-module : ℕ
-is-text-x-gfortran-module = 1115
+is-text-x-gfortran-module = 1114
 
 abbrev pub is-text-x-gherkin : ℕ
-is-text-x-gherkin = 1116
+is-text-x-gherkin = 1115
 
 abbrev pub is-text-x-gimp-ggr : ℕ
-is-text-x-gimp-ggr = 1117
+is-text-x-gimp-ggr = 1116
 
 abbrev pub is-text-x-gimp-gpl : ℕ
-is-text-x-gimp-gpl = 1118
+is-text-x-gimp-gpl = 1117
 
 abbrev pub is-text-x-gitattributes : ℕ
-is-text-x-gitattributes = 1119
+is-text-x-gitattributes = 1118
 
 abbrev pub is-text-x-gitconfig : ℕ
-is-text-x-gitconfig = 1120
+is-text-x-gitconfig = 1119
 
 abbrev pub is-text-x-gitignore : ℕ
-is-text-x-gitignore = 1121
+is-text-x-gitignore = 1120
 
 abbrev pub is-text-x-gleam : ℕ
-is-text-x-gleam = 1122
+is-text-x-gleam = 1121
 
 abbrev pub is-text-x-glsl : ℕ
-is-text-x-glsl = 1123
+is-text-x-glsl = 1122
 
 abbrev pub is-text-x-gn : ℕ
-is-text-x-gn = 1124
+is-text-x-gn = 1123
 
 abbrev pub is-text-x-go : ℕ
-is-text-x-go = 1125
+is-text-x-go = 1124
 
 abbrev pub is-text-x-gomod : ℕ
-is-text-x-gomod = 1126
+is-text-x-gomod = 1125
 
 abbrev pub is-text-x-gosum : ℕ
-is-text-x-gosum = 1127
+is-text-x-gosum = 1126
 
 abbrev pub is-text-x-gotemplate : ℕ
-is-text-x-gotemplate = 1128
+is-text-x-gotemplate = 1127
 
 abbrev pub is-text-x-gpr : ℕ
-is-text-x-gpr = 1129
+is-text-x-gpr = 1128
 
 abbrev pub is-text-x-gradle : ℕ
-is-text-x-gradle = 1130
+is-text-x-gradle = 1129
 
 abbrev pub is-text-x-groovy : ℕ
-is-text-x-groovy = 1131
+is-text-x-groovy = 1130
 
 abbrev pub is-text-x-haml : ℕ
-is-text-x-haml = 1132
+is-text-x-haml = 1131
 
 abbrev pub is-text-x-handlebars : ℕ
-is-text-x-handlebars = 1133
+is-text-x-handlebars = 1132
 
 abbrev pub is-text-x-haskell : ℕ
-is-text-x-haskell = 1134
+is-text-x-haskell = 1133
 
 abbrev pub is-text-x-haxe : ℕ
-is-text-x-haxe = 1135
+is-text-x-haxe = 1134
 
 abbrev pub is-text-x-hcl : ℕ
-is-text-x-hcl = 1136
+is-text-x-hcl = 1135
 
 abbrev pub is-text-x-hive : ℕ
-is-text-x-hive = 1137
+is-text-x-hive = 1136
 
 abbrev pub is-text-x-hlsl : ℕ
-is-text-x-hlsl = 1138
+is-text-x-hlsl = 1137
 
 abbrev pub is-text-x-hunspell-affix : ℕ
-is-text-x-hunspell-affix = 1139
+is-text-x-hunspell-affix = 1138
 
 abbrev pub is-text-x-hy : ℕ
-is-text-x-hy = 1140
+is-text-x-hy = 1139
 
 abbrev pub is-text-x-icon-theme : ℕ
-is-text-x-icon-theme = 1141
+is-text-x-icon-theme = 1140
 
 abbrev pub is-text-x-idl : ℕ
-is-text-x-idl = 1142
+is-text-x-idl = 1141
 
 abbrev pub is-text-x-idris : ℕ
-is-text-x-idris = 1143
+is-text-x-idris = 1142
 
 abbrev pub is-text-x-igor : ℕ
-is-text-x-igor = 1144
+is-text-x-igor = 1143
 
 abbrev pub is-text-x-imagej : ℕ
-is-text-x-imagej = 1145
+is-text-x-imagej = 1144
 
 abbrev pub is-text-x-imelody : ℕ
-is-text-x-imelody = 1146
+is-text-x-imelody = 1145
 
 abbrev pub is-text-x-info : ℕ
-is-text-x-info = 1147
+is-text-x-info = 1146
 
 abbrev pub is-text-x-ini : ℕ
-is-text-x-ini = 1148
+is-text-x-ini = 1147
 
 abbrev pub is-text-x-innosetup : ℕ
-is-text-x-innosetup = 1149
+is-text-x-innosetup = 1148
 
 abbrev pub is-text-x-io : ℕ
-is-text-x-io = 1150
+is-text-x-io = 1149
 
 abbrev pub is-text-x-ipxe : ℕ
-is-text-x-ipxe = 1151
+is-text-x-ipxe = 1150
 
 abbrev pub is-text-x-irclog : ℕ
-is-text-x-irclog = 1152
+is-text-x-irclog = 1151
 
 abbrev pub is-text-x-isabelle : ℕ
-is-text-x-isabelle = 1153
+is-text-x-isabelle = 1152
 
 abbrev pub is-text-x-janet : ℕ
-is-text-x-janet = 1154
+is-text-x-janet = 1153
 
 abbrev pub is-text-x-java : ℕ
-is-text-x-java = 1155
+is-text-x-java = 1154
 
 abbrev pub is-text-x-java-manifest : ℕ
-is-text-x-java-manifest = 1156
+is-text-x-java-manifest = 1155
 
 abbrev pub is-text-x-java-properties : ℕ
-is-text-x-java-properties = 1157
+is-text-x-java-properties = 1156
 
 abbrev pub is-text-x-jcl : ℕ
-is-text-x-jcl = 1158
+is-text-x-jcl = 1157
 
 abbrev pub is-text-x-jelly : ℕ
-is-text-x-jelly = 1159
+is-text-x-jelly = 1158
 
 abbrev pub is-text-x-jinja : ℕ
-is-text-x-jinja = 1160
+is-text-x-jinja = 1159
 
 abbrev pub is-text-x-jq : ℕ
-is-text-x-jq = 1161
+is-text-x-jq = 1160
 
 abbrev pub is-text-x-julia : ℕ
-is-text-x-julia = 1162
+is-text-x-julia = 1161
 
 abbrev pub is-text-x-just : ℕ
-is-text-x-just = 1163
+is-text-x-just = 1162
 
 abbrev pub is-text-x-kaitai-struct : ℕ
-is-text-x-kaitai-struct = 1164
+is-text-x-kaitai-struct = 1163
 
 abbrev pub is-text-x-kconfig : ℕ
-is-text-x-kconfig = 1165
+is-text-x-kconfig = 1164
 
 abbrev pub is-text-x-kickstart : ℕ
-is-text-x-kickstart = 1166
+is-text-x-kickstart = 1165
 
 abbrev pub is-text-x-kotlin : ℕ
-is-text-x-kotlin = 1167
+is-text-x-kotlin = 1166
 
 abbrev pub is-text-x-krl : ℕ
-is-text-x-krl = 1168
+is-text-x-krl = 1167
 
 abbrev pub is-text-x-kusto : ℕ
-is-text-x-kusto = 1169
+is-text-x-kusto = 1168
 
 abbrev pub is-text-x-latte : ℕ
-is-text-x-latte = 1170
+is-text-x-latte = 1169
 
 abbrev pub is-text-x-ld-script : ℕ
-is-text-x-ld-script = 1171
+is-text-x-ld-script = 1170
 
 abbrev pub is-text-x-ldif : ℕ
-is-text-x-ldif = 1172
+is-text-x-ldif = 1171
 
 abbrev pub is-text-x-lean : ℕ
-is-text-x-lean = 1173
+is-text-x-lean = 1172
 
 abbrev pub is-text-x-less : ℕ
-is-text-x-less = 1174
+is-text-x-less = 1173
 
 abbrev pub is-text-x-lex : ℕ
-is-text-x-lex = 1175
+is-text-x-lex = 1174
 
 abbrev pub is-text-x-lfe : ℕ
-is-text-x-lfe = 1176
+is-text-x-lfe = 1175
 
 abbrev pub is-text-x-lilypond : ℕ
-is-text-x-lilypond = 1177
+is-text-x-lilypond = 1176
 
 abbrev pub is-text-x-liquid : ℕ
-is-text-x-liquid = 1178
+is-text-x-liquid = 1177
 
 abbrev pub is-text-x-literate-haskell : ℕ
-is-text-x-literate-haskell = 1179
+is-text-x-literate-haskell = 1178
 
 abbrev pub is-text-x-livescript : ℕ
-is-text-x-livescript = 1180
+is-text-x-livescript = 1179
 
 abbrev pub is-text-x-llvm : ℕ
-is-text-x-llvm = 1181
+is-text-x-llvm = 1180
 
 abbrev pub is-text-x-logtalk : ℕ
-is-text-x-logtalk = 1182
+is-text-x-logtalk = 1181
 
 abbrev pub is-text-x-lsl : ℕ
-is-text-x-lsl = 1183
+is-text-x-lsl = 1182
 
 abbrev pub is-text-x-lua : ℕ
-is-text-x-lua = 1184
+is-text-x-lua = 1183
 
 abbrev pub is-text-x-luatex : ℕ
-is-text-x-luatex = 1185
+is-text-x-luatex = 1184
 
 abbrev pub is-text-x-makefile : ℕ
-is-text-x-makefile = 1186
+is-text-x-makefile = 1185
 
 abbrev pub is-text-x-mako : ℕ
-is-text-x-mako = 1187
+is-text-x-mako = 1186
 
 abbrev pub is-text-x-marko : ℕ
-is-text-x-marko = 1188
+is-text-x-marko = 1187
 
 abbrev pub is-text-x-matlab : ℕ
-is-text-x-matlab = 1189
+is-text-x-matlab = 1188
 
 abbrev pub is-text-x-maven-xml : ℕ
-is-text-x-maven-xml = 1190
+is-text-x-maven-xml = 1189
 
 abbrev pub is-text-x-maxima : ℕ
-is-text-x-maxima = 1191
+is-text-x-maxima = 1190
 
 abbrev pub is-text-x-mcfunction : ℕ
-is-text-x-mcfunction = 1192
+is-text-x-mcfunction = 1191
 
 abbrev pub is-text-x-mediawiki : ℕ
-is-text-x-mediawiki = 1193
+is-text-x-mediawiki = 1192
 
 abbrev pub is-text-x-mermaid : ℕ
-is-text-x-mermaid = 1194
+is-text-x-mermaid = 1193
 
 abbrev pub is-text-x-meson : ℕ
-is-text-x-meson = 1195
+is-text-x-meson = 1194
 
 abbrev pub is-text-x-metafont : ℕ
-is-text-x-metafont = 1196
+is-text-x-metafont = 1195
 
 abbrev pub is-text-x-metal : ℕ
-is-text-x-metal = 1197
+is-text-x-metal = 1196
 
 abbrev pub is-text-x-mib : ℕ
-is-text-x-mib = 1198
+is-text-x-mib = 1197
 
 abbrev pub is-text-x-mirc : ℕ
-is-text-x-mirc = 1199
+is-text-x-mirc = 1198
 
 abbrev pub is-text-x-mlir : ℕ
-is-text-x-mlir = 1200
+is-text-x-mlir = 1199
 
 abbrev pub is-text-x-modelica : ℕ
-is-text-x-modelica = 1201
+is-text-x-modelica = 1200
 
 abbrev pub is-text-x-modula : ℕ
-is-text-x-modula = 1202
+is-text-x-modula = 1201
 
 abbrev pub is-text-x-mojo : ℕ
-is-text-x-mojo = 1203
+is-text-x-mojo = 1202
 
 abbrev pub is-text-x-monkey : ℕ
-is-text-x-monkey = 1204
+is-text-x-monkey = 1203
 
 abbrev pub is-text-x-moonscript : ℕ
-is-text-x-moonscript = 1205
+is-text-x-moonscript = 1204
 
 abbrev pub is-text-x-move : ℕ
-is-text-x-move = 1206
+is-text-x-move = 1205
 
 abbrev pub is-text-x-mpsub : ℕ
-is-text-x-mpsub = 1207
+is-text-x-mpsub = 1206
 
 abbrev pub is-text-x-ms-regedit : ℕ
-is-text-x-ms-regedit = 1208
+is-text-x-ms-regedit = 1207
 
 abbrev pub is-text-x-msdos-batch : ℕ
-is-text-x-msdos-batch = 1209
+is-text-x-msdos-batch = 1208
 
 abbrev pub is-text-x-mup : ℕ
-is-text-x-mup = 1210
+is-text-x-mup = 1209
 
 abbrev pub is-text-x-newick : ℕ
-is-text-x-newick = 1211
+is-text-x-newick = 1210
 
 abbrev pub is-text-x-nextflow : ℕ
-is-text-x-nextflow = 1212
+is-text-x-nextflow = 1211
 
 abbrev pub is-text-x-nexus : ℕ
-is-text-x-nexus = 1213
+is-text-x-nexus = 1212
 
 abbrev pub is-text-x-nftables : ℕ
-is-text-x-nftables = 1214
+is-text-x-nftables = 1213
 
 abbrev pub is-text-x-nginx-conf : ℕ
-is-text-x-nginx-conf = 1215
+is-text-x-nginx-conf = 1214
 
 abbrev pub is-text-x-nim : ℕ
-is-text-x-nim = 1216
+is-text-x-nim = 1215
 
 abbrev pub is-text-x-ninja : ℕ
-is-text-x-ninja = 1217
+is-text-x-ninja = 1216
 
 abbrev pub is-text-x-nix : ℕ
-is-text-x-nix = 1218
+is-text-x-nix = 1217
 
 abbrev pub is-text-x-nsis : ℕ
-is-text-x-nsis = 1219
+is-text-x-nsis = 1218
 
 abbrev pub is-text-x-nushell : ℕ
-is-text-x-nushell = 1220
+is-text-x-nushell = 1219
 
 abbrev pub is-text-x-objc-src : ℕ
-is-text-x-objc-src = 1221
+is-text-x-objc-src = 1220
 
 abbrev pub is-text-x-objcsrc : ℕ
-is-text-x-objcsrc = 1222
+is-text-x-objcsrc = 1221
 
 abbrev pub is-text-x-ocaml : ℕ
-is-text-x-ocaml = 1223
+is-text-x-ocaml = 1222
 
 abbrev pub is-text-x-octave : ℕ
-is-text-x-octave = 1224
+is-text-x-octave = 1223
 
 abbrev pub is-text-x-odin : ℕ
-is-text-x-odin = 1225
+is-text-x-odin = 1224
 
 abbrev pub is-text-x-ooc : ℕ
-is-text-x-ooc = 1226
+is-text-x-ooc = 1225
 
 abbrev pub is-text-x-opencl-src : ℕ
-is-text-x-opencl-src = 1227
+is-text-x-opencl-src = 1226
 
 abbrev pub is-text-x-openscad : ℕ
-is-text-x-openscad = 1228
+is-text-x-openscad = 1227
 
 abbrev pub is-text-x-opentype-feature : ℕ
-is-text-x-opentype-feature = 1229
+is-text-x-opentype-feature = 1228
 
 abbrev pub is-text-x-opml-xml : ℕ
-is-text-x-opml-xml = 1230
+is-text-x-opml-xml = 1229
 
 abbrev pub is-text-x-oz : ℕ
-is-text-x-oz = 1231
+is-text-x-oz = 1230
 
 abbrev pub is-text-x-pascal : ℕ
-is-text-x-pascal = 1232
+is-text-x-pascal = 1231
 
 abbrev pub is-text-x-patch : ℕ
-is-text-x-patch = 1233
+is-text-x-patch = 1232
 
 abbrev pub is-text-x-pawn : ℕ
-is-text-x-pawn = 1234
+is-text-x-pawn = 1233
 
 abbrev pub is-text-x-perl : ℕ
-is-text-x-perl = 1235
+is-text-x-perl = 1234
 
 abbrev pub is-text-x-php : ℕ
-is-text-x-php = 1236
+is-text-x-php = 1235
 
 abbrev pub is-text-x-pic : ℕ
-is-text-x-pic = 1237
+is-text-x-pic = 1236
 
 abbrev pub is-text-x-pig : ℕ
-is-text-x-pig = 1238
+is-text-x-pig = 1237
 
 abbrev pub is-text-x-pike : ℕ
-is-text-x-pike = 1239
+is-text-x-pike = 1238
 
 abbrev pub is-text-x-pkg-config : ℕ
-is-text-x-pkg-config = 1240
+is-text-x-pkg-config = 1239
 
 abbrev pub is-text-x-plantuml : ℕ
-is-text-x-plantuml = 1241
+is-text-x-plantuml = 1240
 
 abbrev pub is-text-x-pli : ℕ
-is-text-x-pli = 1242
+is-text-x-pli = 1241
 
 abbrev pub is-text-x-pod : ℕ
-is-text-x-pod = 1243
+is-text-x-pod = 1242
 
 abbrev pub is-text-x-pony : ℕ
-is-text-x-pony = 1244
+is-text-x-pony = 1243
 
 abbrev pub is-text-x-postcss : ℕ
-is-text-x-postcss = 1245
+is-text-x-postcss = 1244
 
 abbrev pub is-text-x-praat : ℕ
-is-text-x-praat = 1246
+is-text-x-praat = 1245
 
 abbrev pub is-text-x-preseed : ℕ
-is-text-x-preseed = 1247
+is-text-x-preseed = 1246
 
 abbrev pub is-text-x-prisma : ℕ
-is-text-x-prisma = 1248
+is-text-x-prisma = 1247
 
 abbrev pub is-text-x-procfile : ℕ
-is-text-x-procfile = 1249
+is-text-x-procfile = 1248
 
 abbrev pub is-text-x-prolog : ℕ
-is-text-x-prolog = 1250
+is-text-x-prolog = 1249
 
 abbrev pub is-text-x-protobuf : ℕ
-is-text-x-protobuf = 1251
+is-text-x-protobuf = 1250
 
 abbrev pub is-text-x-psv : ℕ
-is-text-x-psv = 1252
+is-text-x-psv = 1251
 
 abbrev pub is-text-x-pth : ℕ
-is-text-x-pth = 1253
+is-text-x-pth = 1252
 
 abbrev pub is-text-x-pug : ℕ
-is-text-x-pug = 1254
+is-text-x-pug = 1253
 
 abbrev pub is-text-x-puppet : ℕ
-is-text-x-puppet = 1255
+is-text-x-puppet = 1254
 
 abbrev pub is-text-x-purescript : ℕ
-is-text-x-purescript = 1256
+is-text-x-purescript = 1255
 
 abbrev pub is-text-x-python-as-known : ℕ
-is-text-x-python-as-known = 1257
+is-text-x-python-as-known = 1256
 
 abbrev pub is-text-x-python-as-row-py : ℕ
-is-text-x-python-as-row-py = 1258
+is-text-x-python-as-row-py = 1257
 
 abbrev pub is-text-x-qmake : ℕ
-is-text-x-qmake = 1259
+is-text-x-qmake = 1258
 
 abbrev pub is-text-x-qml : ℕ
-is-text-x-qml = 1260
+is-text-x-qml = 1259
 
 abbrev pub is-text-x-r-doc : ℕ
-is-text-x-r-doc = 1261
+is-text-x-r-doc = 1260
 
 abbrev pub is-text-x-racket : ℕ
-is-text-x-racket = 1262
+is-text-x-racket = 1261
 
 abbrev pub is-text-x-ragel : ℕ
-is-text-x-ragel = 1263
+is-text-x-ragel = 1262
 
 abbrev pub is-text-x-raku : ℕ
-is-text-x-raku = 1264
+is-text-x-raku = 1263
 
 abbrev pub is-text-x-razor : ℕ
-is-text-x-razor = 1265
+is-text-x-razor = 1264
 
 abbrev pub is-text-x-rdoc : ℕ
-is-text-x-rdoc = 1266
+is-text-x-rdoc = 1265
 
 abbrev pub is-text-x-readline : ℕ
-is-text-x-readline = 1267
+is-text-x-readline = 1266
 
 abbrev pub is-text-x-reason : ℕ
-is-text-x-reason = 1268
+is-text-x-reason = 1267
 
 abbrev pub is-text-x-rebol : ℕ
-is-text-x-rebol = 1269
+is-text-x-rebol = 1268
 
 abbrev pub is-text-x-red : ℕ
-is-text-x-red = 1270
+is-text-x-red = 1269
 
 abbrev pub is-text-x-rego : ℕ
-is-text-x-rego = 1271
+is-text-x-rego = 1270
 
 abbrev pub is-text-x-reject : ℕ
-is-text-x-reject = 1272
+is-text-x-reject = 1271
 
 abbrev pub is-text-x-rexx : ℕ
-is-text-x-rexx = 1273
+is-text-x-rexx = 1272
 
 abbrev pub is-text-x-ring : ℕ
-is-text-x-ring = 1274
+is-text-x-ring = 1273
 
 abbrev pub is-text-x-rmarkdown : ℕ
-is-text-x-rmarkdown = 1275
+is-text-x-rmarkdown = 1274
 
 abbrev pub is-text-x-robotframework : ℕ
-is-text-x-robotframework = 1276
+is-text-x-robotframework = 1275
 
 abbrev pub is-text-x-roc : ℕ
-is-text-x-roc = 1277
+is-text-x-roc = 1276
 
 abbrev pub is-text-x-rpgle : ℕ
-is-text-x-rpgle = 1278
+is-text-x-rpgle = 1277
 
 abbrev pub is-text-x-rpm-spec : ℕ
-is-text-x-rpm-spec = 1279
+is-text-x-rpm-spec = 1278
 
 abbrev pub is-text-x-rsrc : ℕ
-is-text-x-rsrc = 1280
+is-text-x-rsrc = 1279
 
 abbrev pub is-text-x-rst : ℕ
-is-text-x-rst = 1281
+is-text-x-rst = 1280
 
 abbrev pub is-text-x-ruby : ℕ
-is-text-x-ruby = 1282
+is-text-x-ruby = 1281
 
 abbrev pub is-text-x-sagemath : ℕ
-is-text-x-sagemath = 1283
+is-text-x-sagemath = 1282
 
 abbrev pub is-text-x-sam : ℕ
-is-text-x-sam = 1284
+is-text-x-sam = 1283
 
 abbrev pub is-text-x-sas : ℕ
-is-text-x-sas = 1285
+is-text-x-sas = 1284
 
 abbrev pub is-text-x-sass : ℕ
-is-text-x-sass = 1286
+is-text-x-sass = 1285
 
 abbrev pub is-text-x-scala : ℕ
-is-text-x-scala = 1287
+is-text-x-scala = 1286
 
 abbrev pub is-text-x-scc : ℕ
-is-text-x-scc = 1288
+is-text-x-scc = 1287
 
 abbrev pub is-text-x-scheme : ℕ
-is-text-x-scheme = 1289
+is-text-x-scheme = 1288
 
 abbrev pub is-text-x-scilab : ℕ
-is-text-x-scilab = 1290
+is-text-x-scilab = 1289
 
 abbrev pub is-text-x-scons : ℕ
-is-text-x-scons = 1291
+is-text-x-scons = 1290
 
 abbrev pub is-text-x-scss : ℕ
-is-text-x-scss = 1292
+is-text-x-scss = 1291
 
 abbrev pub is-text-x-sdc : ℕ
-is-text-x-sdc = 1293
+is-text-x-sdc = 1292
 
 abbrev pub is-text-x-sed : ℕ
-is-text-x-sed = 1294
+is-text-x-sed = 1293
 
 abbrev pub is-text-x-selinux : ℕ
-is-text-x-selinux = 1295
+is-text-x-selinux = 1294
 
 abbrev pub is-text-x-setext : ℕ
-is-text-x-setext = 1296
+is-text-x-setext = 1295
 
 abbrev pub is-text-x-shell-config : ℕ
-is-text-x-shell-config = 1297
+is-text-x-shell-config = 1296
 
 abbrev pub is-text-x-shellscript : ℕ
-is-text-x-shellscript = 1298
+is-text-x-shellscript = 1297
 
 abbrev pub is-text-x-sieve : ℕ
-is-text-x-sieve = 1299
+is-text-x-sieve = 1298
 
 abbrev pub is-text-x-slim : ℕ
-is-text-x-slim = 1300
+is-text-x-slim = 1299
 
 abbrev pub is-text-x-slint : ℕ
-is-text-x-slint = 1301
+is-text-x-slint = 1300
 
 abbrev pub is-text-x-sln : ℕ
-is-text-x-sln = 1302
+is-text-x-sln = 1301
 
 abbrev pub is-text-x-smali : ℕ
-is-text-x-smali = 1303
+is-text-x-smali = 1302
 
 abbrev pub is-text-x-smarty : ℕ
-is-text-x-smarty = 1304
+is-text-x-smarty = 1303
 
 abbrev pub is-text-x-sml : ℕ
-is-text-x-sml = 1305
+is-text-x-sml = 1304
 
 abbrev pub is-text-x-smt : ℕ
-is-text-x-smt = 1306
+is-text-x-smt = 1305
 
 abbrev pub is-text-x-snakemake : ℕ
-is-text-x-snakemake = 1307
+is-text-x-snakemake = 1306
 
 abbrev pub is-text-x-solidity : ℕ
-is-text-x-solidity = 1308
+is-text-x-solidity = 1307
 
 abbrev pub is-text-x-sourcepawn : ℕ
-is-text-x-sourcepawn = 1309
+is-text-x-sourcepawn = 1308
 
 abbrev pub is-text-x-soy : ℕ
-is-text-x-soy = 1310
+is-text-x-soy = 1309
 
 abbrev pub is-text-x-spice : ℕ
-is-text-x-spice = 1311
+is-text-x-spice = 1310
 
 abbrev pub is-text-x-spin : ℕ
-is-text-x-spin = 1312
+is-text-x-spin = 1311
 
 abbrev pub is-text-x-squirrel : ℕ
-is-text-x-squirrel = 1313
+is-text-x-squirrel = 1312
 
 abbrev pub is-text-x-ssa : ℕ
-is-text-x-ssa = 1314
+is-text-x-ssa = 1313
 
 abbrev pub is-text-x-stan : ℕ
-is-text-x-stan = 1315
+is-text-x-stan = 1314
 
 abbrev pub is-text-x-starlark : ℕ
-is-text-x-starlark = 1316
+is-text-x-starlark = 1315
 
 abbrev pub is-text-x-stata : ℕ
-is-text-x-stata = 1317
+is-text-x-stata = 1316
 
 abbrev pub is-text-x-strings : ℕ
-is-text-x-strings = 1318
+is-text-x-strings = 1317
 
 abbrev pub is-text-x-stylus : ℕ
-is-text-x-stylus = 1319
+is-text-x-stylus = 1318
 
 abbrev pub is-text-x-subviewer : ℕ
-is-text-x-subviewer = 1320
+is-text-x-subviewer = 1319
 
 abbrev pub is-text-x-supercollider : ℕ
-is-text-x-supercollider = 1321
+is-text-x-supercollider = 1320
 
 abbrev pub is-text-x-svelte : ℕ
-is-text-x-svelte = 1322
+is-text-x-svelte = 1321
 
 abbrev pub is-text-x-svhdr : ℕ
-is-text-x-svhdr = 1323
+is-text-x-svhdr = 1322
 
 abbrev pub is-text-x-svsrc : ℕ
-is-text-x-svsrc = 1324
+is-text-x-svsrc = 1323
 
 abbrev pub is-text-x-swift : ℕ
-is-text-x-swift = 1325
+is-text-x-swift = 1324
 
 abbrev pub is-text-x-systemd-unit : ℕ
-is-text-x-systemd-unit = 1326
+is-text-x-systemd-unit = 1325
 
 abbrev pub is-text-x-tablegen : ℕ
-is-text-x-tablegen = 1327
+is-text-x-tablegen = 1326
 
 abbrev pub is-text-x-tcl : ℕ
-is-text-x-tcl = 1328
+is-text-x-tcl = 1327
 
 abbrev pub is-text-x-template-toolkit : ℕ
-is-text-x-template-toolkit = 1329
+is-text-x-template-toolkit = 1328
 
 abbrev pub is-text-x-tex : ℕ
-is-text-x-tex = 1330
+is-text-x-tex = 1329
 
 abbrev pub is-text-x-texinfo : ℕ
-is-text-x-texinfo = 1331
+is-text-x-texinfo = 1330
 
 abbrev pub is-text-x-textile : ℕ
-is-text-x-textile = 1332
+is-text-x-textile = 1331
 
 abbrev pub is-text-x-textproto : ℕ
-is-text-x-textproto = 1333
+is-text-x-textproto = 1332
 
 abbrev pub is-text-x-thrift : ℕ
-is-text-x-thrift = 1334
+is-text-x-thrift = 1333
 
 abbrev pub is-text-x-tla : ℕ
-is-text-x-tla = 1335
+is-text-x-tla = 1334
 
 abbrev pub is-text-x-tmux-conf : ℕ
-is-text-x-tmux-conf = 1336
+is-text-x-tmux-conf = 1335
 
 abbrev pub is-text-x-tsx : ℕ
-is-text-x-tsx = 1337
+is-text-x-tsx = 1336
 
 abbrev pub is-text-x-twig : ℕ
-is-text-x-twig = 1338
+is-text-x-twig = 1337
 
 abbrev pub is-text-x-txt2tags : ℕ
-is-text-x-txt2tags = 1339
+is-text-x-txt2tags = 1338
 
 abbrev pub is-text-x-typescript : ℕ
-is-text-x-typescript = 1340
+is-text-x-typescript = 1339
 
 abbrev pub is-text-x-typst : ℕ
-is-text-x-typst = 1341
+is-text-x-typst = 1340
 
 abbrev pub is-text-x-uc : ℕ
-is-text-x-uc = 1342
+is-text-x-uc = 1341
 
 abbrev pub is-text-x-udev-rules : ℕ
-is-text-x-udev-rules = 1343
+is-text-x-udev-rules = 1342
 
 abbrev pub is-text-x-unity : ℕ
-is-text-x-unity = 1344
+is-text-x-unity = 1343
 
 abbrev pub is-text-x-uri : ℕ
-is-text-x-uri = 1345
+is-text-x-uri = 1344
 
 abbrev pub is-text-x-uuencode : ℕ
-is-text-x-uuencode = 1346
+is-text-x-uuencode = 1345
 
 abbrev pub is-text-x-vagrantfile : ℕ
-is-text-x-vagrantfile = 1347
+is-text-x-vagrantfile = 1346
 
 abbrev pub is-text-x-vala : ℕ
-is-text-x-vala = 1348
+is-text-x-vala = 1347
 
 abbrev pub is-text-x-vb : ℕ
-is-text-x-vb = 1349
+is-text-x-vb = 1348
 
 abbrev pub is-text-x-vcf : ℕ
-is-text-x-vcf = 1350
+is-text-x-vcf = 1349
 
 abbrev pub is-text-x-vcl : ℕ
-is-text-x-vcl = 1351
+is-text-x-vcl = 1350
 
 abbrev pub is-text-x-vdf : ℕ
-is-text-x-vdf = 1352
+is-text-x-vdf = 1351
 
 abbrev pub is-text-x-verilog : ℕ
-is-text-x-verilog = 1353
+is-text-x-verilog = 1352
 
 abbrev pub is-text-x-vhdl : ℕ
-is-text-x-vhdl = 1354
+is-text-x-vhdl = 1353
 
 abbrev pub is-text-x-vim : ℕ
-is-text-x-vim = 1355
+is-text-x-vim = 1354
 
 abbrev pub is-text-x-vnote : ℕ
-is-text-x-vnote = 1356
+is-text-x-vnote = 1355
 
 abbrev pub is-text-x-vue : ℕ
-is-text-x-vue = 1357
+is-text-x-vue = 1356
 
 abbrev pub is-text-x-vyper : ℕ
-is-text-x-vyper = 1358
+is-text-x-vyper = 1357
 
 abbrev pub is-text-x-wat : ℕ
-is-text-x-wat = 1359
+is-text-x-wat = 1358
 
 abbrev pub is-text-x-wdl : ℕ
-is-text-x-wdl = 1360
+is-text-x-wdl = 1359
 
 abbrev pub is-text-x-wkt : ℕ
-is-text-x-wkt = 1361
+is-text-x-wkt = 1360
 
 abbrev pub is-text-x-wren : ℕ
-is-text-x-wren = 1362
+is-text-x-wren = 1361
 
 abbrev pub is-text-x-xcu-rng : ℕ
-is-text-x-xcu-rng = 1363
+is-text-x-xcu-rng = 1362
 
 abbrev pub is-text-x-xmcd : ℕ
-is-text-x-xmcd = 1364
+is-text-x-xmcd = 1363
 
 abbrev pub is-text-x-xmi : ℕ
-is-text-x-xmi = 1365
+is-text-x-xmi = 1364
 
 abbrev pub is-text-x-xonsh : ℕ
-is-text-x-xonsh = 1366
+is-text-x-xonsh = 1365
 
 abbrev pub is-text-x-xresources : ℕ
-is-text-x-xresources = 1367
+is-text-x-xresources = 1366
 
 abbrev pub is-text-x-yacc : ℕ
-is-text-x-yacc = 1368
+is-text-x-yacc = 1367
 
 abbrev pub is-text-x-yang : ℕ
-is-text-x-yang = 1369
+is-text-x-yang = 1368
 
 abbrev pub is-text-x-zig : ℕ
-is-text-x-zig = 1370
+is-text-x-zig = 1369
 
 abbrev pub is-text-x-zimpl : ℕ
-is-text-x-zimpl = 1371
+is-text-x-zimpl = 1370
 
 abbrev pub is-text-x-gcode : ℕ
-is-text-x-gcode = 1372
+is-text-x-gcode = 1371
 
 abbrev pub is-text-xml : ℕ
-is-text-xml = 1373
+is-text-xml = 1372
 
 abbrev pub is-video-3gpp : ℕ
-is-video-3gpp = 1374
+is-video-3gpp = 1373
 
 abbrev pub is-video-3gpp2 : ℕ
-is-video-3gpp2 = 1375
+is-video-3gpp2 = 1374
 
 abbrev pub is-video-dv : ℕ
-is-video-dv = 1376
+is-video-dv = 1375
 
 abbrev pub is-video-h264 : ℕ
-is-video-h264 = 1377
+is-video-h264 = 1376
 
 abbrev pub is-video-h265 : ℕ
-is-video-h265 = 1378
+is-video-h265 = 1377
 
 abbrev pub is-video-mj2 : ℕ
-is-video-mj2 = 1379
+is-video-mj2 = 1378
 
 abbrev pub is-video-mp2t : ℕ
-is-video-mp2t = 1380
+is-video-mp2t = 1379
 
 abbrev pub is-video-mp4 : ℕ
-is-video-mp4 = 1381
+is-video-mp4 = 1380
 
 abbrev pub is-video-mpeg : ℕ
-is-video-mpeg = 1382
+is-video-mpeg = 1381
 
 abbrev pub is-video-ogg : ℕ
-is-video-ogg = 1383
+is-video-ogg = 1382
 
 abbrev pub is-video-quicktime-as-row-mov : ℕ
-is-video-quicktime-as-row-mov = 1384
+is-video-quicktime-as-row-mov = 1383
 
 abbrev pub is-video-quicktime-as-row-mqv : ℕ
-is-video-quicktime-as-row-mqv = 1385
+is-video-quicktime-as-row-mqv = 1384
 
 abbrev pub is-video-vnd-dvb-file : ℕ
-is-video-vnd-dvb-file = 1386
+is-video-vnd-dvb-file = 1385
 
 abbrev pub is-video-vnd-mpegurl : ℕ
-is-video-vnd-mpegurl = 1387
+is-video-vnd-mpegurl = 1386
 
 abbrev pub is-video-vnd-radgamettools-bink : ℕ
-is-video-vnd-radgamettools-bink = 1388
+is-video-vnd-radgamettools-bink = 1387
 
 abbrev pub is-video-vnd-radgamettools-smacker : ℕ
-is-video-vnd-radgamettools-smacker = 1389
+is-video-vnd-radgamettools-smacker = 1388
 
 abbrev pub is-video-webm : ℕ
-is-video-webm = 1390
+is-video-webm = 1389
 
 abbrev pub is-video-x-4xmv : ℕ
-is-video-x-4xmv = 1391
+is-video-x-4xmv = 1390
 
 abbrev pub is-video-x-amv : ℕ
-is-video-x-amv = 1392
+is-video-x-amv = 1391
 
 abbrev pub is-video-x-anim : ℕ
-is-video-x-anim = 1393
+is-video-x-anim = 1392
 
 abbrev pub is-video-x-cdxa : ℕ
-is-video-x-cdxa = 1394
+is-video-x-cdxa = 1393
 
 abbrev pub is-video-x-dirac : ℕ
-is-video-x-dirac = 1395
+is-video-x-dirac = 1394
 
 abbrev pub is-video-x-f4v : ℕ
-is-video-x-f4v = 1396
+is-video-x-f4v = 1395
 
 abbrev pub is-video-x-flic : ℕ
-is-video-x-flic = 1397
+is-video-x-flic = 1396
 
 abbrev pub is-video-x-flv : ℕ
-is-video-x-flv = 1398
+is-video-x-flv = 1397
 
 abbrev pub is-video-x-ifo : ℕ
-is-video-x-ifo = 1399
+is-video-x-ifo = 1398
 
 abbrev pub is-video-x-interplay-mve : ℕ
-is-video-x-interplay-mve = 1400
+is-video-x-interplay-mve = 1399
 
 abbrev pub is-video-x-ivf : ℕ
-is-video-x-ivf = 1401
+is-video-x-ivf = 1400
 
 abbrev pub is-video-x-m4v : ℕ
-is-video-x-m4v = 1402
+is-video-x-m4v = 1401
 
 abbrev pub is-video-x-matroska : ℕ
-is-video-x-matroska = 1403
+is-video-x-matroska = 1402
 
 abbrev pub is-video-x-matroska-3d : ℕ
-is-video-x-matroska-3d = 1404
+is-video-x-matroska-3d = 1403
 
 abbrev pub is-video-x-mmm : ℕ
-is-video-x-mmm = 1405
+is-video-x-mmm = 1404
 
 abbrev pub is-video-x-mng : ℕ
-is-video-x-mng = 1406
+is-video-x-mng = 1405
 
 abbrev pub is-video-x-ms-wmv : ℕ
-is-video-x-ms-wmv = 1407
+is-video-x-ms-wmv = 1406
 
 abbrev pub is-video-x-ms-wtv : ℕ
-is-video-x-ms-wtv = 1408
+is-video-x-ms-wtv = 1407
 
 abbrev pub is-video-x-msvideo : ℕ
-is-video-x-msvideo = 1409
+is-video-x-msvideo = 1408
 
 abbrev pub is-video-x-nsv : ℕ
-is-video-x-nsv = 1410
+is-video-x-nsv = 1409
 
 abbrev pub is-video-x-nut : ℕ
-is-video-x-nut = 1411
+is-video-x-nut = 1410
 
 abbrev pub is-video-x-ogm-ogg : ℕ
-is-video-x-ogm-ogg = 1412
+is-video-x-ogm-ogg = 1411
 
 abbrev pub is-video-x-red-r3d : ℕ
-is-video-x-red-r3d = 1413
+is-video-x-red-r3d = 1412
 
 abbrev pub is-video-x-roq : ℕ
-is-video-x-roq = 1414
+is-video-x-roq = 1413
 
 abbrev pub is-video-x-sgi-movie : ℕ
-is-video-x-sgi-movie = 1415
+is-video-x-sgi-movie = 1414
 
 abbrev pub is-video-x-vdr : ℕ
-is-video-x-vdr = 1416
+is-video-x-vdr = 1415
 
 abbrev pub is-video-x-yuv4mpeg : ℕ
-is-video-x-yuv4mpeg = 1417
+is-video-x-yuv4mpeg = 1416
 
 abbrev pub is-x-epoc-x-sisx-app : ℕ
-is-x-epoc-x-sisx-app = 1418
+is-x-epoc-x-sisx-app = 1417
 
 unfoldable pub types_0 : List NamedType
 types_0 =
@@ -4521,8 +4518,7 @@ types_0 =
 
 unfoldable pub types_1 : List NamedType
 types_1 =
-    named (codes "application/x-arc") known
-    ∷ named (codes "application/x-arj") (row (codes "arj"))
+    named (codes "application/x-arj") (row (codes "arj"))
     ∷ named (codes "application/x-asar") (row (codes "asar"))
     ∷ named (codes "application/x-asp") known
     ∷ named (codes "application/x-aspx") known
@@ -4777,12 +4773,12 @@ types_1 =
     ∷ named (codes "application/x-ms-registry") (row (codes "regf"))
     ∷ named (codes "application/x-ms-registry-hive") own
     ∷ named (codes "application/x-ms-resource") (row (codes "res"))
+    ∷ named (codes "application/x-ms-sdb") (row (codes "sdb"))
     ∷ []
 
 unfoldable pub types_2 : List NamedType
 types_2 =
-    named (codes "application/x-ms-sdb") (row (codes "sdb"))
-    ∷ named (codes "application/x-ms-sdi") (row (codes "sdi"))
+    named (codes "application/x-ms-sdi") (row (codes "sdi"))
     ∷ named (codes "application/x-ms-shortcut") (row (codes "lnk"))
     ∷ named (codes "application/x-ms-wim") (row (codes "wim"))
     ∷ named (codes "application/x-msaccess") (row (codes "accdb"))
@@ -5037,12 +5033,12 @@ types_2 =
     ∷ named (codes "audio/x-bcwav") (row (codes "bcwav"))
     ∷ named (codes "audio/x-bfstm") (row (codes "bfstm"))
     ∷ named (codes "audio/x-brstm") (row (codes "brstm"))
+    ∷ named (codes "audio/x-caf") (row (codes "caf"))
     ∷ []
 
 unfoldable pub types_3 : List NamedType
 types_3 =
-    named (codes "audio/x-caf") (row (codes "caf"))
-    ∷ named (codes "audio/x-dbm") (row (codes "dbm"))
+    named (codes "audio/x-dbm") (row (codes "dbm"))
     ∷ named (codes "audio/x-dff") (row (codes "dff"))
     ∷ named (codes "audio/x-dsf") (row (codes "dsf"))
     ∷ named (codes "audio/x-dss") (row (codes "dss"))
@@ -5297,12 +5293,12 @@ types_3 =
     ∷ named (codes "text/x-asn1") own
     ∷ named (codes "text/x-astro") own
     ∷ named (codes "text/x-asymptote") own
+    ∷ named (codes "text/x-autoconf") own
     ∷ []
 
 unfoldable pub types_4 : List NamedType
 types_4 =
-    named (codes "text/x-autoconf") own
-    ∷ named (codes "text/x-autohotkey") own
+    named (codes "text/x-autohotkey") own
     ∷ named (codes "text/x-autoit") own
     ∷ named (codes "text/x-automake") own
     ∷ named (codes "text/x-awk") (row (codes "awk"))
@@ -5557,12 +5553,12 @@ types_4 =
     ∷ named (codes "text/x-roc") own
     ∷ named (codes "text/x-rpgle") own
     ∷ named (codes "text/x-rpm-spec") (row (codes "spec"))
+    ∷ named (codes "text/x-rsrc") known
     ∷ []
 
 unfoldable pub types_5 : List NamedType
 types_5 =
-    named (codes "text/x-rsrc") known
-    ∷ named (codes "text/x-rst") known
+    named (codes "text/x-rst") known
     ∷ named (codes "text/x-ruby") (row (codes "rb"))
     ∷ named (codes "text/x-sagemath") known
     ∷ named (codes "text/x-sam") (row (codes "sam"))

@@ -1,6 +1,6 @@
 //! Laws of names and bytes, each the contract of a function that does nothing beside. They hold for every key, so for every
 //! table. To use a law, call it.
-ghost use Rattle.infer_named.specs.Laws.{AnswersLast, AnswersLastByKind, ChangesOnce, DecidedAnswersLast, EachKeyIsReached, EachReadingIsFound, EachRowIsNamed, KeysAreRight, KindsLast, LeadsLast, LiesStayVisible, NothingIsInvented, OnlyTheKeyCounts, OnlyThreeCount, SilenceIsExact, TheBytesWin};
+ghost use Rattle.infer_named.specs.Laws.{AnswersLast, AnswersLastByKind, CaseChangesNoKey, ChangesOnce, CopiesChangeNoKey, DecidedAnswersLast, EachKeyIsReached, EachReadingIsFound, EachRowIsNamed, FoldersChangeNoKey, KeysAreRight, KindsLast, LeadsLast, LiesStayVisible, NothingIsInvented, OnlyTheKeyCounts, OnlyThreeCount, SilenceIsExact, TheBytesWin};
 
 /// The bytes win: no type is told that they contradict, and theirs is told but where a name refines it.
 #[tactic(auto, using(crate::proofs::LawLemmas::bytes_win))]
@@ -25,6 +25,14 @@ pub fn only_the_key_counts()
     ensures { OnlyTheKeyCounts }
 {}
 
+/// No key is another by the case of letters, by a folder before the name, or by the ending of a copy behind a name that is none
+/// itself.
+pub fn keys_stay()
+    ensures case { CaseChangesNoKey }
+    ensures folders { FoldersChangeNoKey }
+    ensures copies { CopiesChangeNoKey }
+{}
+
 /// Of the bytes count their type, their kind where they have none, and their lead where a reading has leads.
 #[tactic(auto, using(crate::proofs::LawLemmas::only_three))]
 pub fn only_three_count()
@@ -32,8 +40,9 @@ pub fn only_three_count()
 {}
 
 /// What follows the bytes changes neither a lead of two bytes, but that of EF BB alone, nor that they are no text, nor a byte
-/// 00 among them. So it changes no answer about bytes that have a type, as long as the type stays, as it does if it is decided;
-/// and none about bytes without one, but with their kind, so at most once, as the first 00 comes.
+/// 00 among them. So where the lead stays, or no reading of the key has one, it changes no answer about bytes that have a type,
+/// as long as the type stays, as it does if it is decided; and none about bytes without one, but with their kind, so at most
+/// once, as the first 00 comes. The name may be changed meanwhile for another with its key.
 pub fn growth()
     ensures leads { LeadsLast }
     ensures kinds { KindsLast }
@@ -53,7 +62,8 @@ pub fn each_key_is_reached()
     ensures { EachKeyIsReached }
 {}
 
-/// No reading is hidden by those before it: of some bytes it is the one that is found.
+/// No reading is hidden by those before it: of some row's type, or of some bytes without one, it is what is told. But the only
+/// reading of a loose key may say no more than what type the name has.
 pub fn each_reading_is_found()
     ensures { EachReadingIsFound }
 {}

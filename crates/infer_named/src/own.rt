@@ -17,7 +17,8 @@ pub enum NamedBy<'a> {
     Named(Named),
 }
 
-/// What the types of the text, the name and the bytes tell.
+/// What the types of the text, the name and the bytes tell. Nothing is promised of a text with a mistake, which
+/// [`types::check`] reports.
 pub fn named_by<'a>(text: &'a [u8], name: &[u8], buf: &[u8]) -> NamedBy<'a>
     ensures { (rows : List Row) → rows_of text.now ≡ Some rows → IsNamedBy rows name.now buf.now result }
 {

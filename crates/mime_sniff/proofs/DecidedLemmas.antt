@@ -1,10 +1,11 @@
 -- When more bytes leave the computed type as it is.
-use Rattle.std.proofs.Common.{◌≡◌, ◌∙◌, inl, inr, ℕ, suc, ◌+◌, ◌-◌, ◌≤◌, List, [], ◌∷◌, ◌++◌, Any, None, Option, Some, ap, append_assoc, arith, length, refl, subst, sym, take}
+use Rattle.std.proofs.Common.{◌≡◌, ◌∙◌, ◌↔◌, inl, inr, ℕ, suc, ◌+◌, ◌-◌, ◌<◌, ◌≤◌, Bool, false, true, IsTrue, List, [], ◌∷◌, ◌++◌, Any, None, Option, Some, ap, append_assoc, arith, length, refl, subst, sym, take}
 use Rattle.std.proofs.Math.Seq.{take-append-add}
-use Rattle.std.proofs.lemmas.Bool.{cases_lt}
+use Rattle.std.proofs.lemmas.Bool.{cases_lt, false≢true}
+use Rattle.std.specs.Bool.{OnFalse, OnTrue}
 use Rattle.std.proofs.lemmas.List.{append-nil, take-append-le, take_all}
 use Rattle.mime_sniff.specs.Computed.{Answers, IsAsked, IsComputed, Supply}
-use Rattle.mime_sniff.specs.Growth.{AnswerForGood, IsDecided, NeverScripts, TellForGood}
+use Rattle.mime_sniff.specs.Growth.{AnswerForGood, IsDecided, MayScript, NeverHolds, NeverScripts}
 use Rattle.mime_sniff.specs.Rule.{Accepts, Rule, TellsFirst}
 use Rattle.mime_sniff.specs.Standard.{header, scriptable}
 use Rattle.mime_sniff.specs.declared.question.Question.{Question}
@@ -52,10 +53,21 @@ some_rule P (x ∷ rules) t h = elim (tells_cases P x rules (Some t) h) [
 pub never_full : (b : List ℕ) → 1445 ≤ length b → TellsFirst (Accepts (header b)) scriptable None → NeverScripts b
 never_full b full none more = subst (λ h. ¬ Any (Accepts h) scriptable) (sym (full_stays b more full)) (no_rule (Accepts (header b)) scriptable none)
 
-pub never_settled : (b : List ℕ) → TellForGood (header b) scriptable None → NeverScripts b
-never_settled b good more =
-    let (m, e) = grows b more in
-    subst (λ h. ¬ Any (Accepts h) scriptable) (sym e) (no_rule (Accepts (header b ++ m)) scriptable (good m))
+-- what no bytes after the header bring, none after the buffer bring
+abbrev pub NeverAccepted : List ℕ → Type 0
+NeverAccepted b = NeverHolds (λ c. Any (Accepts c) scriptable) b
+
+pub never_accepted : (b : List ℕ) (r : Bool) → OnFalse r (NeverAccepted (header b)) → OnFalse r (NeverScripts b)
+never_accepted b true never = tt
+never_accepted b false never = λ more. let (m, e) = grows b more in subst (λ h. ¬ Any (Accepts h) scriptable) (sym e) (never m)
+
+-- and the header of fewer bytes is all of them
+pub may_below : (b : List ℕ) (r : Bool) → length b < 1445 → OnTrue r (MayScript (header b)) → OnFalse r (NeverAccepted (header b)) → IsTrue r ↔ MayScript b
+may_below b true short may never = (λ yes. subst MayScript (take_all 1445 b (omega (arith, short))) may, λ m. refl)
+may_below b false short may never = (
+  λ yes. absurd (false≢true yes),
+  λ m. let (more, bytes, some) = subst MayScript (sym (take_all 1445 b (omega (arith, short)))) m in absurd (never more some),
+)
 
 -- what is decided has one type, whatever follows, and so has what begins with it
 pub same_computed : (s : Supply) (b : List ℕ) (t u : Option (List ℕ)) → IsComputed s b t → IsComputed s b u → t ≡ u

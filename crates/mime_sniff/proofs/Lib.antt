@@ -13,3 +13,4 @@ pub mod EscalationLemmas
 pub mod StayLemmas
 pub mod SnifferLemmas
 pub mod ScriptLemmas
+pub mod MayLemmas

@@ -459,7 +459,7 @@ module _ (b : List ℕ) where
   markup_fits mp3 is = absurd (false≢true is)
   markup_fits no_data is = absurd (false≢true is)
 
-no_white : (t : List ℕ) → get_or t 0 0 ≡ 0x3C → NoneBegins IsSpace t
+pub no_white : (t : List ℕ) → get_or t 0 0 ≡ 0x3C → NoneBegins IsSpace t
 no_white t first word rest (x, white, w) e =
     let here : get_or t 0 0 ≡ x = ap (λ l. get_or l 0 0) (e ∙ ap (λ v. v ++ rest) w) in omega (arith, first, here, white)
 

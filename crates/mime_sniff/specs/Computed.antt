@@ -58,6 +58,10 @@ abbrev pub IsAsked : Supply → Question → Type 0
 IsAsked s q =
     (IsUnknown s.kind × (q ≡ asked_of_unknown s.no_sniff)) ⊎ ((¬ IsUnknown s.kind) × IfSome s.kind (λ k. IsAskedOf s k q))
 
+-- no bytes are asked about what is supplied: the type stays
+abbrev pub AsksNothing : Supply → Type 0
+AsksNothing s = IsAsked s Nothing
+
 -- the rules of a question, and what is told if none of them accepts
 abbrev pub rules_of : Question → List Rule
 rules_of Anything = scriptable ++ unscripted

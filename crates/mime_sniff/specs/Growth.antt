@@ -1,5 +1,6 @@
 -- What is told of bytes that may go on, whatever follows them.
 use Rattle.std.specs.Prelude.{◌≡◌, Any, ℕ, ◌≤◌, List, ◌++◌, Option, None, Some, bit_and, length, slice_index}
+use Rattle.infer_deep.specs.Signatures.{MayBecome}
 use Rattle.mime_sniff.specs.Computed.{Answers, IsComputed, Supply}
 use Rattle.mime_sniff.specs.Rule.{Accepts, FitsRule, Rule, TellsFirst}
 use Rattle.mime_sniff.specs.Standard.{header, scriptable}
@@ -31,6 +32,10 @@ Scripts b = Any (Accepts (header b)) scriptable
 
 abbrev pub NeverScripts : List ℕ → Type 0
 NeverScripts b = NeverHolds Scripts b
+
+-- and some bytes after b, however many, make one accept it
+abbrev pub MayScript : List ℕ → Type 0
+MayScript b = MayBecome (λ c. Any (Accepts c) scriptable) b
 
 -- the bytes of b that are there are those of a header of MPEG audio
 pub record MayBeginHeader (b : List ℕ) : Type 0 where

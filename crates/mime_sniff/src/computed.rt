@@ -1,15 +1,18 @@
 //! The type that a browser computes of a resource.
-ghost use Rattle.std.specs.Prelude.{◌≡◌, ◌↔◌, ◌≤◌, Any, IsTrue, length, map, option_map};
-ghost use Rattle.mime_sniff.specs.Computed.{IsComputed, IsComputedIn, apache_bugs, supply_of, told_by};
+ghost use Rattle.std.specs.Prelude.{◌≡◌, ◌↔◌, ◌<◌, ◌≤◌, Any, IsTrue, length, map, option_map};
+ghost use Rattle.mime_sniff.specs.Computed.{AsksNothing, IsComputed, IsComputedIn, apache_bugs, supply_of, told_by};
 ghost use Rattle.std.specs.Bool.{OnFalse, OnTrue};
-ghost use Rattle.mime_sniff.specs.Growth.{IsDecided, NeverScripts, Scripts};
-ghost use Rattle.mime_sniff.specs.Standard.{header};
+ghost use Rattle.mime_sniff.specs.Growth.{IsDecided, MayScript, NeverHolds, NeverScripts, Scripts};
+ghost use Rattle.mime_sniff.specs.Rule.{Accepts};
+ghost use Rattle.mime_sniff.specs.Standard.{header, scriptable};
 
 use crate::context::Context;
 use crate::question::{asked, asked_in};
-use crate::settled::{of_scriptable as settled_scriptable, settled};
+use crate::settled::settled;
 use crate::standard::{answer, of_scriptable};
 use crate::supplied::Supplied;
+use infer_deep::places::may_stand_at;
+use infer_deep::text::{after_white_space, may_become_html};
 
 /// How many bytes are looked at.
 pub const HEADER_LENGTH: usize = 1445;
@@ -47,12 +50,13 @@ pub fn compute_in(context: Context, supplied: &Supplied<'_>, buf: &[u8]) -> Comp
     told(answer(asked_in(context, supplied), header(buf)))
 }
 
-/// Whether no bytes behind the first ones change the computed type. A yes is right, and of 1445 bytes it is one; a no may be
-/// too careful: as long as a box of MP4, the mark of WebM or a frame of MP3 has begun, and where all that may still come
-/// tells the same.
+/// Whether no bytes after the first ones change the computed type. A yes is certain. It is a yes for 1445 bytes, and where no
+/// bytes are asked about the supplied type. Otherwise a no may be too careful: as long as a box of MP4, the mark of WebM or a
+/// frame of MP3 has begun, and where all that may still come has the same type.
 pub fn is_decided(supplied: &Supplied<'_>, buf: &[u8]) -> bool
     ensures right { OnTrue result (IsDecided (supply_of supplied.now) buf.now) }
     ensures full { HEADER_LENGTH ≤ length buf.now → IsTrue result }
+    ensures unasked { AsksNothing (supply_of supplied.now) → IsTrue result }
 {
     if buf.len() >= HEADER_LENGTH {
         return true;
@@ -63,9 +67,9 @@ pub fn is_decided(supplied: &Supplied<'_>, buf: &[u8]) -> bool
     }
 }
 
-/// Whether a browser that knows no type may tell one that runs scripts, by these first bytes or with more behind them. A no
-/// is right, so no script of such a file runs. Of 1445 bytes a yes is, too; of fewer it may be too careful where a tag no longer
-/// fits into these.
+/// Whether a browser that knows no type may compute one that runs scripts, from these first bytes or with more after them. A no
+/// is certain, so no script of such a file runs. Of 1445 bytes a yes is certain too. Of fewer it means that some bytes after
+/// them bring it, if more than 1445 counted: it is too careful only where a tag no longer fits into these.
 ///
 /// ```
 /// assert!(rt; mime_sniff::may_be_scriptable(b" <scr") && !mime_sniff::may_be_scriptable(b"GIF"));
@@ -73,6 +77,7 @@ pub fn is_decided(supplied: &Supplied<'_>, buf: &[u8]) -> bool
 pub fn may_be_scriptable(buf: &[u8]) -> bool
     ensures right { OnFalse result (NeverScripts buf.now) }
     ensures full { HEADER_LENGTH ≤ length buf.now → (IsTrue result ↔ Scripts buf.now) }
+    ensures begun { length buf.now < HEADER_LENGTH → (IsTrue result ↔ MayScript buf.now) }
 {
     let header = header(buf);
     if buf.len() >= HEADER_LENGTH {
@@ -81,10 +86,16 @@ pub fn may_be_scriptable(buf: &[u8]) -> bool
             None => false,
         };
     }
-    match settled_scriptable(header) {
-        Some(None) => false,
-        _ => true,
-    }
+    may_become_scriptable(header)
+}
+
+/// Whether some bytes after the header, however many, make it what may run scripts.
+fn may_become_scriptable(header: &[u8]) -> bool
+    ensures may { OnTrue result (MayScript header.now) }
+    ensures never { OnFalse result (NeverHolds (λ b. Any (Accepts b) scriptable) header.now) }
+{
+    let text = after_white_space(header);
+    may_become_html(text) || may_stand_at(text, b"<?xml", 0) || may_stand_at(header, b"%PDF-", 0)
 }
 
 fn told(answer: Option<&'static str>) -> Computed

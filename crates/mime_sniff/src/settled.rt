@@ -1,5 +1,5 @@
 //! What the rules tell of bytes that may go on, whatever follows them. None means that more bytes may change it.
-ghost use Rattle.std.specs.Prelude.{◌≡◌, ◌∷◌, ◌++◌, ◌↔◌, [], IfSome, IsTrue, codes, option_map};
+ghost use Rattle.std.specs.Prelude.{◌≡◌, ◌∷◌, ◌++◌, ◌↔◌, [], IfSome, IsSome, IsTrue, codes, option_map};
 ghost use Rattle.mime_sniff.specs.Growth.{AnswerForGood, FitForGood, MayBeginHeader, TellForGood, told_or_else};
 ghost use Rattle.mime_sniff.specs.Standard.{archives, documents, fonts, markup, marks, media, mp3_rule, mp4_rule, scriptable, text_or_binary_rules, text_rule, texts, unscripted, webm_rule};
 ghost use Rattle.mime_sniff.specs.Table.{images, sounds, tag_rules};
@@ -20,7 +20,8 @@ use infer_formats::text::is_binary;
 
 /// What the question's rules tell of the header.
 pub(crate) fn settled(question: Question, header: &[u8]) -> Option<Option<&'static str>>
-    ensures { IfSome result (λ told. AnswerForGood question header.now (option_map (λ t. t.now) told)) }
+    ensures good { IfSome result (λ told. AnswerForGood question header.now (option_map (λ t. t.now) told)) }
+    ensures nothing { question ≡ Question.Nothing → IsSome result }
 {
     match question {
         Question::Anything => anything(header),
@@ -69,7 +70,7 @@ fn of_anything(header: &[u8]) -> Option<Option<&'static str>>
     or_else(of_scriptable(header), of_unscripted(header))
 }
 
-pub(crate) fn of_scriptable(header: &[u8]) -> Option<Option<&'static str>>
+fn of_scriptable(header: &[u8]) -> Option<Option<&'static str>>
     ensures { IfSome result (λ told. TellForGood header.now scriptable (option_map (λ t. t.now) told)) }
 {
     or_else(of_markup(header), of_documents(header))

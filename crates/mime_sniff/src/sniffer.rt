@@ -1,7 +1,7 @@
 //! First bytes that come in pieces.
 ghost use Rattle.std.specs.Prelude.{◌≡◌, ◌≤◌, ◌++◌, ℕ, IsTrue, List, [], length, take};
 ghost use Rattle.std.specs.Bool.{OnTrue};
-ghost use Rattle.mime_sniff.specs.Computed.{IsComputed, supply_of, told_by};
+ghost use Rattle.mime_sniff.specs.Computed.{AsksNothing, IsComputed, supply_of, told_by};
 ghost use Rattle.mime_sniff.specs.Growth.{IsDecided};
 ghost use Rattle.mime_sniff.specs.Standard.{header};
 ghost use Rattle.mime_sniff.specs.declared.computed.TheConstants.{HEADER_LENGTH};
@@ -75,6 +75,7 @@ impl Sniffer {
     pub fn is_decided(&self, supplied: &Supplied<'_>) -> bool
         ensures right { OnTrue result (IsDecided (supply_of supplied.now) self.now) }
         ensures full { HEADER_LENGTH ≤ length self.now → IsTrue result }
+        ensures unasked { AsksNothing (supply_of supplied.now) → IsTrue result }
     {
         is_decided(supplied, self.kept())
     }

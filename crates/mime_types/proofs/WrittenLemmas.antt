@@ -1,11 +1,15 @@
 -- What segments write, one after the other.
-use Rattle.std.proofs.Common.{◌≡◌, ◌∙◌, ◌++◌, ◌||◌, ◌∷◌, [], ℕ, zero, suc, ◌+◌, ◌-◌, ◌<◌, ◌≤◌, List, Bool, Option, true, ap, append_assoc, arith, length, option_to_list, refl, sym}
+use mir.Val.{bool_byte}
+use Rattle.std.proofs.Common.{◌≡◌, ◌∙◌, ◌++◌, ◌||◌, ◌∷◌, [], ℕ, zero, suc, ◌+◌, ◌-◌, ◌<◌, ◌≤◌, List, Bool, Option, None, Some, true, ap, append_assoc, arith, is_some, length, option_map, option_to_list, refl, sym}
 use Rattle.std.proofs.lemmas.List.{append-nil}
 use Rattle.std.proofs.lemmas.List.Folds.{list_any-append}
 use Rattle.std.specs.List.{list_any}
 use Rattle.mime_types.specs.Mime.{Parameter}
 use Rattle.mime_types.specs.Segment.{left_by, segment, segment_of, stands, written, written_by}
-use Rattle.mime_types.proofs.SegmentLemmas.{leaves_less}
+use Rattle.mime_types.specs.Seen.{parameter_seen, standing_seen}
+use Rattle.mime_types.specs.declared.parameter.Parameter as view
+use Rattle.mime_types.specs.declared.segment.Segment.{Segment}
+use Rattle.mime_types.proofs.SegmentLemmas.{leaves_less, segment_is}
 
 abbrev pub first_of : List ℕ → List Parameter
 first_of s = option_to_list (segment s).written
@@ -105,17 +109,11 @@ first_written s o r is some = written_first s some ∙ ap (λ g. option_to_list 
 pub first_leaves : (s : List ℕ) (o : Option Parameter) (r : List ℕ) → segment_of o r ≡ segment s → 0 < length s → length r < length s
 first_leaves s o r is some = let less = leaves_less s some in let same : r ≡ (segment s).rest = ap (λ g. g.rest) is in omega (arith, ap length same)
 
-left_of_nothing : (n : ℕ) → left_by n [] ≡ []
-unfolding left_by segment stands
-left_of_nothing zero = refl
-left_of_nothing (suc n) = left_of_nothing n
+counted : (o : Option view.Parameter) (ps : List Parameter) → length (option_to_list (option_map parameter_seen o) ++ ps) ≡ bool_byte (is_some o) + length ps
+counted None ps = omega arith
+counted (Some p) ps = omega arith
 
-left_split : (n m k : ℕ) (s : List ℕ) → n + m ≡ k → left_by k s ≡ left_by m (left_by n s)
-unfolding left_by
-left_split zero m k s e = let same : k ≡ m = omega (arith, e) in ap (λ j. left_by j s) same
-left_split (suc n) m zero s e = absurd (omega (arith, e))
-left_split (suc n) m (suc k) s e = left_split n m k (segment s).rest (omega (arith, e))
-
--- once nothing is left, nothing is
-pub left_none : (n k : ℕ) (s : List ℕ) → n ≤ k → left_by n s ≡ [] → left_by k s ≡ []
-left_none n k s few none = left_split n (k - n) k s (omega (arith, few)) ∙ (ap (left_by (k - n)) none ∙ left_of_nothing (k - n))
+-- the first segment writes one or none of those that are written
+pub first_counts : (v : Segment) (s : List ℕ) → standing_seen v ≡ stands s → 0 < length s → length (written s) ≡ bool_byte (is_some v.written) + length (written v.rest.now)
+first_counts v s is some =
+    ap length (first_written s (option_map parameter_seen v.written) v.rest.now (segment_is v s is) some) ∙ counted v.written (written v.rest.now)

@@ -1,7 +1,7 @@
 -- What was written into a buffer.
-use Rattle.std.specs.Prelude.{◌≡◌, ◌+◌, ◌-◌, ◌<◌, ◌≤◌, ℕ, List, [], ◌++◌, Option, None, Some, Result, Ok, Err, drop, length, take}
+use Rattle.std.specs.Prelude.{◌≡◌, ◌+◌, ◌-◌, ◌<◌, ◌≤◌, ℕ, List, ◌++◌, Option, None, Some, Result, Ok, Err, drop, length, take}
 use Rattle.mime_types.specs.Mime.{Mime}
-use Rattle.mime_types.specs.Segment.{left_by}
+use Rattle.mime_types.specs.Segment.{written}
 use Rattle.mime_types.specs.Serialize.{serialize}
 use Rattle.mime_types.specs.declared.write.WriteError.{WriteError}
 use Rattle.mime_types.specs.declared.write.WriteError.TheVariants.{NoRoom, TooManyParameters}
@@ -15,9 +15,9 @@ abbrev pub Wrote : List ℕ → List ℕ → ℕ → List ℕ → Option ℕ →
 Wrote old new at text None = (length old < at + length text) × (new ≡ overlaid old at text)
 Wrote old new at text (Some end) = (end ≡ at + length text) × (end ≤ length old) × (new ≡ overlaid old at text)
 
--- a subtype has no more than so many segments behind it
+-- no more than so many parameters are written behind a subtype, of which those that do not count are some
 abbrev pub HasFew : ℕ → List ℕ → Type 0
-HasFew most tail = left_by most tail ≡ []
+HasFew most tail = length (written tail) ≤ most
 
 -- the whole text of what is said, with this behind the subtype, stands at the start of the buffer; or why it does not
 abbrev pub IsWritten : ℕ → List ℕ → Mime → List ℕ → List ℕ → Result ℕ WriteError → Type 0

@@ -1,7 +1,7 @@
 //! Facts about the definitions, each the contract of a function that does nothing beside. To use a law, call it.
 ghost use Rattle.std.specs.Prelude.{◌≡◌};
 ghost use Rattle.mime_types.specs.Laws.{CombinesOnce, EndsSayNothing, HasPieces, IsTrimmed, LeavesLastOut, SaysItself, SaysNoStars, SaysOne};
-ghost use Rattle.mime_types.specs.declared.write.TheConstants.{MOST_SEGMENTS};
+ghost use Rattle.mime_types.specs.declared.write.TheConstants.{MOST_PARAMETERS};
 
 /// No text says two MIME types.
 pub fn one_mime()
@@ -44,7 +44,7 @@ pub fn combines_once()
     ensures { CombinesOnce }
 {}
 
-/// How many segments behind a subtype are told apart.
+/// How many parameters may be written.
 pub fn numbers()
-    ensures { MOST_SEGMENTS ≡ 256 }
+    ensures { MOST_PARAMETERS ≡ 256 }
 {}

@@ -1,12 +1,11 @@
 //! The text of a MIME type, written into a buffer. What stands behind the text stays. Without room for all of it, as much of it
 //! as there is room for is written.
 ghost use Rattle.std.specs.Prelude.{◌≡◌, ◌↔◌, ◌≤◌, ◌∷◌, ◌+◌, ◌<◌, [], length, option_map, option_to_list, IsTrue, IsSome};
-ghost use Rattle.mime_types.specs.Segment.{left_by};
 ghost use Rattle.mime_types.specs.Parameters.{parameters};
 ghost use Rattle.mime_types.specs.Seen.{parameter_seen, value_seen};
 ghost use Rattle.mime_types.specs.Serialize.{escaped, in_quotes, parameter_text, parameters_text, value_text};
 ghost use Rattle.mime_types.specs.Text.{lower};
-ghost use Rattle.mime_types.specs.Wrote.{Wrote};
+ghost use Rattle.mime_types.specs.Wrote.{HasFew, Wrote};
 
 use crate::extraction::Extracted;
 use crate::mime_type::MimeType;
@@ -18,8 +17,8 @@ use crate::value::{is_token_value, split_value};
 /// Why a text was not written.
 #[derive(Clone, Copy, Debug, Drop)]
 pub enum WriteError {
-    /// There are more than 256 segments behind the subtype, each of which would be compared with those before it. Nothing is
-    /// written.
+    /// More than 256 parameters are written, each of which would be compared with those before it: one that does not count is
+    /// one of them. Nothing is written.
     TooManyParameters,
     /// The text is longer than the buffer.
     NoRoom,
@@ -125,8 +124,8 @@ fn write_parameters(out: &mut [u8], at: usize, tail: &[u8]) -> Option<usize>
     Some(end)
 }
 
-/// How many segments behind a subtype are told apart: each parameter is compared with those before it.
-pub const MOST_SEGMENTS: usize = 256;
+/// How many parameters may be written: each is compared with those before it.
+pub const MOST_PARAMETERS: usize = 256;
 
 impl<'a> MimeType<'a> {
     ghost use Rattle.std.specs.Prelude.{IfSome};
@@ -134,11 +133,11 @@ impl<'a> MimeType<'a> {
     ghost use Rattle.mime_types.specs.Groups.{essence};
     ghost use Rattle.mime_types.specs.Seen.{kind_of, mime_of};
     ghost use Rattle.mime_types.specs.Serialize.{serialize};
-    ghost use Rattle.mime_types.specs.Wrote.{HasFew, IsWritten};
+    ghost use Rattle.mime_types.specs.Wrote.{IsWritten};
 
-    /// The parameters that count, or none if there are more than 256 segments.
+    /// The parameters that count, or none if more than 256 are written, of which those that do not count are some.
     pub fn parameters(&self) -> Option<Parameters<'a>>
-        ensures few { IsSome result ↔ HasFew MOST_SEGMENTS self.now.tail.now }
+        ensures few { IsSome result ↔ HasFew MOST_PARAMETERS self.now.tail.now }
         ensures all { IfSome result (λ p. left p ≡ parameters self.now.tail.now) }
         ensures text { IfSome result (λ p. text_read p ≡ self.now.tail.now) }
     {
@@ -150,7 +149,7 @@ impl<'a> MimeType<'a> {
 
     /// Writes the text of the MIME type, and returns how long it is.
     pub fn write(&self, out: &mut [u8]) -> Result<usize, WriteError>
-        ensures { IsWritten MOST_SEGMENTS self.now.tail.now (mime_of self.now) out.old out.new result }
+        ensures { IsWritten MOST_PARAMETERS self.now.tail.now (mime_of self.now) out.old out.new result }
     {
         if !has_few(self.tail) {
             return Err(WriteError::TooManyParameters);
@@ -195,7 +194,7 @@ impl<'a> Extracted<'a> {
     /// assert!(rt; matches!(found.write(&mut out), Ok(21)) && out == *b"text/html;charset=gbk");
     /// ```
     pub fn write(&self, out: &mut [u8]) -> Result<usize, WriteError>
-        ensures { IsWritten MOST_SEGMENTS self.now.mime_type.tail.now (mime_together self.now) out.old out.new result }
+        ensures { IsWritten MOST_PARAMETERS self.now.mime_type.tail.now (mime_together self.now) out.old out.new result }
     {
         if !has_few(self.mime_type.tail) {
             return Err(WriteError::TooManyParameters);
@@ -248,16 +247,19 @@ impl<'a> Value<'a> {
     }
 }
 
-/// Whether there are no more than 256 segments.
+/// Whether no more than 256 parameters are written. A segment that writes none, such as an empty one, counts for nothing.
 fn has_few(tail: &[u8]) -> bool
-    ensures { IsTrue result ↔ (left_by MOST_SEGMENTS tail.now ≡ []) }
+    ensures { IsTrue result ↔ HasFew MOST_PARAMETERS tail.now }
 {
     let mut rest = tail;
-    for i in 0..MOST_SEGMENTS {
-        if rest.is_empty() {
-            return true;
+    let mut count = 0;
+    while !rest.is_empty() {
+        let segment = first_segment(rest);
+        rest = segment.rest;
+        count += usize::from(segment.written.is_some());
+        if count > MOST_PARAMETERS {
+            return false;
         }
-        rest = first_segment(rest).rest;
     }
-    rest.is_empty()
+    true
 }

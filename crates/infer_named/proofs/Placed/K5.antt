@@ -1,6 +1,9 @@
 -- Made by `tools/tables` from names.txt: code and definition have the same keys of slots 320 to 383. Each stands in its
 -- slot, and none is wrong: if one is, its text stands in the error. And each whole name has its mark.
 use Rattle.std.proofs.Common.{◌≡◌, [], drop, length, map, refl, take}
+use Rattle.infer.specs.Table.{table}
+use Rattle.infer_more.specs.Table.{packages, headers, markup, code, records, archives, images, media, late, office, kinds, roots, elements, pictures, rasters, sounds, packed, disks, papers, stores, games, others, scripts, documents, secrets, bitmaps, shapes, chunks, tunes, squeezed, bundles, volumes, assorted, databases, science, measures, prints, compiled, keyrings, consoles, shallow, schemas, dialects, notations, unheaded, mended, openings, prefaces, remarks, captions, headlines, letters, settings, scores, objects, inner, deeper, farther, buried, texts, further}
+use Rattle.infer_more.specs.Wider.{shown}
 use Rattle.infer_named.proofs.FindLemmas.{wrong_from}
 use Rattle.infer_named.proofs.MarkLemmas.{AreMarked}
 use Rattle.infer_named.specs.Keys.K5.{keys}
@@ -20,7 +23,7 @@ unfolding keys
 many = refl
 
 pub right : wrong_from starts 1762 1481 keys ≡ []
-unfolding keys starts types types_0 types_1 types_2 types_3 types_4 types_5 lead_lists sets sets_0 sets_1 sets_2 sets_3 sets_4 sets_5 sets_6 sets_7
+unfolding keys starts types types_0 types_1 types_2 types_3 types_4 types_5 lead_lists sets sets_0 sets_1 sets_2 sets_3 sets_4 sets_5 sets_6 sets_7 shown table further packages headers markup code records archives images media late office kinds roots elements pictures rasters sounds packed disks papers stores games others scripts documents secrets bitmaps shapes chunks tunes squeezed bundles volumes assorted databases science measures prints compiled keyrings consoles shallow schemas dialects notations unheaded mended openings prefaces remarks captions headlines letters settings scores objects inner deeper farther buried texts
 right = refl
 
 pub marked : AreMarked keys

@@ -3,7 +3,7 @@ use Rattle.std.specs.Prelude.{List, [], ◌∷◌, codes, false, true}
 use Rattle.infer_named.specs.Key.{Key, key}
 use Rattle.infer_named.specs.Listed.{reading}
 use Rattle.infer_named.specs.Sets.{any-lead, leads-10, leads-11, no-rows, rows-3g2-3gp-f4v-m4a-m4b-m4v-mov, rows-3mf-apk-application-vnd-apple-keynote-chrt-docx-epub-fbz-fcstd-flw-iwa-jar-karbon-kfo-kmz-kon-kpr-kra-ksp-kwd-mscz-odb-odc-odf-odg-odi-odp-ods-odt-ora-otg-otp-ots-ott-pkpass-pptx-qgz-sxc-sxd-sxi-sxm-sxw-vsdx-xap-xlsx, rows-7z, rows-abw, rows-accdb, rows-age-asc-cms-crl-application-x-pem-key-csr-openssh-p7c-param-pgp-pubkey-sig-sshsig, rows-amr, rows-apk-jar-zip, rows-apm, rows-application-x-msi, rows-application-x-ole-storage, rows-arrow, rows-asc, rows-avi, rows-awbm, rows-axml, rows-biff-xls, rows-bmp-dib, rows-bplist, rows-btf-tif, rows-bz1-bz2, rows-bz2, rows-bz2-gz-xz, rows-bz3, rows-cpi, rows-cr2, rows-cr2-dng, rows-cr3, rows-crl, rows-csr-p10, rows-cwk, rows-czi, rows-dae, rows-dar, rows-dbm, rows-dc-gcm-saturn-segacd-udf, rows-der-pem-txt, rows-dex, rows-dia, rows-docker, rows-drdoscpi, rows-dsc, rows-epub, rows-escript, rows-exe-dll-efi-lx-ne-sys, rows-fits, rows-gb-gbc, rows-gbr, rows-gdf, rows-geojson, rows-ggr, rows-gif, rows-gjs-js, rows-gml, rows-gnuplot, rows-gpg-gpgold, rows-gpx, rows-gschema, rows-gtp, rows-gz, rows-gz-html-txt-xhtml-xml, rows-gz-xml, rows-hdf5, rows-heic, rows-heics-heif, rows-heif, rows-hfe, rows-hs, rows-html-json-php-svg-txt-xhtml-xml, rows-html-txt, rows-html-txt-xhtml-xml, rows-html-txt-xml, rows-iaarc, rows-ics, rows-iso, rows-jceks, rows-jp2, rows-jpm, rows-json, rows-json-plist-txt-xml, rows-json-sh-txt, rows-json-txt, rows-jxl, rows-kwaj, rows-lss, rows-ly, rows-lz, rows-lzh, rows-m3u8, rows-m4a, rows-m4b-m4v-mp4, rows-maud, rows-mbox, rows-md, rows-mdraid, rows-mk, rows-ml, rows-mmf, rows-mp4, rows-mpd, rows-mpsub, rows-msa, rows-msbuild, rows-nc, rows-nef, rows-nzb, rows-odi, rows-ora, rows-p7b-p7c, rows-pack, rows-pack200, rows-par2, rows-pcx, rows-pem, rows-pfa-pfb, rows-pgp-pgpmsg, rows-pl, rows-plist, rows-ps-sh-txt, rows-ps-txt, rows-psf, rows-psf1-psf2, rows-pst, rows-pvr, rows-py, rows-py-sh-zip, rows-pyc, rows-qcow2, rows-r3d, rows-ra, rows-rb, rows-rdata, rows-reg, rows-roff, rows-romfs, rows-rpm, rows-rrd, rows-scala, rows-sdi, rows-sdw, rows-sed, rows-sgf, rows-sh, rows-sh-txt, rows-shp, rows-shx, rows-sisx, rows-smp, rows-spec, rows-srpm, rows-svg, rows-swf, rows-syzygy, rows-szdd, rows-tcl, rows-tgif, rows-tif, rows-tta, rows-ttc, rows-ttml, rows-txt, rows-txt-xml, rows-tzif, rows-tzx, rows-uimage, rows-usdc, rows-uu, rows-vhd, rows-vsdx-zip, rows-warc, rows-wpd, rows-wpm, rows-wreg, rows-wv, rows-x3dv, rows-xbe, rows-xm, rows-xml, rows-xpm, rows-xz, rows-z, rows-zip, rows-zpaq, text-rows}
-use Rattle.infer_named.specs.Types.{is-application-atomsvc-xml, is-application-bpmn-xml, is-application-dash-xml, is-application-epub-zip, is-application-geo-json, is-application-gml-xml, is-application-gpx-xml, is-application-json, is-application-mbox, is-application-n-triples, is-application-pgp-encrypted, is-application-pgp-keys-as-row-asc, is-application-pgp-keys-as-row-gpg, is-application-pkcs10, is-application-pkcs7-mime, is-application-pkix-crl, is-application-syzygy, is-application-toml, is-application-topo-json, is-application-trig, is-application-ttml-xml, is-application-tzif, is-application-vnd-android-dex, is-application-vnd-apache-arrow-file, is-application-vnd-bzip3, is-application-vnd-coffeescript, is-application-vnd-lotus-1-2-3-as-known, is-application-vnd-microsoft-portable-executable, is-application-vnd-ms-excel, is-application-vnd-ms-outlook-pst, is-application-vnd-ms-visio-drawing-macroenabled-main-xml, is-application-vnd-oasis-opendocument-image, is-application-vnd-shp, is-application-vnd-smaf, is-application-vnd-stardivision-writer, is-application-vnd-wordperfect, is-application-warc, is-application-x-abiword, is-application-x-android-binary-xml, is-application-x-apkm, is-application-x-apple-diskimage, is-application-x-appleworks, is-application-x-arc, is-application-x-atari-msa, is-application-x-bash, is-application-x-bplist, is-application-x-bzip-compressed-tar, is-application-x-bzip2, is-application-x-cb7, is-application-x-cd-image, is-application-x-compressed-tar, is-application-x-dar, is-application-x-devhelp-xml, is-application-x-dia-diagram, is-application-x-eclipse-xml, is-application-x-erb, is-application-x-font-linux-psf, is-application-x-font-type1, is-application-x-gameboy-color-rom, is-application-x-gdf, is-application-x-genesis-rom-as-row-md, is-application-x-git, is-application-x-gnuplot, is-application-x-go-sgf, is-application-x-godot-package, is-application-x-gschema-xml, is-application-x-guitar-pro, is-application-x-hfe-floppy-image, is-application-x-ia-arc, is-application-x-jasper-xml, is-application-x-java-jce-keystore, is-application-x-java-pack200, is-application-x-java-serialized-object, is-application-x-jsonc, is-application-x-kdenlive, is-application-x-kerberos-keytab, is-application-x-ksh, is-application-x-lzh-compressed, is-application-x-lzip-compressed-tar, is-application-x-md-raid, is-application-x-ms-compress-kwaj, is-application-x-ms-compress-szdd, is-application-x-ms-sdi, is-application-x-msaccess-as-row-accdb, is-application-x-msbuild-xml, is-application-x-msi, is-application-x-netcdf, is-application-x-nzb, is-application-x-par2, is-application-x-phylip, is-application-x-plist, is-application-x-pov, is-application-x-ps1xml, is-application-x-python-bytecode, is-application-x-python-zipapp, is-application-x-qemu-disk, is-application-x-r-data, is-application-x-romfs, is-application-x-rpm, is-application-x-rrd, is-application-x-sas-data, is-application-x-shockwave-flash, is-application-x-spectrum-tzx, is-application-x-tarz, is-application-x-tgif, is-application-x-theme-xml, is-application-x-uimage, is-application-x-unity-asset, is-application-x-usdc, is-application-x-vhd-disk, is-application-x-vim-spell, is-application-x-vim-swap, is-application-x-virtualbox-saved-state, is-application-x-wix-xml, is-application-x-wordperfect-wpm, is-application-x-x509-ca-cert-as-row-pem, is-application-x-xz, is-application-x-xz-compressed-tar, is-application-x-zpaq, is-application-xml, is-application-zip, is-audio-amr, is-audio-m4a, is-audio-sf2, is-audio-vnd-rn-realaudio, is-audio-x-dbm, is-audio-x-maud, is-audio-x-mpegurl, is-audio-x-psf, is-audio-x-sample-vision, is-audio-x-tta, is-audio-x-wavpack, is-audio-x-xbox-executable, is-audio-x-xm, is-font-collection, is-font-x-dos-cpi, is-font-x-drdos-cpi, is-image-bmp, is-image-fits, is-image-geotiff, is-image-gif, is-image-heic, is-image-jpm, is-image-jxl, is-image-openraster, is-image-svg-xml, is-image-tiff, is-image-vnd-zbrush-pcx, is-image-x-award-bioslogo2, is-image-x-canon-cr2, is-image-x-canon-cr3, is-image-x-gimp-gbr, is-image-x-lss16, is-image-x-nikon-nef, is-image-x-pvr, is-image-x-zeiss-czi, is-model-vnd-collada-xml, is-model-x3d-vrml, is-multipart-related, is-text-calendar, is-text-css, is-text-javascript, is-text-markdown, is-text-plain, is-text-troff, is-text-wgsl, is-text-x-agda, is-text-x-aidl, is-text-x-apacheconf, is-text-x-asm, is-text-x-autoconf, is-text-x-basic, is-text-x-bitbake, is-text-x-blade, is-text-x-c-hdr, is-text-x-c-src, is-text-x-chdr, is-text-x-checksums, is-text-x-cmake, is-text-x-cppconf, is-text-x-csharp, is-text-x-csound, is-text-x-cuda, is-text-x-cwl, is-text-x-debian-control, is-text-x-dimacs, is-text-x-dockerfile, is-text-x-dotenv, is-text-x-ebnf, is-text-x-erlang, is-text-x-factor, is-text-x-fortran, is-text-x-fsharp, is-text-x-gdb, is-text-x-gerber, is-text-x-gherkin, is-text-x-gimp-ggr, is-text-x-gitignore, is-text-x-glsl, is-text-x-go, is-text-x-gosum, is-text-x-gotemplate, is-text-x-gradle, is-text-x-haskell, is-text-x-hcl, is-text-x-idris, is-text-x-kconfig, is-text-x-ld-script, is-text-x-less, is-text-x-lilypond, is-text-x-livescript, is-text-x-makefile, is-text-x-mediawiki, is-text-x-mpsub, is-text-x-ms-regedit, is-text-x-newick, is-text-x-ocaml, is-text-x-ooc, is-text-x-oz, is-text-x-perl, is-text-x-postcss, is-text-x-puppet, is-text-x-python-as-row-py, is-text-x-readline, is-text-x-rmarkdown, is-text-x-rpm-spec, is-text-x-ruby, is-text-x-scala, is-text-x-sed, is-text-x-shell-config, is-text-x-shellscript, is-text-x-sourcepawn, is-text-x-starlark, is-text-x-stata, is-text-x-svhdr, is-text-x-svsrc, is-text-x-tcl, is-text-x-thrift, is-text-x-twig, is-text-x-typst, is-text-x-uri, is-text-x-uuencode, is-text-x-vhdl, is-text-x-xcu-rng, is-text-x-xonsh, is-text-xml, is-video-mp4, is-video-x-msvideo, is-video-x-red-r3d, is-x-epoc-x-sisx-app}
+use Rattle.infer_named.specs.Types.{is-application-atomsvc-xml, is-application-bpmn-xml, is-application-dash-xml, is-application-epub-zip, is-application-geo-json, is-application-gml-xml, is-application-gpx-xml, is-application-json, is-application-mbox, is-application-n-triples, is-application-pgp-encrypted, is-application-pgp-keys-as-row-asc, is-application-pgp-keys-as-row-gpg, is-application-pkcs10, is-application-pkcs7-mime, is-application-pkix-crl, is-application-syzygy, is-application-toml, is-application-topo-json, is-application-trig, is-application-ttml-xml, is-application-tzif, is-application-vnd-android-dex, is-application-vnd-apache-arrow-file, is-application-vnd-bzip3, is-application-vnd-coffeescript, is-application-vnd-lotus-1-2-3-as-known, is-application-vnd-microsoft-portable-executable, is-application-vnd-ms-excel, is-application-vnd-ms-outlook-pst, is-application-vnd-ms-visio-drawing-macroenabled-main-xml, is-application-vnd-oasis-opendocument-image, is-application-vnd-shp, is-application-vnd-smaf, is-application-vnd-stardivision-writer, is-application-vnd-wordperfect, is-application-warc, is-application-x-abiword, is-application-x-android-binary-xml, is-application-x-apkm, is-application-x-apple-diskimage, is-application-x-appleworks, is-application-x-atari-msa, is-application-x-bash, is-application-x-bplist, is-application-x-bzip-compressed-tar, is-application-x-bzip2, is-application-x-cb7, is-application-x-cd-image, is-application-x-compressed-tar, is-application-x-dar, is-application-x-devhelp-xml, is-application-x-dia-diagram, is-application-x-eclipse-xml, is-application-x-erb, is-application-x-font-linux-psf, is-application-x-font-type1, is-application-x-gameboy-color-rom, is-application-x-gdf, is-application-x-genesis-rom-as-row-md, is-application-x-git, is-application-x-gnuplot, is-application-x-go-sgf, is-application-x-godot-package, is-application-x-gschema-xml, is-application-x-guitar-pro, is-application-x-hfe-floppy-image, is-application-x-ia-arc, is-application-x-jasper-xml, is-application-x-java-jce-keystore, is-application-x-java-pack200, is-application-x-java-serialized-object, is-application-x-jsonc, is-application-x-kdenlive, is-application-x-kerberos-keytab, is-application-x-ksh, is-application-x-lzh-compressed, is-application-x-lzip-compressed-tar, is-application-x-md-raid, is-application-x-ms-compress-kwaj, is-application-x-ms-compress-szdd, is-application-x-ms-sdi, is-application-x-msaccess-as-row-accdb, is-application-x-msbuild-xml, is-application-x-msi, is-application-x-netcdf, is-application-x-nzb, is-application-x-par2, is-application-x-phylip, is-application-x-plist, is-application-x-pov, is-application-x-ps1xml, is-application-x-python-bytecode, is-application-x-python-zipapp, is-application-x-qemu-disk, is-application-x-r-data, is-application-x-romfs, is-application-x-rpm, is-application-x-rrd, is-application-x-sas-data, is-application-x-shockwave-flash, is-application-x-spectrum-tzx, is-application-x-tarz, is-application-x-tgif, is-application-x-theme-xml, is-application-x-uimage, is-application-x-unity-asset, is-application-x-usdc, is-application-x-vhd-disk, is-application-x-vim-spell, is-application-x-vim-swap, is-application-x-virtualbox-saved-state, is-application-x-wix-xml, is-application-x-wordperfect-wpm, is-application-x-x509-ca-cert-as-row-pem, is-application-x-xz, is-application-x-xz-compressed-tar, is-application-x-zpaq, is-application-xml, is-application-zip, is-audio-amr, is-audio-m4a, is-audio-sf2, is-audio-vnd-rn-realaudio, is-audio-x-dbm, is-audio-x-maud, is-audio-x-mpegurl, is-audio-x-psf, is-audio-x-sample-vision, is-audio-x-tta, is-audio-x-wavpack, is-audio-x-xbox-executable, is-audio-x-xm, is-font-collection, is-font-x-dos-cpi, is-font-x-drdos-cpi, is-image-bmp, is-image-fits, is-image-geotiff, is-image-gif, is-image-heic, is-image-jpm, is-image-jxl, is-image-openraster, is-image-svg-xml, is-image-tiff, is-image-vnd-zbrush-pcx, is-image-x-award-bioslogo2, is-image-x-canon-cr2, is-image-x-canon-cr3, is-image-x-gimp-gbr, is-image-x-lss16, is-image-x-nikon-nef, is-image-x-pvr, is-image-x-zeiss-czi, is-model-vnd-collada-xml, is-model-x3d-vrml, is-multipart-related, is-text-calendar, is-text-css, is-text-javascript, is-text-markdown, is-text-plain, is-text-troff, is-text-wgsl, is-text-x-agda, is-text-x-aidl, is-text-x-apacheconf, is-text-x-asm, is-text-x-autoconf, is-text-x-basic, is-text-x-bitbake, is-text-x-blade, is-text-x-c-hdr, is-text-x-c-src, is-text-x-chdr, is-text-x-checksums, is-text-x-cmake, is-text-x-cppconf, is-text-x-csharp, is-text-x-csound, is-text-x-cuda, is-text-x-cwl, is-text-x-debian-control, is-text-x-dimacs, is-text-x-dockerfile, is-text-x-dotenv, is-text-x-ebnf, is-text-x-erlang, is-text-x-factor, is-text-x-fortran, is-text-x-fsharp, is-text-x-gdb, is-text-x-gerber, is-text-x-gherkin, is-text-x-gimp-ggr, is-text-x-gitignore, is-text-x-glsl, is-text-x-go, is-text-x-gosum, is-text-x-gotemplate, is-text-x-gradle, is-text-x-haskell, is-text-x-hcl, is-text-x-idris, is-text-x-kconfig, is-text-x-ld-script, is-text-x-less, is-text-x-lilypond, is-text-x-livescript, is-text-x-makefile, is-text-x-mediawiki, is-text-x-mpsub, is-text-x-ms-regedit, is-text-x-newick, is-text-x-ocaml, is-text-x-ooc, is-text-x-oz, is-text-x-perl, is-text-x-postcss, is-text-x-puppet, is-text-x-python-as-row-py, is-text-x-readline, is-text-x-rmarkdown, is-text-x-rpm-spec, is-text-x-ruby, is-text-x-scala, is-text-x-sed, is-text-x-shell-config, is-text-x-shellscript, is-text-x-sourcepawn, is-text-x-starlark, is-text-x-stata, is-text-x-svhdr, is-text-x-svsrc, is-text-x-tcl, is-text-x-thrift, is-text-x-twig, is-text-x-typst, is-text-x-uri, is-text-x-uuencode, is-text-x-vhdl, is-text-x-xcu-rng, is-text-x-xonsh, is-text-xml, is-video-mp4, is-video-x-msvideo, is-video-x-red-r3d, is-x-epoc-x-sisx-app}
 use Rattle.infer_named.specs.declared.table.Asks.TheVariants.{Bytes, Signature, Text}
 use Rattle.infer_named.specs.declared.table.Part.TheVariants.{Extension, Whole}
 
@@ -58,8 +58,8 @@ keys =
     ∷ key Extension (codes "hh") false (reading is-text-x-c-hdr Text no-rows rows-txt no-rows any-lead ∷ [])
     ∷ key Extension (codes "markdown") false (reading is-text-markdown Text no-rows rows-html-json-php-svg-txt-xhtml-xml no-rows any-lead ∷ [])
     ∷ key Whole (codes ".env") false (reading is-text-x-dotenv Text no-rows rows-txt no-rows any-lead ∷ [])
+    ∷ key Extension (codes "arc") true (reading is-application-x-ia-arc Signature rows-iaarc no-rows no-rows any-lead ∷ [])
     ∷ key Extension (codes "sbt") false (reading is-text-x-scala Text rows-scala rows-sh-txt no-rows any-lead ∷ [])
-    ∷ key Extension (codes "arc") true (reading is-application-x-arc Bytes no-rows no-rows no-rows any-lead ∷ reading is-application-x-ia-arc Signature rows-iaarc no-rows no-rows any-lead ∷ [])
     ∷ key Extension (codes "tar.z") false (reading is-application-x-tarz Signature no-rows rows-z no-rows any-lead ∷ [])
     ∷ key Extension (codes "dsp") false (reading is-text-plain Text rows-txt no-rows text-rows any-lead ∷ [])
     ∷ key Extension (codes "gen") false (reading is-application-x-genesis-rom-as-row-md Bytes rows-md no-rows no-rows any-lead ∷ [])

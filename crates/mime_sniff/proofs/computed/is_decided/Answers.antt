@@ -10,4 +10,4 @@ returns-then-buf-ge-HEADER_LENGTH-clause-right c = decided_full (supply_of c.arg
 pub returns-in-Some-clause-right : goal.returns-in-Some-clause-right
 returns-in-Some-clause-right c =
     decided_settled (supply_of c.args.supplied.now) c.args.buf.now c.asked.result _ c.asked.ensures
-    (subst (λ h. AnswerForGood c.asked.result h (option_map (λ t. t.now) c.in-Some.field-0)) c.header.ensures c.in-Some.ensures)
+    (subst (λ h. AnswerForGood c.asked.result h (option_map (λ t. t.now) c.in-Some.field-0)) c.header.ensures c.in-Some.ensures.good)

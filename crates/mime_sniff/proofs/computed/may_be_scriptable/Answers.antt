@@ -1,9 +1,10 @@
 use Rattle.std.proofs.Common.{Any, None, refl, subst, sym}
 use Rattle.std.proofs.lemmas.Bool.{false≢true}
-use Rattle.mime_sniff.specs.Growth.{TellForGood}
+use Rattle.std.specs.Bool.{OnFalse, OnTrue}
+use Rattle.mime_sniff.specs.Growth.{MayScript}
 use Rattle.mime_sniff.specs.Rule.{Accepts, TellsFirst}
 use Rattle.mime_sniff.specs.Standard.{scriptable}
-use Rattle.mime_sniff.proofs.DecidedLemmas.{never_full, never_settled, no_rule, some_rule}
+use Rattle.mime_sniff.proofs.DecidedLemmas.{NeverAccepted, may_below, never_accepted, never_full, no_rule, some_rule}
 use Rattle.mime_sniff.proofs.computed.may_be_scriptable.Goals as goal
 
 pub returns-in-Some-clause-full : goal.returns-in-Some-clause-full
@@ -24,6 +25,13 @@ returns-in-None-clause-full c full = (
       absurd (no_rule (Accepts c.header-header.result.now) scriptable c.in-None.ensures (subst (λ h. Any (Accepts h) scriptable) (sym c.header-header.ensures) some)),
 )
 
-pub returns-in-Some-None-clause-right : goal.returns-in-Some-None-clause-right
-returns-in-Some-None-clause-right c =
-    never_settled c.args.buf.now (subst (λ h. TellForGood h scriptable None) c.header-header.ensures (rw c.in-Some-None.field-0-is at c.in-Some-None.ensures))
+pub returns-clause-right : goal.returns-clause-right
+returns-clause-right c =
+    never_accepted c.args.buf.now c.may_become_scriptable.result
+    (subst (λ h. OnFalse c.may_become_scriptable.result (NeverAccepted h)) c.header-header.ensures c.may_become_scriptable.ensures.never)
+
+pub returns-clause-begun : goal.returns-clause-begun
+returns-clause-begun c short =
+    may_below c.args.buf.now c.may_become_scriptable.result short
+    (subst (λ h. OnTrue c.may_become_scriptable.result (MayScript h)) c.header-header.ensures c.may_become_scriptable.ensures.may)
+    (subst (λ h. OnFalse c.may_become_scriptable.result (NeverAccepted h)) c.header-header.ensures c.may_become_scriptable.ensures.never)
