@@ -13,9 +13,6 @@ pub use Rattle.infer.specs.First.{IsFirstOf, IsFirst, NoneHas, IsAnswer, SomeHas
 pub use Rattle.infer.specs.Laws.{AnswersAreLocal, AnswersAsBuiltIn, AnyLasts, Breaks, FrontDecides, IsNotLater}
 pub use Rattle.infer.specs.Laws.{IsSteady, OnlyFarRowsFollow, ReadersAreAlike}
 pub use Rattle.infer.specs.Laws.{answers_far}
-unfoldable pub use Rattle.infer.specs.Guards.{are_guards, are_ready, are_written, is_only, bars_rows, bars_text, first_asked, guard_rows, is_ascending}
-pub use Rattle.infer.specs.Guards.{IsAlone, IsAscending, IsGuardedBy, Lacks, bars_first, bars_short, guards_of, office_leads, alternatives_of, bars, bars_alternative, bars_part, bars_signature}
-pub use Rattle.infer.specs.Guards.{begins_otherwise, is_guarded_by, is_known_ready, is_led_otherwise, is_probed, is_range_of, is_ready, names, part_bars, probe_bars, ready_rows, says}
 unfoldable pub use Rattle.infer.specs.Leads.{candidates}
 pub use Rattle.infer.specs.Leads.{candidates_of, Leads, allows_first, numbers_from}
 pub use Rattle.infer.specs.Listed.{number_of, buffer_listed, row_listed}

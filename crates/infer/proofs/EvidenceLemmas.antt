@@ -16,7 +16,9 @@ use Rattle.infer.specs.contracts.candidates.arms.Arm as arm_type
 use denote.Enum.Declared.{tag_of}
 use Rattle.infer.specs.declared.candidates.dispatch.TheConstants.{CANDIDATES}
 use Rattle.infer.specs.declared.why.TheConstants.{MOST_OF_CANDIDATES}
-use Rattle.std.specs.Prelude.{codes, nat_le}
+use Rattle.std.specs.Prelude.{codes, nat_eq, nat_le, true}
+use Rattle.std.specs.Option.{option_eq}
+use Rattle.std.proofs.lemmas.Bool.{eqb-true}
 use Rattle.infer.specs.declared.table.rows.TheConstants.{PDF}
 use Rattle.infer_deep.specs.Windows.{StandsBy}
 use Rattle.infer_evidence.specs.declared.search.TheConstants.{MOST_OF_A_SEARCH}
@@ -134,14 +136,6 @@ pub pdf_searches : (b : List ℕ) → RowHas (Accepts b) PDF ↔ StandsBy (codes
 unfolding signature_of table
 pdf_searches b = let told = row_accepts b PDF in (told.1, told.0)
 
--- no row before the first that accepts does
-none_at : (b : List ℕ) (first : ℕ) → IsFirst (Accepts b) table first → (i : ℕ) → i < first → (o : Option (Row BuiltIn)) → slice_get table i ≡ o → ¬ MatchOption o ⊥ (Accepts b)
-none_at b first is i lt None found has = has
-none_at b first is i lt (Some r) found has = is.before i r (omega arith) lt (subst (Accepts b) (sym (get_or_from_slice_get table i r r found)) has)
-
-pub none_before : (b : List ℕ) (first : ℕ) → IsFirst (Accepts b) table first → (i : ℕ) → i < first → ¬ RowHas (Accepts b) i
-none_before b first is i lt = none_at b first is i lt (slice_get table i) refl
-
 -- for one row more they ask for as many more
 pub most_more : (rows : List ℕ) (i : ℕ) → i < length rows → most_of_all (take (i + 1) rows) ≡ most_of_all (take i rows) + most_of (signature_of (get_or rows i 0))
 most_more [] i lt = absurd (omega (arith, lt))
@@ -172,7 +166,11 @@ few_in now xs few k (Some x) found =
 pub few_of_arm : (arm : Arm) → most_of_all (rows_of arm) ≤ MOST_OF_CANDIDATES
 few_of_arm arm = few_in (λ rows. rows.now) CANDIDATES each_few (tag_of arm_type.the_type arm) _ refl
 
--- each row may ask for one
-pub some_of : (s : BuiltIn) → 1 ≤ most_of s
-some_of (fixed alternatives) = omega arith
-some_of s = omega arith
+-- what follows for each number follows for the one that there may be
+pub if_some : {P Q : ℕ → Type 0} → (o : Option ℕ) → ((i : ℕ) → P i → Q i) → IfSome o P → IfSome o Q
+if_some None f h = h
+if_some (Some i) f h = f i h
+
+pub same_number : (o : Option ℕ) (n : ℕ) → option_eq nat_eq o (Some n) ≡ true → o ≡ Some n
+same_number None n e = absurd (false≢true e)
+same_number (Some m) n e = ap Some (eqb-true m n e)

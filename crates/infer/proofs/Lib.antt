@@ -20,5 +20,3 @@ pub mod SlotLemmas
 pub mod DecidedLemmas
 pub mod FirstByteLemmas
 pub mod EvidenceLemmas
-pub mod GuardLemmas
-pub mod ReadyLemmas

@@ -1,8 +1,7 @@
 -- Which bytes of a buffer decide its answer.
-use Rattle.std.specs.Prelude.{◌≡◌, ◌↔◌, ◌⊎◌, ◌+◌, ◌≤◌, ◌∷◌, [], ℕ, List, All, Option, None, Some, length, map, max, option_map}
+use Rattle.std.specs.Prelude.{◌≡◌, ◌↔◌, ◌⊎◌, ◌+◌, ◌∷◌, [], ℕ, List, Option, None, Some, map, max, option_map}
 use Rattle.std.specs.List.{range_with_len}
-use Rattle.infer_evidence.specs.Evidence.{AgreesOn, IsOf, IsReady, range_written}
-use Rattle.infer_evidence.specs.declared.ranges.Ready.{Ready}
+use Rattle.infer_evidence.specs.Evidence.{AgreesOn}
 use Rattle.infer_evidence.specs.Listed.{signature_listed}
 use Rattle.infer_evidence.specs.Weighed.{most_ranges}
 use Rattle.infer_evidence.specs.declared.search.TheConstants.{MOST_OF_A_SEARCH}
@@ -16,8 +15,6 @@ use Rattle.infer.specs.Decided.{MayBecomeRow}
 use Rattle.infer.specs.First.{IsFirstOf}
 use Rattle.infer.specs.Row.{Accepts}
 use Rattle.infer.specs.Table.{signature_of, table}
-use Rattle.infer.specs.declared.table.rows.TheConstants.{ROW_COUNT}
-use Rattle.infer.specs.declared.why.TheConstants.{MOST_OF_CANDIDATES}
 use Rattle.infer.specs.declared.why.known.Known.{Known}
 use Rattle.infer.specs.Walks.{IsFirstAmong, RowHas}
 
@@ -25,19 +22,14 @@ use Rattle.infer.specs.Walks.{IsFirstAmong, RowHas}
 abbrev pub Decides : Evidence → List ℕ → Option ℕ → Type 0
 Decides e b answer = (c : List ℕ) → IsBuffer c → AgreesOn e b c → IsFirstOf (Accepts c) table answer
 
--- what lies ready decides that row i is the answer of b, by few ranges inside b that tell of rows, and has them as they are handed
--- to C too
-pub record IsReadyFor (b : List ℕ) (i : ℕ) (r : Ready) : Type 0 where
-  pub decides : (e : Evidence) → IsReady e r → Decides e b (Some i)
-  pub inside : (e : Evidence) → IsReady e r → IsOf e b
-  pub few : length r.ranges.now ≤ 1 + MOST_OF_CANDIDATES
-  pub written : r.written.now ≡ map range_written r.ranges.now
-  pub rows : All (λ range. range.row ≤ ROW_COUNT) r.ranges.now
-
 -- what agrees on the evidence after is what agrees on that before and has the same answer of row i
 abbrev pub TellsRow : Evidence → Evidence → List ℕ → ℕ → Type 0
 TellsRow before after b i =
     (c : List ℕ) → IsBuffer c → AgreesOn after b c → AgreesOn before b c × (RowHas (Accepts c) i ↔ RowHas (Accepts b) i)
+
+-- row i accepts b, and whatever agrees on the evidence
+abbrev pub IsHeld : Evidence → List ℕ → ℕ → Type 0
+IsHeld e b i = RowHas (Accepts b) i × ((c : List ℕ) → IsBuffer c → AgreesOn e b c → RowHas (Accepts c) i)
 
 -- and the same first of these rows
 abbrev pub TellsFirst : Evidence → Evidence → List ℕ → List ℕ → Option ℕ → Type 0

@@ -42,7 +42,6 @@ pub mod Walks
 pub mod Arms
 pub mod Decided
 pub mod Evidence
-pub mod Guards
 pub mod Laws
 pub mod Samples
 pub mod Listed

@@ -60,7 +60,7 @@ use std::rt::Files;
 pub use table::file_type::{FileType as Type, Matcher, MatcherType};
 pub use table::rows as rows;
 use table::rows::ROW_COUNT;
-pub use why::{evidence, ready, ready_of_several};
+pub use why::evidence;
 
 /// The type of the first built-in row that accepts the first 8192 bytes of a file, or all if it has fewer, and
 /// `None` exactly if no row accepts them.

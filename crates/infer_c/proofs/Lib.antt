@@ -1,3 +1,2 @@
 mod MimeLemmas
 mod RangeLemmas
-mod ReadyLemmas

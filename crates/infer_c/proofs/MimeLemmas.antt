@@ -7,14 +7,13 @@ use Rattle.mime_types.specs.Seen.{kind_of, mime_of}
 use Rattle.mime_types.specs.Serialize.{serialize}
 use Rattle.mime_types.specs.Wrote.{IsWritten, Wrote}
 use Rattle.mime_types.specs.declared.mime_type.MimeType.{MimeType}
-use Rattle.mime_types.specs.declared.write.TheConstants.{MOST_SEGMENTS}
+use Rattle.mime_types.specs.declared.write.TheConstants.{MOST_PARAMETERS}
 use Rattle.mime_types.specs.declared.write.WriteError.{WriteError}
 use Rattle.mime_types.specs.declared.write.WriteError.TheVariants.{NoRoom, TooManyParameters}
 use Rattle.mime_sniff.specs.Computed.{IsComputedIn, Supply, supply_of}
 use Rattle.mime_sniff.specs.declared.context.Context.{Context}
 use Rattle.mime_sniff.specs.declared.supplied.Supplied.{Supplied}
 use Rattle.infer_c.specs.Mime.{IsFoundText, IsMimeText, IsTextOf, IsWithRoom, Says, has_bit, kind_said, supply_told}
-use Rattle.infer_c.specs.declared.mime.TheConstants.{MOST}
 
 -- what the code's view shows is what the text says
 pub says_of : (t : List ℕ) (o : Option Mime) → ((m : Mime) → (o ≡ Some m) ↔ Parsed t m) → Says t o
@@ -40,26 +39,26 @@ at_start old new text n (ends, within, is) =
       ap (take n) is ∙ (ap (λ t. take n (t ++ behind)) (take_all (length old - 0) text (omega (arith, same, within))) ∙ take_at text behind n (sym same)),
     )
 
-pub written_whole : (tail : List ℕ) (m : Mime) (old new : List ℕ) (n : ℕ) → length new ≡ MOST → IsWritten MOST_SEGMENTS tail m old new (Ok n)
-    → IsTextOf tail m (take (min n MOST) new)
+pub written_whole : (tail : List ℕ) (m : Mime) (old new : List ℕ) (n : ℕ) → length new ≡ 4095 → IsWritten MOST_PARAMETERS tail m old new (Ok n)
+    → IsTextOf tail m (take (min n 4095) new)
 written_whole tail m old new n size (few, wrote) =
     let (long, is) = at_start old new (serialize m) n wrote in
     let t = taken n new (serialize m) long is in
     inl ((few, omega (arith, long, size, t.0)), subst (λ k. take (min n k) new ≡ serialize m) size t.1)
 
-pub written_none : (tail : List ℕ) (m : Mime) (old new : List ℕ) (e : WriteError) → length old ≡ MOST → IsWritten MOST_SEGMENTS tail m old new (Err e)
+pub written_none : (tail : List ℕ) (m : Mime) (old new : List ℕ) (e : WriteError) → length old ≡ 4095 → IsWritten MOST_PARAMETERS tail m old new (Err e)
     → IsTextOf tail m []
 written_none tail m old new NoRoom size (few, short) = inr ((λ is. absurd (omega (arith, is.1, size, short.0))), refl)
 written_none tail m old new TooManyParameters size many = inr ((λ is. many.0 is.0), refl)
 
 -- the same of a text that is written from the start on
-pub wrote_whole : (old new text : List ℕ) (n : ℕ) → length new ≡ MOST → Wrote old new 0 text (Some n) → IsWithRoom text (take (min n MOST) new)
+pub wrote_whole : (old new text : List ℕ) (n : ℕ) → length new ≡ 4095 → Wrote old new 0 text (Some n) → IsWithRoom text (take (min n 4095) new)
 wrote_whole old new text n size wrote =
     let (same, is) = at_start old new text n wrote in
     let t = taken n new text same is in
     inl (omega (arith, same, size, t.0), subst (λ k. take (min n k) new ≡ text) size t.1)
 
-pub wrote_none : (old new text : List ℕ) → length old ≡ MOST → Wrote old new 0 text None → IsWithRoom text []
+pub wrote_none : (old new text : List ℕ) → length old ≡ 4095 → Wrote old new 0 text None → IsWithRoom text []
 wrote_none old new text size short = inr ((λ is. absurd (omega (arith, is, size, short.0))), refl)
 
 kinds : (o : Option MimeType) → option_map kind_of o ≡ kind_said (option_map mime_of o)

@@ -8,20 +8,18 @@ use Rattle.mime_types.specs.Named.{value_of}
 use Rattle.mime_types.specs.Parse.{Parsed, tail_text}
 use Rattle.mime_types.specs.Pieces.{pieces}
 use Rattle.mime_types.specs.Seen.{mime_of}
-use Rattle.mime_types.specs.Segment.{left_by}
 use Rattle.mime_types.specs.Serialize.{serialize}
+use Rattle.mime_types.specs.Wrote.{HasFew}
 use Rattle.mime_types.specs.declared.extraction.Extracted.{Extracted}
 use Rattle.mime_types.specs.declared.mime_type.MimeType.{MimeType}
 use Rattle.mime_types.specs.declared.minimal.Minimal.{Minimal}
 use Rattle.mime_types.specs.declared.minimal.Minimal.TheVariants.{Essence, JavaScript, Json, Nothing, Svg, Xml}
 use Rattle.mime_types.specs.declared.nosniff.Destination.{Destination}
 use Rattle.mime_types.specs.declared.nosniff.Destination.TheVariants.{Other, Script, Style}
-use Rattle.mime_types.specs.declared.write.TheConstants.{MOST_SEGMENTS}
 use Rattle.mime_sniff.specs.Computed.{Supply}
 use Rattle.mime_sniff.specs.declared.context.Context.{Context}
 use Rattle.mime_sniff.specs.declared.context.Context.TheVariants as contexts
 use Rattle.infer_c.specs.Named.{number_if}
-use Rattle.infer_c.specs.declared.mime.TheConstants.{MOST}
 
 -- the MIME type that a text says, or none
 abbrev pub Says : List ℕ → Option Mime → Type 0
@@ -31,9 +29,9 @@ Says t (Some m) = Parsed t m
 abbrev pub kind_said : Option Mime → Option Kind
 kind_said said = option_map (λ m. m.kind) said
 
--- few segments stand behind the subtype, in a text that ends so, and the MIME type's own text has room
+-- few parameters are written in a text that ends so, and the MIME type's own text has room
 abbrev pub IsShort : List ℕ → Mime → Type 0
-IsShort tail m = (left_by MOST_SEGMENTS tail ≡ []) × (length (serialize m) ≤ MOST)
+IsShort tail m = HasFew 256 tail × (length (serialize m) ≤ 4095)
 
 abbrev pub IsTextOf : List ℕ → Mime → List ℕ → Type 0
 IsTextOf tail m written = (IsShort tail m × (written ≡ serialize m)) ⊎ ((¬ IsShort tail m) × (written ≡ []))
@@ -50,7 +48,7 @@ IsFoundText (Some v) written = IsTextOf v.tail.now (mime_of v) written
 
 -- a text, if it has room
 abbrev pub IsWithRoom : List ℕ → List ℕ → Type 0
-IsWithRoom text written = ((length text ≤ MOST) × (written ≡ text)) ⊎ ((¬ (length text ≤ MOST)) × (written ≡ []))
+IsWithRoom text written = ((length text ≤ 4095) × (written ≡ text)) ⊎ ((¬ (length text ≤ 4095)) × (written ≡ []))
 
 -- the essence
 abbrev pub IsKindText : Kind → List ℕ → Type 0

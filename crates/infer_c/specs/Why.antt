@@ -1,13 +1,12 @@
 -- What decides an answer, as it is told to C.
-use Rattle.std.specs.Prelude.{◌≡◌, ◌++◌, ℕ, List, [], Option, None, Some, drop, if◌then◌else◌, length, map, nat_lt, take}
+use Rattle.std.specs.Prelude.{◌≡◌, ◌++◌, ℕ, List, Option, None, Some, drop, if◌then◌else◌, length, map, nat_lt, take}
 use Rattle.infer_evidence.specs.Evidence.{IsOf, ranges_of, row_of}
 use Rattle.infer_evidence.specs.declared.ranges.Evidence.{Evidence}
 use Rattle.infer_evidence.specs.declared.ranges.Range.{Range}
-use Rattle.infer_evidence.specs.declared.ranges.Ready.{Ready}
 use Rattle.infer_more.specs.Wider.{shown}
 use Rattle.infer_c.specs.Codes.{row_code}
 use Rattle.infer_c.specs.declared.why.Needs.{Needs}
-use Rattle.infer_evidence.specs.declared.ranges.WrittenRange.{WrittenRange}
+use Rattle.infer_c.specs.declared.why.WrittenRange.{WrittenRange}
 
 -- the number, if a row has it
 abbrev pub among_rows : Option ℕ → Option ℕ
@@ -25,10 +24,6 @@ WritesRanges ranges old new = new ≡ take (length old) (map range_written range
 -- how many ranges are wanted, and what is needed of the length
 abbrev pub needs_of : Evidence → Needs
 needs_of e = record { wanted = e.count; least = e.least; is_exact = e.exact }
-
--- evidence of what lies ready
-abbrev pub evidence_of : Ready → Evidence
-evidence_of r = record { ready = Some r.ranges; ranges = []; count = length r.ranges.now; least = r.least; exact = r.exact }
 
 -- what was written is evidence of the buffer with that property
 pub record TellsWhy (P : Evidence → Type 0) (b : List ℕ) (old new : List WrittenRange) (needs : Needs) : Type 0 where

@@ -33,9 +33,9 @@ ghost use Rattle.mime_types.specs.Mime.{Mime};
 ghost use Rattle.mime_types.specs.Nosniff.{IsBlocked, IsNosniff};
 ghost use Rattle.mime_types.specs.Text.{lower};
 ghost use Rattle.mime_types.specs.declared.extraction.Extracted.{Extracted};
-ghost use Rattle.mime_sniff.specs.Computed.{IsComputedIn, apache_bugs};
+ghost use Rattle.mime_sniff.specs.Computed.{AsksNothing, IsComputedIn, apache_bugs};
 ghost use Rattle.mime_sniff.specs.Growth as growth;
-ghost use Rattle.mime_sniff.specs.Growth.{NeverScripts};
+ghost use Rattle.mime_sniff.specs.Growth.{MayScript, NeverScripts, Scripts};
 ghost use Rattle.infer_label.specs.Line.{class_name, note_line};
 ghost use Rattle.infer_label.specs.Writes.{saturated};
 ghost use Rattle.infer_c.specs.Label.{TellsLine, note_of, options_by};
@@ -54,14 +54,14 @@ mod why;
 mod written;
 
 use infer::MatcherType;
-use infer_evidence::{Evidence, WrittenRange};
+use infer_evidence::Evidence;
 use infer_label::class_name;
 use infer_more::laws;
 use label::Asked;
 use mime_sniff::Context;
 use mime_types::Destination;
 use named::NamedAnswer;
-use why::Needs;
+use why::{Needs, WrittenRange};
 
 const VERSION: &str = "0.1.0";
 
@@ -183,51 +183,6 @@ pub extern "C" fn infer_evidence(buf: &[u8], ranges: &mut [WrittenRange], needs:
         × TellsWhy (λ e. Decides e buf.now first) buf.now ranges.old ranges.new needs.new }
     ensures few { needs.new.wanted ≤ 68 }
 {
-    let Some(row) = infer::position(buf) else {
-        return evidence_in_full(buf, ranges, needs);
-    };
-    match infer::ready(row, buf) {
-        Some(ready) => {
-            why::store_ready(&ready, ranges, needs);
-            row as i32
-        }
-        None => evidence_of_several(row, buf, ranges, needs),
-    }
-}
-
-/// The same of a row whose signature has several alternatives. Like the way behind it, it is a function of its own, so that the
-/// rows of one alternative pay nothing for it.
-#[inline(never)]
-fn evidence_of_several(
-    row: usize,
-    buf: &[u8],
-    ranges: &mut [WrittenRange],
-    needs: &mut Needs,
-) -> i32
-    requires first { IsFirstOf (Accepts buf.now) table (Some row) }
-    requires bound { row < ROW_COUNT }
-    ensures first { (first : Option ℕ) × IsFirstOf (Accepts buf.now) table first
-        × (result ≡ row_code first)
-        × TellsWhy (λ e. Decides e buf.now first) buf.now ranges.old ranges.new needs.new }
-    ensures few { needs.new.wanted ≤ 68 }
-{
-    match infer::ready_of_several(row, buf) {
-        Some(ready) => {
-            why::store_ready(&ready, ranges, needs);
-            row as i32
-        }
-        None => evidence_in_full(buf, ranges, needs),
-    }
-}
-
-/// The same, whether it lies ready or not. It is a function of its own, since it makes room for ranges before it asks.
-#[inline(never)]
-fn evidence_in_full(buf: &[u8], ranges: &mut [WrittenRange], needs: &mut Needs) -> i32
-    ensures first { (first : Option ℕ) × IsFirstOf (Accepts buf.now) table first
-        × (result ≡ row_code first)
-        × TellsWhy (λ e. Decides e buf.now first) buf.now ranges.old ranges.new needs.new }
-    ensures few { needs.new.wanted ≤ 68 }
-{
     let mut evidence = Evidence::new();
     let found = infer::evidence(buf, &mut evidence);
     why::store(&evidence, ranges, needs);
@@ -244,8 +199,9 @@ pub extern "C" fn infer_more_evidence(
     ranges: &mut [WrittenRange],
     needs: &mut Needs,
 ) -> i32
-    ensures { (wider : Option ℕ) × IsWider buf.now wider × (result ≡ row_code wider)
+    ensures wider { (wider : Option ℕ) × IsWider buf.now wider × (result ≡ row_code wider)
         × TellsWhy (λ e. wider_why.Decides e buf.now wider) buf.now ranges.old ranges.new needs.new }
+    ensures few { needs.new.wanted ≤ 80 }
 {
     let mut evidence = Evidence::new();
     let found = infer_more::evidence(buf, &mut evidence);
@@ -372,7 +328,7 @@ pub extern "C" fn infer_detect_content_type(buf: &[u8], out: &mut [u8]) -> usize
 }
 
 /// The length of the text of the MIME type that `text` says, which is written to `out`, and 0 if it says none, has more than
-/// 256 parameters, or would take more than 4095 bytes.
+/// 256 parameters, those that do not count among them, or would take more than 4095 bytes.
 #[unsafe(no_mangle)]
 pub extern "C" fn infer_mime_parse(text: &[u8], out: &mut [u8]) -> usize
     ensures { (said : Option Mime) × (written : List ℕ) × Says text.now said × IsMimeText text.now said written
@@ -429,7 +385,7 @@ pub extern "C" fn infer_mime_groups(text: &[u8]) -> u32
 
 /// The length of the text of the MIME type that the values of `Content-Type` say together, as Fetch extracts it, which is written
 /// to `out`: with the charset of the first of its kind behind its parameters, if it has none. It is 0 if they say none, or it has
-/// more than 256 parameters, or would take more than 4095 bytes.
+/// more than 256 parameters, those that do not count among them, or would take more than 4095 bytes.
 #[unsafe(no_mangle)]
 pub extern "C" fn infer_mime_extract(value: &[u8], out: &mut [u8]) -> usize
     ensures { (found : Option Extracted) × (written : List ℕ) × SayTogether value.now found × IsTogetherText found written
@@ -484,20 +440,25 @@ pub extern "C" fn infer_mime_compute(
     mime::write_computed(content_type, flags, context, buf, out)
 }
 
-/// Whether no bytes after `buf` change the type that a browser computes of a page: a yes is certain.
+/// Whether no bytes after `buf` change the type that a browser computes of a page: a yes is certain. It is a yes for 1445 bytes,
+/// and where no bytes are asked.
 #[unsafe(no_mangle)]
 pub extern "C" fn infer_mime_is_decided(content_type: &[u8], flags: u32, buf: &[u8]) -> bool
-    ensures { (said : Option Mime) × Says content_type.now said
-        × OnTrue result (growth.IsDecided (supply_told said flags) buf.now) }
+    ensures right { (said : Option Mime) × Says content_type.now said
+        × OnTrue result (growth.IsDecided (supply_told said flags) buf.now)
+        × (AsksNothing (supply_told said flags) → IsTrue result) }
+    ensures full { 1445 ≤ length buf.now → IsTrue result }
 {
     mime::is_decided(content_type, flags, buf)
 }
 
-/// Whether a browser that knows no type may tell one that runs scripts, by these bytes or with more after them: a no is
-/// certain.
+/// Whether a browser that knows no type may compute one that runs scripts, from these bytes or with more after them: a no is
+/// certain. Of 1445 bytes a yes is certain too. Of fewer it means that some bytes after them bring it, if more than 1445 counted.
 #[unsafe(no_mangle)]
 pub extern "C" fn infer_mime_may_be_scriptable(buf: &[u8]) -> bool
-    ensures { OnFalse result (NeverScripts buf.now) }
+    ensures right { OnFalse result (NeverScripts buf.now) }
+    ensures full { 1445 ≤ length buf.now → (IsTrue result ↔ Scripts buf.now) }
+    ensures begun { length buf.now < 1445 → (IsTrue result ↔ MayScript buf.now) }
 {
     mime_sniff::may_be_scriptable(buf)
 }

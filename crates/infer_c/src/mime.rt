@@ -8,7 +8,7 @@ ghost use Rattle.mime_types.specs.Parse.{tail_text};
 ghost use Rattle.mime_types.specs.Seen.{kind_of, mime_of, value_seen};
 ghost use Rattle.mime_types.specs.Text.{lower};
 ghost use Rattle.mime_types.specs.declared.extraction.Extracted.{Extracted};
-ghost use Rattle.mime_sniff.specs.Computed.{IsComputedIn};
+ghost use Rattle.mime_sniff.specs.Computed.{AsksNothing, IsComputedIn};
 ghost use Rattle.mime_sniff.specs.Growth.{IsDecided};
 ghost use Rattle.infer_c.specs.Mime.{IsContextOf, IsDestinationOf, IsEssenceText, IsFoundText, IsGroupCode, IsGroupCodeSaid, IsKindText, IsLeastText, IsMimeText, IsMinimalText, IsTextOf, IsWithRoom, IsToldText, IsTogetherText, IsValueText, SayTogether, Says, has_bit, kind_said, mime_extracted, supply_told, value_said};
 ghost use Rattle.infer_c.specs.Written.{WritesText};
@@ -296,10 +296,12 @@ pub fn write_computed(
     }
 }
 
-/// Whether no bytes behind `buf` change the type that a page has: a yes is certain.
+/// Whether no bytes after `buf` change the type that a page has: a yes is certain.
 pub fn is_decided(content_type: &[u8], flags: u32, buf: &[u8]) -> bool
-    ensures { (said : Option Mime) × Says content_type.now said
-        × OnTrue result (IsDecided (supply_told said flags) buf.now) }
+    ensures right { (said : Option Mime) × Says content_type.now said
+        × OnTrue result (IsDecided (supply_told said flags) buf.now)
+        × (AsksNothing (supply_told said flags) → IsTrue result) }
+    ensures full { 1445 ≤ length buf.now → IsTrue result }
 {
     mime_sniff::is_decided(&supplied(content_type, flags), buf)
 }

@@ -1,14 +1,23 @@
 //! What decides an answer, as C has it.
-ghost use Rattle.std.specs.Prelude.{◌≡◌, ◌≤◌, All, map};
-ghost use Rattle.infer.specs.declared.table.rows.TheConstants.{ROW_COUNT};
-ghost use Rattle.infer_evidence.specs.Evidence as handed;
+ghost use Rattle.std.specs.Prelude.{◌≡◌};
 ghost use Rattle.infer_evidence.specs.Evidence.{ranges_of};
 ghost use Rattle.infer_c.specs.Codes.{row_code};
-ghost use Rattle.infer_c.specs.Why.{WritesRanges, among_rows, evidence_of, needs_of, range_written};
+ghost use Rattle.infer_c.specs.Why.{WritesRanges, among_rows, needs_of, range_written};
 
 use infer::rows::ROW_COUNT;
-use infer_evidence::{Evidence, Range, Ready, WrittenRange};
+use infer_evidence::{Evidence, Range};
 use infer_more::{FURTHER_COUNT, laws};
+
+/// Bytes of a buffer: `len` of them, the first at `place` and each other `step` after the one before; and the number of the row
+/// that they accept or rule out, or -1.
+#[repr(C)]
+#[derive(Clone, Copy)]
+pub struct WrittenRange {
+    pub place: usize,
+    pub len: usize,
+    pub step: usize,
+    pub row: i32,
+}
 
 /// How many ranges are wanted, the least length that is needed, and whether just that of the buffer is.
 #[repr(C)]
@@ -29,48 +38,6 @@ pub fn store(evidence: &Evidence, room: &mut [WrittenRange], needs: &mut Needs)
         wanted: evidence.wanted(),
         least: evidence.least(),
         is_exact: evidence.is_exact(),
-    };
-}
-
-/// The same of what lies ready, and has its ranges as they are written. The first is copied ahead of the loop, since a short
-/// buffer most often has no other.
-#[inline(always)]
-pub fn store_ready(ready: &Ready, room: &mut [WrittenRange], needs: &mut Needs)
-    requires written { ready.now.written.now ≡ map handed.range_written ready.now.ranges.now }
-    requires rows { All (λ range. range.row ≤ ROW_COUNT) ready.now.ranges.now }
-    ensures ranges { WritesRanges ready.now.ranges.now room.old room.new }
-    ensures needs { needs.new ≡ needs_of (evidence_of ready.now) }
-{
-    laws::numbers();
-    let wanted = ready.written.len();
-    if wanted == 0 || room.is_empty() {
-        return store_needs(wanted, ready.least, ready.exact, needs);
-    }
-    room[0] = ready.written[0];
-    for k in 1..wanted {
-        if k >= room.len() {
-            return store_needs(wanted, ready.least, ready.exact, needs);
-        }
-        room[k] = ready.written[k];
-    }
-    needs.wanted = wanted;
-    needs.least = ready.least;
-    needs.is_exact = ready.exact;
-}
-
-/// Stores what is needed. Seldom is no range wanted or the room too small, so that what then stores it is apart: else the loop
-/// that copies is unrolled, which costs the few ranges more than it saves.
-#[cold]
-#[inline(never)]
-fn store_needs(wanted: usize, least: usize, is_exact: bool, needs: &mut Needs)
-    ensures wanted { needs.new.wanted ≡ wanted }
-    ensures least { needs.new.least ≡ least }
-    ensures exact { needs.new.is_exact ≡ is_exact }
-{
-    *needs = Needs {
-        wanted,
-        least,
-        is_exact,
     };
 }
 

@@ -4,7 +4,7 @@ pub use Rattle.std.specs.Prelude.{All, not}
 pub use Rattle.std.proofs.lemmas.Grind.{take-set_at}
 pub use Rattle.std.proofs.lemmas.List.{get_or_append_left, length-take-le, take-set-le, take_all, length-append, length-map}
 pub use Rattle.std.proofs.Math.Seq.{get_or-append_right}
-pub use Rattle.infer_evidence.specs.Evidence.{AgreesOn, AreCopied, Grows, HasSame, IsInside, IsOf, IsAround, IsSame, place_in, ranges_of, row_of}
+pub use Rattle.infer_evidence.specs.Evidence.{AgreesOn, Grows, HasSame, IsInside, IsOf, IsAround, IsSame, place_in, ranges_of, row_of}
 pub use Rattle.infer_evidence.specs.declared.ranges.Evidence.{Evidence}
 pub use Rattle.infer_evidence.specs.declared.ranges.Range.{Range}
 pub use Rattle.std.proofs.lemmas.List.Elements.{All-push, All-take, All-nil}
@@ -28,7 +28,6 @@ pub use Rattle.infer_evidence.specs.declared.signature.Part.{Part}
 pub use Rattle.infer_evidence.specs.declared.signature.Part.TheVariants.{AnyText, Byte, Text}
 pub use Rattle.infer_sig.specs.Signature.{allows, accepts, fits, has_part}
 unfoldable pub use Rattle.infer_sig.specs.Signature.{stands}
-pub use Rattle.std.proofs.lemmas.List.{get_or-take}
 pub use Rattle.std.proofs.Common.{inl, inr}
 pub use Rattle.std.proofs.lemmas.Bool.{cases_lt}
 pub use Rattle.memchr.specs.Find.{OccursAt}
@@ -37,10 +36,4 @@ pub use Rattle.infer_deep.specs.Windows.{StandsBy}
 pub use Rattle.infer_evidence.specs.Searched.{IsHit, StandsNowhereBy}
 pub use Rattle.infer_evidence.specs.declared.search.Hit.{Hit}
 pub use Rattle.std.specs.Prelude.{max}
-pub use Rattle.std.specs.Option.{option_map_or}
 pub use Rattle.std.specs.Prelude.{None, Some}
-pub use Rattle.std.proofs.lemmas.List.{length-take}
-pub use Rattle.infer_evidence.specs.declared.ranges.TheConstants.{MOST_RANGES}
-pub use Rattle.std.proofs.lemmas.List.{length-set}
-pub use Rattle.std.proofs.lemmas.List.{get_or-set_other}
-pub use Rattle.std.proofs.lemmas.Grind.{get_or-set_at}

@@ -1,31 +1,12 @@
 -- Which bytes of a buffer decide.
-use Rattle.std.specs.Prelude.{◌≡◌, ◌+◌, ◌*◌, ◌<◌, ◌≤◌, ℕ, ℤ, pos, negsuc, zero, suc, List, Option, None, Some, All, IsTrue, get_or, length, slice_index, take}
-use Rattle.std.specs.Option.{option_map_or}
+use Rattle.std.specs.Prelude.{◌≡◌, ◌+◌, ◌*◌, ◌<◌, ◌≤◌, ℕ, zero, suc, List, Option, None, Some, All, IsTrue, length, slice_index, take}
 use Rattle.infer_evidence.specs.declared.ranges.Evidence.{Evidence}
 use Rattle.infer_evidence.specs.declared.ranges.Range.{Range}
-use Rattle.infer_evidence.specs.declared.ranges.Ready.{Ready}
 use Rattle.infer_evidence.specs.declared.ranges.TheConstants.{MOST_RANGES}
-use Rattle.infer_evidence.specs.declared.ranges.WrittenRange.{WrittenRange}
-
--- the ranges that the evidence keeps: those that lie ready, if it has such, and else its own
-abbrev pub ranges_kept : Evidence → List Range
-ranges_kept e = option_map_or (λ ready. ready.now) e.ready e.ranges
 
 -- the ranges that the evidence names
 abbrev pub ranges_of : Evidence → List Range
-ranges_of e = take e.count (ranges_kept e)
-
--- the evidence names what lies ready, and asks for nothing else
-pub record IsReady (e : Evidence) (r : Ready) : Type 0 where
-  pub ranges : ranges_of e ≡ r.ranges.now
-  pub count : e.count ≡ length r.ranges.now
-  pub least : e.least ≡ r.least
-  pub exact : e.exact ≡ r.exact
-
--- the first n of these ranges are those that lie ready, and behind the last of those have no byte
-abbrev pub AreCopied : (ready ranges : List Range) → ℕ → Type 0
-AreCopied ready ranges n =
-    (k : ℕ) (d : Range) → k < n → (k < length ready → get_or ranges k d ≡ get_or ready k d) × (length ready ≤ k → (get_or ranges k d).len ≡ 0)
+ranges_of e = take e.count e.ranges
 
 -- the place of a byte of the range
 abbrev pub place_in : Range → ℕ → ℕ
@@ -52,15 +33,6 @@ row_kept (suc i) = Some i
 
 abbrev pub row_of : Range → Option ℕ
 row_of r = row_kept r.row
-
--- the number of a row as it is handed to C, and -1 for none
-abbrev pub row_written : Option ℕ → ℤ
-row_written (Some i) = pos i
-row_written None = negsuc 0
-
--- and the range
-abbrev pub range_written : Range → WrittenRange
-range_written r = record { place = r.place; len = r.len; step = r.step; row = row_written (row_of r) }
 
 -- c agrees with b on the evidence, which has room for all its ranges: it has the same bytes in each of them, the length that
 -- is needed at least, and that of b if this is

@@ -1,6 +1,6 @@
 //! Ranges of a buffer, and what is needed of its length.
-ghost use Rattle.std.specs.Prelude.{◌≡◌, ◌↔◌, ◌+◌, ◌<◌, ◌≤◌, ℕ, List, [], Any, IfSome, IsTrue, MatchOption, None, Some, false, get_or, length, min};
-ghost use Rattle.infer_evidence.specs.Evidence.{AgreesOn, AreCopied, Grows, HasSame, IsAround, IsInside, IsOf, IsReady, IsSame, place_in, ranges_of, row_of};
+ghost use Rattle.std.specs.Prelude.{◌≡◌, ◌↔◌, ◌+◌, ◌<◌, ◌≤◌, ℕ, List, [], Any, IfSome, IsTrue, MatchOption, None, Some, false, length};
+ghost use Rattle.infer_evidence.specs.Evidence.{AgreesOn, Grows, HasSame, IsAround, IsInside, IsOf, IsSame, place_in, ranges_of, row_of};
 
 /// For how many ranges an [`Evidence`] has room.
 pub const MOST_RANGES: usize = 80;
@@ -114,32 +114,9 @@ fn number(row: Option<usize>) -> u32
     }
 }
 
-/// A range as it is handed to C: bytes of a buffer, `len` of them, the first at `place` and each other `step` behind the one
-/// before, and the number of the row of which they tell, or -1.
-#[repr(C)]
-#[derive(Clone, Copy)]
-pub struct WrittenRange {
-    pub place: usize,
-    pub len: usize,
-    pub step: usize,
-    pub row: i32,
-}
-
-/// What decides, where it lies ready: all ranges of a list, the same as they are handed to C, so that they need only be copied;
-/// the least length that is needed, and whether another length is not enough.
-#[derive(Clone, Copy)]
-pub struct Ready {
-    pub ranges: &'static [Range],
-    pub written: &'static [WrittenRange],
-    pub least: usize,
-    pub exact: bool,
-}
-
-/// What decides: ranges of a buffer, the least length that is needed, and whether another length is not enough. The ranges
-/// of most answers lie ready in a list, and nothing of it is copied until more is asked for.
+/// What decides: ranges of a buffer, the least length that is needed, and whether another length is not enough.
 #[derive(Drop)]
 pub struct Evidence {
-    ready: Option<&'static [Range]>,
     ranges: [Range; MOST_RANGES],
     count: usize,
     least: usize,
@@ -154,7 +131,6 @@ impl Evidence {
         ensures exact { result.exact ≡ false }
     {
         Evidence {
-            ready: None,
             ranges: [Range::blank(); MOST_RANGES],
             count: 0,
             least: 0,
@@ -166,10 +142,7 @@ impl Evidence {
     pub fn ranges(&self) -> &[Range]
         ensures { result.now ≡ ranges_of self.now }
     {
-        match self.ready {
-            Some(ready) => &ready[..self.count.min(ready.len())],
-            None => &self.ranges[..self.count.min(MOST_RANGES)],
-        }
+        &self.ranges[..self.count.min(MOST_RANGES)]
     }
 
     /// How many ranges are wanted. If there are more than [`MOST_RANGES`], those that there is room for are not enough.
@@ -200,35 +173,9 @@ impl Evidence {
         ensures least { self.new.least ≡ 0 }
         ensures exact { self.new.exact ≡ false }
     {
-        self.ready = None;
         self.count = 0;
         self.least = 0;
         self.exact = false;
-    }
-
-    /// Asks for what lies ready, and for nothing else.
-    pub fn take_ready(&mut self, ready: Ready)
-        ensures { IsReady self.new ready }
-    {
-        self.ready = Some(ready.ranges);
-        self.count = ready.ranges.len();
-        self.least = ready.least;
-        self.exact = ready.exact;
-    }
-
-    /// Copies the ranges that lie ready, so that others can be put behind them. Where fewer lie there than are asked for, the
-    /// rest have no byte.
-    fn settle(&mut self)
-        ensures settled { self.new.ready ≡ None }
-        ensures long { length self.new.ranges ≡ MOST_RANGES }
-        ensures same { (b c : List ℕ) → AgreesOn self.new b c → AgreesOn self.old b c }
-        ensures inside { (b : List ℕ) → IsOf self.old b → IsOf self.new b }
-        ensures few { self.new.count ≡ self.old.count }
-    {
-        if let Some(ready) = self.ready {
-            copy_ready(ready, self.count, &mut self.ranges);
-            self.ready = None;
-        }
     }
 
     /// Whether a range that is asked for has all bytes of this one.
@@ -255,7 +202,6 @@ impl Evidence {
         if range.len == 0 {
             return;
         }
-        self.settle();
         if self.count >= MOST_RANGES {
             self.count = self.count.saturating_add(1);
             return;
@@ -312,27 +258,6 @@ impl Evidence {
         ensures few { self.new.count ≡ self.old.count }
     {
         self.exact = true;
-    }
-}
-
-/// Copies as many of the ranges that lie ready.
-fn copy_ready(ready: &[Range], count: usize, ranges: &mut [Range; MOST_RANGES])
-    ensures copied { AreCopied ready.now ranges.new (min count MOST_RANGES) }
-    ensures long { length ranges.new ≡ MOST_RANGES }
-{
-    for k in 0..count.min(MOST_RANGES) {
-        ranges[k] = ready_at(ready, k);
-    }
-}
-
-/// The range that lies there, and one with no byte behind the last.
-fn ready_at(ready: &[Range], k: usize) -> Range
-    ensures there { (d : Range) → k < length ready.now → result ≡ get_or ready.now k d }
-    ensures behind { length ready.now ≤ k → result.len ≡ 0 }
-{
-    match ready.get(k) {
-        Some(range) => *range,
-        None => Range::blank(),
     }
 }
 

@@ -124,12 +124,17 @@ label_members l =
     type_members l.mime_type l.extension
     ++ (empty_member l.is_empty ++ (encoding_member l.encoding ++ (standing_member l.standing ++ named_member l.named)))
 
+-- a sum may begin with "=", "+", "-" or "@", and with each of these in full width: U+FF1D, U+FF0B, U+FF0D and U+FF20
+abbrev pub begins_as_wide_sum : List ℕ → Bool
+begins_as_wide_sum (x ∷ y ∷ z ∷ text) = (x == 0xEF) && ((y == 0xBC) && (z == 0x9D || (z == 0x8B || (z == 0x8D || z == 0xA0))))
+begins_as_wide_sum text = false
+
 -- As a row of CSV: the name, the MIME type, the extension, the class, the encoding, what the name did, the MIME type and the
 -- extension that it has, where it contradicts, how many bytes the file has, the fault, and why. A given text stands between
 -- quotation marks; where it begins as a sum does, of which a table would make one, "./" stands before it.
 abbrev pub begins_as_sum : List ℕ → Bool
 begins_as_sum [] = false
-begins_as_sum (x ∷ text) = x == 0x3D || (x == 0x2B || (x == 0x2D || x == 0x40))
+begins_as_sum (x ∷ text) = x == 0x3D || (x == 0x2B || (x == 0x2D || (x == 0x40 || begins_as_wide_sum (x ∷ text))))
 
 abbrev pub guard : List ℕ → List ℕ
 guard text = if begins_as_sum text then codes "./" else []

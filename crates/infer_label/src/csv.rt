@@ -2,7 +2,7 @@
 ghost use Rattle.std.specs.Prelude.{◌≡◌, ◌&&◌, ◌++◌, None, Some, codes, if◌then◌else◌, not, option_map};
 ghost use Rattle.std.specs.List.{list_all};
 ghost use Rattle.infer_label.specs.Label.{label_listed};
-ghost use Rattle.infer_label.specs.Line.{begins_as_sum, class_field, class_name, encoding_field, guard, is_bare, label_fields, mime_field, named_fields, note_fields, or_none, quoted, size_field, standing_field, start, type_fields, why_field};
+ghost use Rattle.infer_label.specs.Line.{begins_as_sum, begins_as_wide_sum, class_field, class_name, encoding_field, guard, is_bare, label_fields, mime_field, named_fields, note_fields, or_none, quoted, size_field, standing_field, start, type_fields, why_field};
 ghost use Rattle.infer_label.specs.Why.{why_listed};
 ghost use Rattle.infer_label.specs.Writes.{Writes};
 
@@ -93,8 +93,28 @@ fn begins_as_sum(text: &[u8]) -> bool
     ensures { result ≡ begins_as_sum text.now }
 {
     match text {
-        [first, ..] => *first == b'=' || *first == b'+' || *first == b'-' || *first == b'@',
+        [first, ..] => {
+            *first == b'='
+                || *first == b'+'
+                || *first == b'-'
+                || *first == b'@'
+                || begins_as_wide_sum(text)
+        }
         [] => false,
+    }
+}
+
+/// The same of these four in full width, U+FF1D, U+FF0B, U+FF0D and U+FF20, which tables take for them.
+fn begins_as_wide_sum(text: &[u8]) -> bool
+    ensures { result ≡ begins_as_wide_sum text.now }
+{
+    match text {
+        [first, second, last, ..] => {
+            *first == 0xEF
+                && *second == 0xBC
+                && (*last == 0x9D || *last == 0x8B || *last == 0x8D || *last == 0xA0)
+        }
+        _ => false,
     }
 }
 

@@ -1,7 +1,7 @@
 //! Which bytes decide, on buffers worked by hand from the signatures: what has to be named, and what may not.
 use crate::tests::buffers::filled_but;
 use infer::rows;
-use infer_evidence::{Evidence, Range, Ready};
+use infer_evidence::{Evidence, Range};
 use std::test::Fail;
 
 /// Bytes of a buffer, from the first place to before the second.
@@ -495,53 +495,5 @@ fn further_rows_of_ranges(rt: HostRuntime) -> Result<(), Fail> {
         message = message || range.row() == further("pgp") && is_of(range, (15, 1, 1));
     }
     assert!(rt; found.is_some() && own && message);
-    Ok(())
-}
-
-/// What lies ready for a buffer, by either way, with the number of its row.
-fn ready_for(buf: &[u8]) -> Option<(usize, Ready)> {
-    let row = infer::position(buf)?;
-    if let Some(ready) = infer::ready(row, buf) {
-        return Some((row, ready));
-    }
-    let ready = infer::ready_of_several(row, buf)?;
-    Some((row, ready))
-}
-
-fn is_same_range(a: &Range, b: &Range) -> bool {
-    (a.place, a.len, a.step) == (b.place, b.len, b.step) && a.row() == b.row()
-}
-
-/// Whether each of the ranges is that of the evidence.
-fn are_ranges_of(ranges: &[Range], evidence: &Evidence) -> bool {
-    let asked = evidence.ranges();
-    for (k, range) in ranges.iter().enumerate() {
-        if k >= asked.len() || !is_same_range(range, &asked[k]) {
-            return false;
-        }
-    }
-    ranges.len() == asked.len()
-}
-
-/// What lies ready for a sample is just what its evidence asks for, and it does for most samples.
-#[test]
-fn ready_samples(rt: HostRuntime) -> Result<(), Fail> {
-    let mut sample = [0; infer::SAMPLE_SIZE];
-    let mut count = 0;
-    for i in 0..rows::ROW_COUNT {
-        let n = infer::sample(i, &mut sample).unwrap_or(0);
-        if let Some((row, ready)) = ready_for(&sample[..n.min(infer::SAMPLE_SIZE)]) {
-            let mut evidence = Evidence::new();
-            let found = infer::evidence(&sample[..n.min(infer::SAMPLE_SIZE)], &mut evidence);
-            assert!(rt; found == Some(row) && row == i, "row {i}");
-            assert!(rt; are_ranges_of(ready.ranges, &evidence), "row {i}");
-            assert!(rt;
-                ready.least == evidence.least() && ready.exact == evidence.is_exact(),
-                "row {i}"
-            );
-            count += 1;
-        }
-    }
-    assert!(rt; count > rows::ROW_COUNT / 2, "{count}");
     Ok(())
 }

@@ -73,7 +73,7 @@ fn a_short_room_holds_the_front(rt: HostRuntime) {
 /// Nothing of a name is obeyed or hidden, and no table makes a sum of it.
 #[test]
 fn names_are_escaped(rt: HostRuntime) {
-    let cases: [(Form, &[u8], &[u8]); 8] = [
+    let cases: [(Form, &[u8], &[u8]); 13] = [
         (Form::Text, b"a\nb", b"a\\u000ab"),
         (
             Form::Text,
@@ -85,6 +85,11 @@ fn names_are_escaped(rt: HostRuntime) {
         (Form::Json, b"\"", b"\\\""),
         (Form::Csv, b"say \"no\"", b"say \"\"no\"\""),
         (Form::Csv, b"=1+1", b"./=1+1"),
+        (Form::Csv, b"\xEF\xBC\x9D1+1", b"./\xEF\xBC\x9D1+1"),
+        (Form::Csv, b"\xEF\xBC\x8B1", b"./\xEF\xBC\x8B1"),
+        (Form::Csv, b"\xEF\xBC\x8D1", b"./\xEF\xBC\x8D1"),
+        (Form::Csv, b"\xEF\xBC\xA01", b"./\xEF\xBC\xA01"),
+        (Form::Csv, b"\xEF\xBC\xA11", b"\xEF\xBC\xA11"),
         (Form::Mime, "\u{202E}".as_bytes(), b"\\u202e"),
     ];
     for (form, name, shown) in cases {

@@ -301,6 +301,30 @@ fn a_long_header(rt: HostRuntime) -> Result<(), Fail> {
     Ok(())
 }
 
+/// What is written so often behind `text/html`, and whether the text of the MIME type is `text/html` alone.
+const REPEATED: &[(&[u8], usize, bool)] = &[
+    (b";", 100_000, true),
+    (b" ; \t;a;=;a=", 1_000, true),
+    (b";=b", 256, true),
+    (b";=b", 257, false),
+    (b";;=b; ;c", 256, true),
+    (b";;=b; ;c", 257, false),
+];
+
+#[test]
+fn empty_segments_count_for_nothing(rt: HostRuntime) -> Result<(), Fail> {
+    for (i, (segments, times, is_told)) in REPEATED.iter().enumerate() {
+        let mut text = Vec::new(rt.alloc());
+        text.extend_from_slice(b"text/html")?;
+        for _ in 0..*times {
+            text.extend_from_slice(*segments)?;
+        }
+        let found = parse(&text).ok_or("no MIME type")?;
+        assert_eq!(rt; is_written(&found, b"text/html"), *is_told, "segments {i}");
+    }
+    Ok(())
+}
+
 #[test]
 fn a_long_list(rt: HostRuntime) -> Result<(), Fail> {
     let mut text = Vec::new(rt.alloc());

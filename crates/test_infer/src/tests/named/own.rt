@@ -30,5 +30,11 @@ fn own_types_come_before_names(rt: HostRuntime) -> Result<(), Fail> {
         };
         assert_eq!(rt; told, (mime_type, standing));
     }
+    // A text with a mistake describes no types.
+    let told = match named_by(b"draw\n", b"main.py", b"import os\n") {
+        NamedBy::Own(_) => None,
+        NamedBy::Named(found) => Some(found.standing),
+    };
+    assert_eq!(rt; told, Some(Standing::NameRefines));
     Ok(())
 }

@@ -1,11 +1,12 @@
 //! Readers and files by their names.
 use infer::{Fault, Watched};
 use infer_named::{
-    Standing, named_from_opened, named_from_path, named_from_reader, named_from_reader_within,
+    Standing, named_from_opened, named_from_path, named_from_path_within, named_from_reader,
+    named_from_reader_within,
 };
-use std::io;
 use std::io::ErrorKind;
 use std::test::Fail;
+use std::{fs, io};
 
 const SCRIPT: &[u8] = b"#!/usr/bin/perl\n";
 
@@ -39,5 +40,17 @@ fn what_is_opened_has_a_name(rt: HostRuntime) -> Result<(), Fail> {
 fn a_path_is_a_name(rt: HostRuntime) -> Result<(), Fail> {
     let found = named_from_path(&rt, rt.alloc(), "/no/such/main.py");
     assert!(rt; matches!(found, Err(Fault::Open(_))));
+    fs::write(&rt, "main.py", SCRIPT)?;
+    let whole = named_from_path(&rt, rt.alloc(), "main.py");
+    assert_eq!(rt;
+        whole.map(|it| it.standing).ok(),
+        Some(Standing::Contradicts)
+    );
+    let front = named_from_path_within(&rt, rt.alloc(), "main.py", 1);
+    assert_eq!(rt;
+        front.map(|it| it.standing).ok(),
+        Some(Standing::NameRefines)
+    );
+    fs::remove_file(&rt, "main.py")?;
     Ok(())
 }
