@@ -2,9 +2,8 @@
 cell has names, with what is asked of them in parentheses, or "-" and why there is none."""
 import os
 import re
-import sys
 
-from texts import text_of
+from texts import TOP, line_of, refuse, text_of
 
 TABLE = "bindings/calls.tsv"
 HEADERS = ["c/infer.h", "c/infer_file.h"]
@@ -31,7 +30,7 @@ def is_in_cpp(name):
 def is_in_python(name):
     of, _, method = name.rpartition(".")
     # A name of a module of its own, or of the package.
-    if os.path.isfile(f"{PYTHON}/{of}.py"):
+    if os.path.isfile(f"{TOP}/{PYTHON}/{of}.py"):
         return f'"{method}"' in text_of(f"{PYTHON}/{of}.py").partition("__all__ = ")[2].partition("]")[0]
     module = text_of(f"{PYTHON}/__init__.py")
     body = re.search(rf"^class {of}\b.*?(?=^\S)", module + "\nend", re.M | re.S) if of else None
@@ -91,13 +90,13 @@ def lines():
     or that a language is said to have and has not."""
     rows = [line.split("\t") for line in text_of(TABLE).splitlines()]
     listed = [name for row in rows for name in names_of(row[0])]
-    if wrong := sorted({*listed} ^ declared()) or [it for it in listed if listed.count(it) > 1]:
-        sys.exit(f"tools/tables: {TABLE} and the headers have other calls, or it has one twice: {', '.join(wrong)}")
-    for row in rows:
+    if wrong := [it for it in listed if it not in declared() or listed.count(it) > 1] or sorted(declared() - {*listed}):
+        refuse(TABLE, line_of(TABLE, f"{wrong[0]}"), f"the table and the headers have other calls, or it has one twice: {', '.join(wrong)}")
+    for number, row in enumerate(rows, 1):
         for language, cell in zip(LANGUAGES, row, strict=True):
             is_in = IS_IN.get(language, lambda name: True)
             if missing := [it for it in names_of(cell) if not is_in(it)]:
-                sys.exit(f"tools/tables: {TABLE}: the binding for {language} has no {missing[0]}")
+                refuse(TABLE, number, f"the binding for {language} has no {missing[0]}")
     yield f"| {' | '.join(LANGUAGES)} |"
     yield "|---" * len(LANGUAGES) + "|"
     for row in rows:

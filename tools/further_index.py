@@ -4,6 +4,7 @@ entry names a row and one more byte that it asks, so that few rows are tried who
 first key of an object or a package are told by a name, and the texts last. The check refuses an index that leaves a row out; here only what is cheap is
 chosen."""
 import ast
+import collections
 import itertools
 import re
 import textwrap
@@ -333,6 +334,19 @@ def alternative(code):
     if name in NAMED:
         return Alternative(name, takes, NAMED[name](bytes_of(re.match(TEXT_OF_BYTES, takes.removeprefix("*"))[0])))
     return Alternative(name, takes, OUTLINES.get(name) or outlines_of(name) or [asked(code)])
+
+
+def is_told(alternative):
+    """Whether it is told below a parent: by a name, or by few bytes at a place."""
+    return alternative.name in NOT_TRIED - TEXTS or all(min(map(len, it.values()), default=256) <= MOST_BYTES for it in alternative.outlines)
+
+
+def few(alternative):
+    """What the index has few of that an alternative asks for, or nothing, which of them if rows can share one, and how many
+    there may be."""
+    if alternative.name in TAGGED:
+        return "tags of the first directory of a TIFF file", alternative.takes.partition(",")[0], 2
+    return (f"row with {alternative.name}", None, 1) if alternative.name in TEXTS else ("", "", 1)
 
 
 def is_wide(alternative):
@@ -711,10 +725,13 @@ def walk(count):
 def looks(place, alternatives):
     """What it costs in all, if each of the alternatives is asked for, where a byte at the place picks. Where it allows more
     bytes than pick, a buffer has mostly zeros; and of those that begin with a zero most have only zeros."""
-    by_bits, rest = picking(place, alternatives)
-    picks = [{byte % PICKS for byte in it[place]} if len(it.get(place, ALL)) <= MOST_PICKED else {0} for _, it in alternatives]
-    zeros = 99 * walk(len(by_bits[0])) if any(it[0] == {0} for _, it in alternatives) else 0
-    return len(alternatives) * walk(len(rest)) + zeros + sum(sum(walk(len(by_bits[bits])) for bits in some) / len(some) for some in picks)
+    asked = [it.get(place, ALL) for _, it in alternatives]
+    picks = [{byte % PICKS for byte in it} for it in asked if len(it) <= MOST_PICKED]
+    counts = collections.Counter(itertools.chain.from_iterable(picks))
+    walks = [walk(counts[bits]) for bits in range(PICKS)]
+    rest = len(asked) - len(picks)
+    zeros = 99 * walks[0] if any(it[0] == {0} for _, it in alternatives) else 0
+    return len(alternatives) * walk(rest) + zeros + rest * walks[0] + sum(sum(walks[bits] for bits in some) / len(some) for some in picks)
 
 
 def second(alternatives):
@@ -746,11 +763,11 @@ def picks(place, alternatives):
 def third(alternatives):
     """The place of a third byte that tells most beside a second one, and what that saves: some of the alternatives are picked
     by it, and the others as if there were none."""
-    best = (0, None)
+    best, without = (0, None), least_looks(alternatives)
     for place in sorted({place for _, it in alternatives for place in it if place}):
         rest = picking(place, alternatives)[1]
         own = [it for it in alternatives if it not in rest]
-        best = max(best, (least_looks(alternatives) - least_looks(rest) - looks(place, own), place), key=lambda it: it[0])
+        best = max(best, (without - least_looks(rest) - looks(place, own), place), key=lambda it: it[0])
     return best
 
 
@@ -851,8 +868,6 @@ def below(rows):
         return "Programs", [tried_beside(rows, {"Program"}), f"buckets![{in_buckets(listed, BUCKETS)}]"]
     if kinds & TAGGED:
         tags = sorted({int(it.takes.partition(",")[0], 0) for _, row in rows for it in row.signature if it.name in TAGGED})
-        if len(tags) > 2:
-            raise ValueError(f"the first directory of a TIFF file is read for two tags, and rows ask for {len(tags)}")
         tagged = [(k, row) for k, row in rows if TAGGED & {it.name for it in row.signature}]
         asked_for = [(k, [it for own in row.signature if own.name in TAGGED for it in own.outlines]) for k, row in tagged]
         return "Tagged", [tried_beside(rows, TAGGED), f"0x{tags[0]:04X}", f"0x{tags[-1]:04X}", f"entries!{in_list(entries(asked_for))}"]

@@ -1,7 +1,5 @@
 """The names that libmagic has for the types, by bindings/libmagic/names.tsv, in which "-" stands for what our row says. A type
 without a line has the row's own, and its MIME type for a description. They are made into a table of C in the order of the rows, built-in and further."""
-import sys
-
 from texts import text_of
 
 NAMES = "bindings/libmagic/names.tsv"
@@ -33,12 +31,7 @@ def callers():
 
 
 def made():
-    """It ends the program with a line that is of no row or stands twice."""
     named = {(extension, mime_type): rest for extension, mime_type, *rest in lines_of(NAMES)[1:]}
-    if wrong := sorted({*named} - {*rows()}):
-        sys.exit(f"tools/tables: {NAMES} has a line of no row: {wrong[0][0]} {wrong[0][1]}")
-    if len(named) != len(lines_of(NAMES)) - 1:
-        sys.exit(f"tools/tables: {NAMES} has a type twice")
     own = ["-", "-", "data"]
     listed = [line(mime_type, extension, named.get((extension, mime_type), [*own, mime_type, "none"])) for extension, mime_type in rows()]
     yield MADE, "/* Made by tools/tables of names.tsv: the names of each row's type. */\n" + "\n".join(listed) + "\n"

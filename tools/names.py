@@ -3,10 +3,12 @@ Code has them as numbers and as one text, since the prover reads those at once; 
 import ast
 import bisect
 import collections
+import operator
+import random
 import re
 from typing import NamedTuple
 
-from texts import kept, text_of
+from texts import kept, line_of, refuse, text_of
 
 CRATE = "crates/infer_named"
 NAMES = f"{CRATE}/names.txt"
@@ -23,7 +25,7 @@ LINE = re.compile(r"(?P<loose>loose )?(?P<part>extension|whole) (?P<text>\S+): (
 READING = re.compile(r"(?P<mime_type>\S+) \((?:row (?P<row>\S+)|(?P<known>known)|own)\), (?P<asks>signature|text|bytes|nothing)(?P<sets>(?:; .*)?)")
 # A row whose files have no name of their own, and why.
 NAMELESS = re.compile(r"nameless (?P<row>\S+): .+")
-LEAD = re.compile(r'"(?:[^"\\]|\\.)+"')
+LEAD = re.compile(r'"(?:[ !#-\[\]-~]|\\(?:x[0-9A-Fa-f]{2}|0(?![0-9])|[nrt"\\]))+"')
 ROW = re.compile(r'Row\("(.*)"\)')
 WIDTH = 99
 # The rows of texts, which are named together.
@@ -46,9 +48,18 @@ TEXTS = (
 TYPES, SETS = 256, 128
 # How many rows are looked for at once.
 ROWS = 128
-# How many slots the rows have, and groups that are shifted together; and the weights of a text's length and of four of its bytes.
+# How many slots the rows have, and groups that are shifted together.
 ROW_SLOTS, ROW_GROUPS = 2048, 64
-ROW_WEIGHTS = (1, 551, 2332, 259, 1045)
+# The weights of four bytes of a text that are tried first, and how many others of at most so many bits. No sum overflows: the
+# length of a text leaves half of a word free.
+ROW_WEIGHTS, MOST_WEIGHTS, WEIGHT_BITS = (551, 2332, 259, 1045), 20000, 11
+# Where code and definition have the weights.
+SUMS = (
+    (f"{CRATE}/src/rows.rt", "    text.len() + {} * first + {} * second + {} * later + {} * last\n"),
+    (f"{CRATE}/specs/Rows.antt", """    length text + {} * get_or text 0 0 + {} * get_or text (length text / 4) 0 + {} * get_or text (length text / 2 + length text / 4) 0
+    + {} * get_or text (length text - 1) 0
+"""),
+)
 # How many marks there are for each length of a text, of which this one stands for all that are greater.
 MARKS, LONG = 64, 63
 KEYS_CODE = """//! Made by `tools/tables` from names.txt: the keys in the order of their slots, where the slots begin, and the readings.
@@ -147,6 +158,21 @@ pub(crate) fn leads() -> &'static [&'static [&'static [u8]]]
 NUMBER_TERM = """abbrev pub {name} : ℕ
 {name} = {number}
 """
+TEXTS_TERM = """-- Made by `tools/tables` from names.txt: sets of rows that many readings have.
+use Rattle.std.specs.Prelude.{ℕ, List, [], ◌∷◌, codes}
+
+-- no rows
+abbrev pub none : List (List ℕ)
+none = []
+
+-- any beginning
+abbrev pub any : List (List ℕ)
+any = []
+
+-- the rows of texts
+abbrev pub texts : List (List ℕ)
+texts =
+"""
 TYPES_TERM = """-- Made by `tools/tables` from names.txt: the types that names have, and their numbers.
 use Rattle.std.specs.Prelude.{{ℕ, List, [], ◌∷◌, ◌++◌, codes}}
 use Rattle.infer_named.specs.Key.{{NamedType, known, own, row, named}}
@@ -193,6 +219,9 @@ keys = {keys}
 KEYS_PROOF = """-- Made by `tools/tables` from names.txt: code and definition have the same keys of slots {first} to {last}. Each stands in its
 -- slot, and none is wrong: if one is, its text stands in the error. And each whole name has its mark.
 use Rattle.std.proofs.Common.{{◌≡◌, [], drop, length, map, refl, take}}
+use Rattle.infer.specs.Table.{{table}}
+use Rattle.infer_more.specs.Table.{{{lists}, further}}
+use Rattle.infer_more.specs.Wider.{{shown}}
 use Rattle.infer_named.proofs.FindLemmas.{{wrong_from}}
 use Rattle.infer_named.proofs.MarkLemmas.{{AreMarked}}
 use Rattle.infer_named.specs.Keys.{name}.{{keys}}
@@ -212,7 +241,7 @@ unfolding keys
 many = refl
 
 pub right : wrong_from starts {end} {start} keys ≡ []
-unfolding keys starts types {types_names} lead_lists sets {sets_names}
+unfolding keys starts types {types_names} lead_lists sets {sets_names} shown table further {rows_names}
 right = refl
 
 pub marked : AreMarked keys
@@ -340,23 +369,36 @@ def reading(text):
     found = READING.fullmatch(text)
     if not found:
         raise Wrong(f"no reading: {text}")
-    sets = dict(it.split(" ", 1) for it in found["sets"].split("; ")[1:])
+    told = [it.partition(" ")[::2] for it in found["sets"].split("; ")[1:]]
+    sets = dict(told)
+    if len(sets) < len(told) or not all(sets.values()):
+        raise Wrong(f"a word stands twice, or has nothing behind it: {found['sets'][2:]}")
+    if not re.fullmatch(f"(?:{LEAD.pattern}(?: (?!$)|$))*", sets.get("leads", "")):
+        raise Wrong(f"these are no texts in quotes, with the escapes of code: {sets['leads']}")
     leads = tuple(LEAD.findall(sets.pop("leads", "")))
     kinds = [rows_of(sets.pop(it, "")) for it in ("agrees", "begins", "finer")]
     if sets:
         raise Wrong(f"unknown words: {', '.join(sets)}")
     if len({*kinds[0], *kinds[1], *kinds[2]}) < sum(map(len, kinds)):
         raise Wrong("a row stands twice")
+    for row in (*kinds[0], *kinds[1], *kinds[2], *filter(None, [found["row"]])):
+        if row not in known_rows():
+            raise Wrong(f"no row has the extension or the MIME type {row}")
+    if found["row"] and found["mime_type"] not in known_rows()[found["row"]]:
+        raise Wrong(f"the row {found['row']} has the MIME type {' or '.join(sorted(known_rows()[found['row']]))}, and not {found['mime_type']}")
+    if not re.fullmatch(r"[!#-\[\]-~]+/[!#-\[\]-~]+", found["mime_type"]):
+        raise Wrong(f"no MIME type: {found['mime_type']}")
     origin = f'Row("{found["row"]}")' if found["row"] else "Known" if found["known"] else "Own"
     return Reading(found["mime_type"], origin, found["asks"].title(), *kinds, leads)
 
 
-def is_hidden(it, before):
-    """Whether those before that fit all bytes take its rows, and admit each kind of bytes without a row that it admits."""
+def is_hidden(it, before, is_loose):
+    """Whether those before that fit all bytes take its rows, and admit each kind of bytes without a row that it admits, of
+    which a loose name tells nothing."""
     all_fit = [other for other in before if not other.leads]
     rows = {row for other in all_fit for row in (*other.agrees, *other.begins, *other.finer)}
     kinds = {kind for other in all_fit for kind in KINDS[other.asks]}
-    return rows.issuperset({*it.agrees, *it.begins, *it.finer}) and kinds.issuperset(KINDS[it.asks])
+    return rows.issuperset({*it.agrees, *it.begins, *it.finer}) and (is_loose or kinds.issuperset(KINDS[it.asks]))
 
 
 def name(line):
@@ -364,7 +406,7 @@ def name(line):
     if not found:
         raise Wrong("no name")
     text = found["text"]
-    if not re.fullmatch(f"[!-.0-@\\[\\]-~]{{1,{LONGEST}}}", text):
+    if not re.fullmatch(f"[!#-.0-@\\[\\]-~]{{1,{LONGEST}}}", text):
         raise Wrong(f"a key has 1 to {LONGEST} small letters, digits and marks")
     if any(text.endswith(it) and text != it for it in COPIES):
         raise Wrong("a name loses the ending of a copy")
@@ -372,7 +414,8 @@ def name(line):
         raise Wrong("no name has this extension")
     readings = tuple(map(reading, found["readings"].split(" | ")))
     for number, it in enumerate(readings):
-        if is_hidden(it, readings[:number]):
+        # The only reading of a loose name may say no more than what type the name has.
+        if is_hidden(it, readings[:number], found["loose"]) and (len(readings) > 1 or not found["loose"]):
             raise Wrong(f"no bytes are left to {it.mime_type}")
     return Name(text, found["part"].title(), bool(found["loose"]), readings)
 
@@ -399,31 +442,67 @@ def names_lines():
     lines = text_of(NAMES).splitlines()
     sets = [it for line in lines for it in re.findall("; (?:agrees|begins|finer) ([^;|]*)", line)]
     for line in lines_of_rows({row for it in sets for row in rows_of(it)} | set(nameless())):
-        place = bisect.bisect(lines, text_named(line), key=text_named)
-        known = LINE.fullmatch(lines[place - 1])
-        if known and (known["part"], known["text"]) == ("extension", text_named(line)):
-            # The extension has another type already, which it may still mean where the row refuses the bytes.
-            head, _, readings = lines[place - 1].partition(": ")
-            lines[place - 1] = f"{head}: {line.partition(': ')[2]} | {readings}"
+        head, _, its = line.partition(": ")
+        place = next((at for at, it in enumerate(lines) if it.removeprefix("loose ").startswith(f"{head}: ")), None)
+        if place is None:
+            lines.insert(bisect.bisect(lines, text_named(line), key=text_named), line)
         else:
-            lines.insert(place, line)
+            # The extension has another type already, which it may still mean where the row refuses the bytes.
+            head, _, readings = lines[place].partition(": ")
+            lines[place] = f"{head}: {its} | {readings}"
     return lines
+
+
+def place_of(line):
+    """Where the last line of a name stands: one that is added, where its row does."""
+    head = line.partition(": ")[0].removeprefix("loose ")
+    numbers = [number for number, it in enumerate(text_of(NAMES).splitlines(), 1) if it.removeprefix("loose ").startswith(f"{head}: ") or it == line]
+    if numbers:
+        return NAMES, numbers[-1]
+    extensions = [it.split("\t")[2] for it in text_of(FURTHER).splitlines()]
+    return FURTHER, len(extensions) - extensions[::-1].index(text_named(line))
 
 
 @kept
 def listed():
     """The names in order. It ends with the first line that is wrong."""
-    names = []
-    for number, line in enumerate(names_lines(), 1):
+    names, known = [], {}
+    for line in names_lines():
         if line.startswith("#") or NAMELESS.fullmatch(line):
             continue
         try:
             names.append(name(line))
-            if len({(it.part, it.text) for it in names}) < len(names):
+            if known.setdefault(names[-1][:2], line) is not line:
                 raise Wrong("the name stands above too")
         except Wrong as it:
-            raise SystemExit(f"tools/tables: {NAMES}, line {number}: {line.partition(':')[0]}: {it}") from it
+            refuse(*place_of(line), f"{line.partition(':')[0]}: {it}")
     return names
+
+
+@kept
+def known_rows():
+    """The MIME types of the rows that a text names: their extension, or their MIME type."""
+    found = collections.defaultdict(set)
+    for row in all_rows():
+        for it in row:
+            found[it].add(row[1])
+    return found
+
+
+def place_of_row(number):
+    """Where the data has the row of a number."""
+    built_in = len(text_of("vectors/rows.tsv").splitlines())
+    return ("vectors/rows.tsv", number + 1) if number < built_in else (FURTHER, number - built_in + 1)
+
+
+def check():
+    """Ends with the first line of names.txt that is wrong, and with a row that has no name or no slot."""
+    listed()
+    for it in TEXTS:
+        if it not in known_rows():
+            refuse("tools/names.py", line_of("tools/names.py", f" {it} "), f"TEXTS has {it}, and no row has the extension or the MIME type")
+    takers()
+    row_slots()
 
 
 @kept
@@ -445,11 +524,14 @@ def takers():
     for number, it in enumerate(in_slots()):
         for row in (row for reading in it.readings for row in (*reading.agrees, *reading.begins, *reading.finer)):
             found.setdefault(row, number)
-    for rows in all_rows():
-        if found.keys().isdisjoint(rows) == set(nameless()).isdisjoint(rows):
-            raise SystemExit(f"tools/tables: {NAMES}: the row {rows[0]} wants a name, or to be nameless, and not both")
-    if stray := set(nameless()).difference(known):
-        raise SystemExit(f"tools/tables: {NAMES}: no row is {' or '.join(sorted(stray))}, which is said to be nameless")
+    for number, rows in enumerate(all_rows()):
+        if found.keys().isdisjoint(rows) and set(nameless()).isdisjoint(rows):
+            refuse(*place_of_row(number), f"the row {rows[0]} has no name: add a line for it to {NAMES}")
+        if not found.keys().isdisjoint(rows) and not set(nameless()).isdisjoint(rows):
+            refuse(NAMES, line_of(NAMES, f"nameless {rows[0]}"), f"the row {rows[0]} is nameless, and another line names it")
+    for it in nameless():
+        if it not in known:
+            refuse(NAMES, line_of(NAMES, f"nameless {it}:"), f"no row is {it}, which is said to be nameless")
     return [next((found[row] for row in rows if row in found), 0) for rows in all_rows()]
 
 
@@ -561,28 +643,76 @@ def ranges(numbers):
     return found
 
 
-def row_sum(text):
-    """The sum of a row's text, as crates/infer_named/specs/Rows.antt defines it."""
-    at = [len(text), *(ord(text[place]) for place in (0, len(text) // 4, len(text) // 2 + len(text) // 4, len(text) - 1))]
-    return sum(weight * it for weight, it in zip(ROW_WEIGHTS, at))
+def bytes_of_row(text):
+    """What the sum of a row's text depends on, as crates/infer_named/specs/Rows.antt defines it: its length, and four of its bytes."""
+    return len(text), *(ord(text[place]) for place in (0, len(text) // 4, len(text) // 2 + len(text) // 4, len(text) - 1))
+
+
+def weights():
+    """The weights that are tried, always the same ones in the same order."""
+    drawn = random.Random(0)
+    yield ROW_WEIGHTS
+    yield from (tuple(2 + drawn.getrandbits(WEIGHT_BITS) for _ in ROW_WEIGHTS) for _ in range(MOST_WEIGHTS))
+
+
+def free_shift(taken, group):
+    """By how many slots a group is shifted so that it takes none that is taken, as bits, and what it takes then."""
+    every = (1 << ROW_SLOTS) - 1
+    for shift in range(ROW_SLOTS):
+        places = (group << shift | group >> ROW_SLOTS - shift) & every
+        if not places & taken:
+            return shift, places
+    return None
+
+
+def shifts_of(sums):
+    """By how many slots each group of these sums is shifted, or None if some have no slot: the largest groups are placed first."""
+    if len({it % (ROW_GROUPS * ROW_SLOTS) for it in sums}) < len(sums):
+        return None
+    groups, shifts, taken = [set() for _ in range(ROW_GROUPS)], [0] * ROW_GROUPS, 0
+    for it in sums:
+        groups[it % ROW_GROUPS].add(it // ROW_GROUPS % ROW_SLOTS)
+    for number in sorted(range(ROW_GROUPS), key=lambda it: -len(groups[it])):
+        found = free_shift(taken, sum(1 << place for place in groups[number]))
+        if found is None:
+            return None
+        shifts[number], places = found
+        taken |= places
+    return shifts
+
+
+def refuse_slots(of_rows):
+    """Ends with the rows that no weights tell apart, or with how many slots are too few."""
+    alike = {its: [text for text, other in zip(rows(), of_rows) if other == its] for its in of_rows if of_rows.count(its) > 1}
+    for one, other, *_ in alike.values():
+        number = max(number for number, texts in enumerate(all_rows()) if {one, other}.intersection(texts))
+        extension, mime_type = all_rows()[number]
+        line = f"extension {extension}: {mime_type} (row {mime_type}), signature; agrees {mime_type}"
+        refuse(*place_of_row(number), f"{one} and {other} have one sum in crates/infer_named/src/rows.rt, whatever its weights: add the line `{line}` to {NAMES}")
+    slots = f"ROW_SLOTS in tools/names.py, and {ROW_SLOTS} in src/rows.rt, specs/Rows.antt, proofs/RowLemmas.antt and proofs/rows/number_of/Answers.antt of {CRATE}"
+    return refuse(NAMES, 1, f"no weights of {MOST_WEIGHTS} give each of {len(of_rows)} rows a slot of its own: double {slots}")
 
 
 @kept
 def row_slots():
-    """By how many slots each group is shifted, and the row of each slot: the largest groups are placed first."""
-    groups, shifts, slots = {}, [0] * ROW_GROUPS, {}
-    for it in rows():
-        groups.setdefault(row_sum(it) % ROW_GROUPS, []).append(it)
-    for group, texts in sorted(groups.items(), key=lambda it: (-len(it[1]), it[0])):
-        for shift in range(ROW_SLOTS):
-            places = {(row_sum(it) // ROW_GROUPS + shift) % ROW_SLOTS: it for it in texts}
-            if len(places) == len(texts) and not places.keys() & slots.keys():
-                shifts[group] = shift
-                slots |= places
-                break
-        else:
-            raise SystemExit(f"tools/tables: {NAMES}: the rows {' '.join(texts)} want other weights in row_sum")
-    return shifts, [rows().get(slots.get(it), 0) for it in range(ROW_SLOTS)]
+    """The first weights by which each row has a slot of its own, by how many slots each group is shifted, and the row of each slot."""
+    of_rows = [bytes_of_row(it) for it in rows()]
+    for found in weights():
+        sums = [length + sum(map(operator.mul, found, its)) for length, *its in of_rows]
+        if shifts := shifts_of(sums):
+            slots = [0] * ROW_SLOTS
+            for number, it in enumerate(sums):
+                slots[(it // ROW_GROUPS + shifts[it % ROW_GROUPS]) % ROW_SLOTS] = number
+            return found, shifts, slots
+    return refuse_slots(of_rows)
+
+
+def with_weights(path, line):
+    """The text of a file of the sum of a row's text, with the weights in its line."""
+    text, found = re.subn(re.escape(line).replace(r"\{\}", r"\d+"), lambda it: line.format(*row_slots()[0]), text_of(path))
+    if found != 1:
+        refuse(path, line_of(path, "row_sum"), f"the weights of the sum of a row's text have no line here: {line.strip()}")
+    return text
 
 
 @kept
@@ -641,7 +771,7 @@ def leads_text(found):
 
 
 def sets_code():
-    found, spans, (shifts, slots) = [], [], row_slots()
+    found, spans, (_, shifts, slots) = [], [], row_slots()
     for it in sets():
         of_set = ranges(rows()[row] for row in it)
         spans.append(f"    {len(found)} {len(of_set)};")
@@ -775,6 +905,7 @@ def group_proof(number):
     return KEYS_PROOF.format(
         first=number * GROUP, last=(number + 1) * GROUP - 1, name=f"K{number}", count=end - start, start=start, end=end,
         types=", ".join(lists), types_names=" ".join(lists), sets=", ".join(set_lists), sets_names=" ".join(set_lists),
+        lists=", ".join(further_lists()), rows_names=" ".join(further_lists()),
     )
 
 
@@ -851,12 +982,15 @@ def texts_term():
     """The definition of sets with the rows of texts, eight a line."""
     codes = [f'codes "{it}"' for it in TEXTS]
     lines = [" ∷ ".join(codes[at : at + 8]) for at in range(0, len(codes), 8)]
-    head, found, _ = text_of(f"{CRATE}/specs/Texts.antt").partition("\ntexts =\n")
-    return f"{head}{found}    " + "\n    ∷ ".join(lines) + " ∷ []\n"
+    return TEXTS_TERM + "    " + "\n    ∷ ".join(lines) + " ∷ []\n"
+
+
+def weighed():
+    """The files of which only the weights are made."""
+    return ((path, with_weights(path, line)) for path, line in SUMS)
 
 
 def made():
-    yield NAMES, "".join(f"{it}\n" for it in names_lines())
     for name, code in (("keys", keys_code), ("texts", texts_code), ("types", types_code), ("sets", sets_code)):
         yield f"{CRATE}/src/table/generated/{name}.rt", code()
     yield f"{CRATE}/specs/Types.antt", types_term()

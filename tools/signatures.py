@@ -5,17 +5,20 @@ import glob
 import re
 
 from terms import Call, Unread, term_of
-from texts import TOP, kept, text_of
+from texts import TOP, kept, line_of, refuse, text_of
 
 TABLE = "crates/infer/specs/Table.antt"
 DEFINITION = re.compile(r"^abbrev pub (\w+) : (?:List Alternative|List ℕ|List \(List ℕ\))\n\1 =((?:[^\n]*\n)(?: +[^\n]*\n)*)", re.M)
 
 
+def paths():
+    return sorted(glob.glob("crates/infer_sig/specs/*.antt", root_dir=TOP) + glob.glob("crates/infer_deep/specs/*.antt", root_dir=TOP))
+
+
 @kept
 def definitions():
     """What stands for each name of a signature, a text or texts."""
-    paths = sorted(glob.glob("crates/infer_sig/specs/*.antt", root_dir=TOP) + glob.glob("crates/infer_deep/specs/*.antt", root_dir=TOP))
-    return dict(it for path in paths for it in DEFINITION.findall(text_of(path)))
+    return dict(it for path in paths() for it in DEFINITION.findall(text_of(path)))
 
 
 def spelled(text):
@@ -59,11 +62,31 @@ def signatures_of(names):
     signatures = re.findall(r'^    (?:∷ )?row \w+ \(codes ".*?"\) \(codes ".*?"\) (.*)$', text_of(TABLE), re.M)
     for name, signature in zip(names, signatures, strict=True):
         kind, _, rest = signature.strip("()").partition(" ")
-        alternatives = term_of(spelled(signature[1:-1].partition(" ")[2])) if kind == "fixed" else ()
-        yield name, kind, [it.takes for it in alternatives]
+        try:
+            alternatives = term_of(spelled(signature[1:-1].partition(" ")[2])) if kind == "fixed" else ()
+            yield name, kind, "".join(text_of_alternative(it.takes) for it in alternatives)
+        except (AttributeError, TypeError, Unread, ValueError) as fault:
+            refuse(*place_of(rest), f"this is no signature that the code can have: {fault}")
+
+
+def place_of(name):
+    """Where the definition of a signature stands, or the row that has another."""
+    found = [path for path in paths() if f"\nabbrev pub {name} :" in text_of(path)]
+    return (found[0], line_of(found[0], f"{name} = ")) if found else (TABLE, line_of(TABLE, f"(fixed {name})"))
 
 
 def text_of_alternative(alternative):
     """An alternative as the code writes it."""
     least, parts = alternative
     return f" [{least} {', '.join(map(part_of, parts))}]"
+
+
+def with_known(code, names):
+    """The code with the alternatives of each row that asks for bytes at fixed places alone in its lists."""
+    size = int(re.search(r"^const ROWS_OF_A_LIST: usize = (\d+);$", code, re.M)[1])
+    rows = [f"    {name}{alternatives};\n" for name, _, alternatives in signatures_of(names)]
+    rows += ["    NoRow [];\n"] * (-len(rows) % size)
+    for first in range(0, len(rows), size):
+        before, begin, after = code.partition(f"static KNOWN_FROM_{first}: [Option<Known>; ROWS_OF_A_LIST] = known! {{\n")
+        code = before + begin + "".join(rows[first : first + size]) + after[after.index("};\n") :]
+    return code

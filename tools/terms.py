@@ -16,7 +16,7 @@ class Call(NamedTuple):
 
 
 class Unread(Exception):
-    """What stands where no term can."""
+    """What stands where no term can, and in which line of the text, counted from 0."""
 
 
 class Reader:
@@ -75,6 +75,8 @@ class Reader:
         if token == "[]":
             return ()
         if token.startswith('"'):
+            if not re.fullmatch(r'[ !#-\[\]-~]*', token[1:-1]):
+                raise Unread(f"{token}, which has another byte than those from 20 to 7E, or an escape")
             return tuple(token[1:-1].encode())
         if re.fullmatch(r"0x[0-9A-F]+|\d+", token):
             return int(token, 0)
@@ -87,7 +89,10 @@ class Reader:
 def term_of(text):
     """The term that the text is, and nothing else."""
     reader = Reader(text)
-    found = reader.term()
-    if reader.peek():
-        raise Unread(reader.peek())
+    try:
+        found = reader.term()
+        if reader.peek():
+            raise Unread(reader.peek())
+    except Unread as fault:
+        raise Unread(fault.args[0], text.count("\n", 0, reader.at)) from fault
     return found

@@ -21,9 +21,29 @@ def text_of(path):
     if reading:
         reading[-1].add(path)
     if path not in texts:
-        with open(f"{TOP}/{path}", encoding="utf-8") as it:
+        with open(f"{TOP}/{path}", encoding="utf-8", errors="surrogateescape") as it:
             texts[path] = it.read()
+        if found := re.search("[\udc80-\udcff]", texts[path]):
+            refuse(path, texts[path].count("\n", 0, found.start()) + 1, "a byte here is no UTF-8")
     return texts[path]
+
+
+def refuse(path, line, what):
+    """Ends the run with what is wrong in a line of a file."""
+    sys.exit(f"tools/tables: {path}:{line}: {what}")
+
+
+def line_of(path, text):
+    """The number of the last line in which the text begins, and 1 if it stands nowhere."""
+    whole = text_of(path)
+    return whole.count("\n", 0, max(0, whole.rfind(text))) + 1
+
+
+def put(path, text):
+    """From now on the file has that text: what was made of another is made again."""
+    texts[path] = text
+    for key in [key for key, (_, read) in made.items() if path in read]:
+        del made[key]
 
 
 def write_table(page, name, text):
@@ -35,18 +55,26 @@ def write_table(page, name, text):
         it.write(whole)
 
 
+def make(function, args):
+    """Keeps an answer. What ends with a mistake has read its texts too."""
+    reading.append(set())
+    try:
+        found = function(*args)
+        made[function, args] = list(found) if hasattr(found, "__next__") else found, reading[-1]
+    finally:
+        read = reading.pop()
+        if reading:
+            reading[-1].update(read)
+
+
 def kept(function):
     """The function with its answers kept, those of a generator as a list. It reads texts by `text_of` alone."""
 
     @functools.wraps(function)
     def answer(*args):
-        key = function, args
-        if key not in made:
-            reading.append(set())
-            found = function(*args)
-            found = list(found) if hasattr(found, "__next__") else found
-            made[key] = found, reading.pop()
-        found, read = made[key]
+        if (function, args) not in made:
+            make(function, args)
+        found, read = made[function, args]
         if reading:
             reading[-1].update(read)
         return found
@@ -54,19 +82,11 @@ def kept(function):
     return answer
 
 
-def forget():
-    """All files are read again."""
-    texts.clear()
-    made.clear()
-
-
 @contextlib.contextmanager
 def changed(path, text):
     """Inside of it the file has that text."""
     before = texts[path], dict(made)
-    texts[path] = text
-    for key in [key for key, (_, read) in made.items() if path in read]:
-        del made[key]
+    put(path, text)
     yield
     texts[path] = before[0]
     made.clear()

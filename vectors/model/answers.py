@@ -5,6 +5,7 @@ from __future__ import annotations
 import functools
 import os
 import re
+import sys
 from collections.abc import Callable, Container
 from typing import NamedTuple
 
@@ -166,7 +167,10 @@ class Further:
 
     @staticmethod
     def relation_of(signature: str) -> Callable[[bytes, list[bytes]], bool]:
-        return next(test for name, test in RELATIONS.items() if signature.startswith(name.removesuffix(" :")))
+        for name, test in RELATIONS.items():
+            if signature.startswith(name.removesuffix(" :")):
+                return test
+        sys.exit(f"no test of the relation: {signature.strip()}")
 
     def accepts(self, buf: bytes) -> bool:
         if fits(self.fixed, buf):

@@ -5,7 +5,7 @@ from typing import NamedTuple
 
 CLASSES = "app archive audio book doc font image text video".split()
 with open(os.path.join(os.path.dirname(os.path.abspath(__file__)), "../rows.tsv"), encoding="utf-8") as _file:
-    PARENTS = {line.split("\t")[2] for line in _file}
+    PARENTS = {it for line in _file for it in line.split("\t")[2:3]}
 NAME = rb"[0-9A-Za-z][0-9A-Za-z!#$&^_.+-]{0,126}"
 HEX = rb"[0-9A-Fa-f]{2}"
 # What a signature is made of. A fault of a token is told where the token begins.
