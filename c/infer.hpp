@@ -96,24 +96,33 @@ inline std::optional<std::string> encoding(bytes of) {
 }
 
 namespace detail {
+/* Asks about a path. In C one with a zero inside would be that of another file. */
+template <class Ask> void ask_path(const std::string &path, Ask ask) {
+    const int fault = path.find('\0') != std::string::npos ? EINVAL : ask(path.c_str()) != 0 ? errno : 0;
+    if (fault != 0) throw std::system_error(fault, std::generic_category(), path);
+}
+
 inline std::optional<type> of_path(int ask(const char *, std::int32_t *), const std::string &path) {
     std::int32_t row = -1;
-    if (ask(path.c_str(), &row) != 0) throw std::system_error(errno, std::generic_category(), path);
+    ask_path(path, [&](const char *name) { return ask(name, &row); });
     return of_row(row);
 }
 
-/* The first bytes of a stream from its position, which is restored if the stream can go back. */
+/* The first bytes of a stream from its position, which is restored if the stream can go back. How far it went is not the
+ * count of bytes if it is one of text. */
 inline std::string front_of(std::istream &from) {
     std::string front(INFER_FRONT, '\0');
     if (!from.good()) return {};
+    const auto place = from.rdbuf()->pubseekoff(0, std::ios_base::cur, std::ios_base::in);
     const std::streamsize count = std::max<std::streamsize>(0, from.rdbuf()->sgetn(front.data(), static_cast<std::streamsize>(front.size())));
-    from.rdbuf()->pubseekoff(-count, std::ios_base::cur, std::ios_base::in);
+    if (place != std::istream::pos_type(std::istream::off_type(-1))) from.rdbuf()->pubseekpos(place, std::ios_base::in);
     front.resize(static_cast<std::size_t>(count));
     return front;
 }
 } // namespace detail
 
-/* The same by the first 8192 bytes of a regular file. An errno of infer_path is thrown as a std::system_error. */
+/* The same by the first 8192 bytes of a regular file. An errno of infer_path is thrown as a std::system_error,
+ * and EINVAL for a path with a zero inside. */
 inline std::optional<type> get_path(const std::string &path) { return detail::of_path(infer_path, path); }
 inline std::optional<type> get_more_path(const std::string &path) { return detail::of_path(infer_more_path, path); }
 
@@ -176,10 +185,10 @@ inline named_answer named(std::string_view name, bytes of) {
 }
 
 /* The same by a path and the first 8192 bytes of its regular file. An errno of infer_named_path is thrown as a
- * std::system_error. */
+ * std::system_error, and EINVAL for a path with a zero inside. */
 inline named_answer named_path(const std::string &path) {
     infer_named_answer answer{};
-    if (infer_named_path(path.c_str(), &answer) != 0) throw std::system_error(errno, std::generic_category(), path);
+    detail::ask_path(path, [&](const char *name) { return infer_named_path(name, &answer); });
     return detail::of_answer(answer);
 }
 

@@ -154,8 +154,10 @@ static void mime_types(void) {
     same("it has it", has, true);
     memset(made, ';', sizeof made);
     memcpy(made, "a/a", 3);
-    same("many semicolons", (long)infer_mime_parse(made, 4 + 256, out, sizeof out), 3);
-    same("too many", (long)infer_mime_parse(made, 4 + 257, out, sizeof out) + *out, 0);
+    same("semicolons alone", (long)infer_mime_parse(made, sizeof made, out, sizeof out), 3);
+    for (size_t at = 3; at + 3 <= sizeof made; at += 3) memcpy(made + at, ";=b", 3);
+    same("many that do not count", (long)infer_mime_parse(made, 3 + 3 * 256, out, sizeof out), 3);
+    same("too many", (long)infer_mime_parse(made, 3 + 3 * 257, out, sizeof out) + *out, 0);
 }
 
 static void extracted(const char *values, const char *type) {
@@ -184,8 +186,10 @@ static void values(void) {
     }
     memset(made, ';', sizeof made);
     memcpy(made, "a/a", 3);
-    same("many semicolons", (long)infer_mime_extract(made, 4 + 256, out, sizeof out), 3);
-    same("too many", (long)infer_mime_extract(made, 4 + 257, out, sizeof out) + *out, 0);
+    same("semicolons alone", (long)infer_mime_extract(made, sizeof made, out, sizeof out), 3);
+    for (size_t at = 3; at + 3 <= sizeof made; at += 3) memcpy(made + at, ";=b", 3);
+    same("many that do not count", (long)infer_mime_extract(made, 3 + 3 * 256, out, sizeof out), 3);
+    same("too many", (long)infer_mime_extract(made, 3 + 3 * 257, out, sizeof out) + *out, 0);
 }
 
 static void computed(const char *type, uint32_t flags, int32_t context, const char *buf, size_t len, const char *wanted) {
@@ -409,8 +413,8 @@ static void evidences(void) {
     evidence("4@0 png, 1@60 mobi, 300@0 apng, 4", infer_more_evidence, png, sizeof png);
     evidence("2@0 exe, 2+", infer_evidence, "MZ", 2);
     /* S and d are no bytes of "%PDF", so it stands nowhere. */
-    evidence("2@0 ps, 1@4 heif, 1@8 webp, 2@3/4 pdf, 2", infer_evidence, "%!PS-Adobe", 10);
-    evidence("1@0 -, 1@60 mobi, 1@1 png, 1@8 webp, 5@0 heif, 1@12 mov, 5@257 tar, 262+", infer_evidence, ustar, sizeof ustar);
+    evidence("2@0 ps, 1@8 webp, 5@0 heif, 2@3/4 pdf, 2", infer_evidence, "%!PS-Adobe", 10);
+    evidence("5@257 tar, 1@0 -, 1@60 mobi, 1@1 png, 1@8 webp, 5@0 heif, 1@12 mov, 262+", infer_evidence, ustar, sizeof ustar);
 }
 
 /* The answer that the row is to be: that of the built-in rows, or the wider one. */

@@ -93,13 +93,15 @@ static void names() {
     wants("verdicts", is_jpeg(infer::verdict("\xFF\xD8\xFF"sv).first) && !infer::verdict("\xFF\xD8\xFF"sv).second && infer::verdict(std::string("\xFF\xD8\xFF") + std::string(1021, '\0')).second);
     std::ofstream("main.jpg", std::ios::binary) << "GIF89a";
     wants("a path has a name", infer::named_path("main.jpg").standing == INFER_CONTRADICTS);
-    bool threw = false;
-    try {
-        infer::named_path("none");
-    } catch (const std::system_error &fault) {
-        threw = fault.code().value() == ENOENT;
+    int faults = 0;
+    for (const std::string_view path : {"none"sv, "main.jpg\0.png"sv}) {
+        try {
+            infer::named_path(std::string(path));
+        } catch (const std::system_error &fault) {
+            faults += fault.code().value() == (path == "none" ? ENOENT : EINVAL);
+        }
     }
-    wants("a path without a file", threw);
+    wants("paths without a file", faults == 2);
 }
 
 /* A buffer of a stream that gives a byte at a time and cannot go back. */
@@ -118,6 +120,32 @@ private:
     }
 };
 
+/* A buffer of a stream of text as Windows has it: CR LF are one byte, and a place counts both. */
+class of_text : public std::streambuf {
+public:
+    explicit of_text(std::string raw) : raw_(std::move(raw)) {}
+
+private:
+    std::string raw_;
+    std::size_t at_ = 0;
+    char last_ = 0;
+    int_type underflow() override {
+        if (at_ == raw_.size()) return traits_type::eof();
+        at_ += raw_.compare(at_, 2, "\r\n") == 0;
+        last_ = raw_[at_++];
+        setg(&last_, &last_, &last_ + 1);
+        return traits_type::to_int_type(last_);
+    }
+    pos_type seekpos(pos_type place, std::ios_base::openmode) override {
+        setg(nullptr, nullptr, nullptr);
+        at_ = static_cast<std::size_t>(std::streamoff(place));
+        return place;
+    }
+    pos_type seekoff(off_type distance, std::ios_base::seekdir, std::ios_base::openmode mode) override {
+        return distance == 0 ? pos_type(static_cast<std::streamoff>(at_)) : seekpos(static_cast<std::streamoff>(at_) + distance, mode);
+    }
+};
+
 static void streams_and_files() {
     const std::string jpeg("\xFF\xD8\xFF\xE0"), late = std::string(8190, ' ') + "<p>";
     std::ofstream("photo", std::ios::binary) << jpeg << std::string(20000, '\0');
@@ -133,20 +161,24 @@ static void streams_and_files() {
     std::istream slow(&front);
     std::string rest;
     wants("a stream that cannot go back", is_jpeg(infer::get_from(slow)) && !(slow >> rest));
+    of_text lines("a\r\n" + jpeg + "\r\n\r\nrest");
+    std::istream of_lines(&lines);
+    std::getline(of_lines, rest);
+    wants("a stream of text", rest == "a" && is_jpeg(infer::get_from(of_lines)) && std::getline(of_lines, rest) && rest == jpeg);
     std::istream none(nullptr);
     std::istringstream failed(jpeg);
     failed.setstate(std::ios::failbit);
     wants("streams without bytes", !infer::get_from(none) && !infer::get_from(failed));
     int faults = 0;
-    for (const char *path : {"none", "", ".", "/dev/null"}) {
+    for (const std::string_view path : {"none"sv, ""sv, "."sv, "/dev/null"sv, "photo\0.exe"sv}) {
         try {
-            infer::get_path(path);
+            infer::get_path(std::string(path));
         } catch (const std::system_error &fault) {
-            const int wanted[] = {ENOENT, ENOENT, EISDIR, ENOTSUP};
-            faults += fault.code() == std::error_code(wanted[faults], std::generic_category()) && std::strstr(fault.what(), path) != nullptr;
+            const int wanted[] = {ENOENT, ENOENT, EISDIR, ENOTSUP, EINVAL};
+            faults += fault.code() == std::error_code(wanted[faults], std::generic_category()) && std::strstr(fault.what(), path.data()) != nullptr;
         }
     }
-    wants("faults of paths", faults == 4);
+    wants("faults of paths", faults == 5);
 }
 
 static void pieces() {

@@ -1,4 +1,4 @@
-// Asks the module that c/build --target wasm64-unknown-unknown makes about every row of docs/TYPES.md, and counts the
+// Asks the module that c/build --target wasm64-unknown-unknown makes about every row of vectors/rows.tsv, and counts the
 // differences. usage: node --experimental-wasm-memory64 c/try-wasm.mjs [MODULE]
 import { readFileSync } from "node:fs";
 
@@ -30,15 +30,15 @@ const same = (what, got, wanted) => {
     console.log(`${what}: ${got} in place of ${wanted}`);
 };
 
-const items = readFileSync(new URL("../docs/TYPES.md", here), "utf8").matchAll(/^\| \d+ \| \*\*(.+)\*\* \| (.+) \| (.+) \| (?:\d+ \| `(.+)`| \| ) \| .+ \|$/gm);
-const rows = [...items];
+const rows = readFileSync(new URL("../vectors/rows.tsv", here), "utf8").trimEnd().split("\n");
 same("imports", WebAssembly.Module.imports(module).length, 0);
 same("rows", Number(infer.infer_row_count()), rows.length);
-for (const [row, [, extension, mimeType, className, sample]] of rows.entries()) {
+for (const [row, line] of rows.entries()) {
+    const [className, mimeType, extension, sample] = line.split("\t");
     same(`extension of ${row}`, textOf(infer.infer_extension, row), extension);
     same(`MIME type of ${row}`, textOf(infer.infer_mime_type, row), mimeType);
-    same(`class of ${row}`, textOf(infer.infer_class_name, infer.infer_class(row)), className);
-    if (sample === undefined) continue;
+    same(`class of ${row}`, textOf(infer.infer_class_name, infer.infer_class(row)), className.toLowerCase());
+    if (sample === "none") continue;
     const bytes = decode(sample);
     room.set(bytes);
     same(`position of the sample of ${row}`, infer.infer_position(start, BigInt(bytes.length)), row);

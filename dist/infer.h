@@ -119,9 +119,9 @@ bool infer_more_may_become(const void *buf, size_t len, int32_t row);
  * The row of a range is the answer, which these bytes match, or the built-in row that a further row makes more exact,
  * which they match too; or it is a row before the answer, which they rule out. If `is_exact` is true, only a buffer of
  * the same length has the same answer. `wanted` is the number of ranges. The first `room` of them are written to
- * `ranges`, and nothing after them. If there are more, or more than INFER_MOST_RANGES, those that were written are not
- * enough; infer_evidence has at most 68. With `room` 0 `ranges` may be null. `needs` must not be null. A call takes
- * some 3 KB of the stack. */
+ * `ranges`, and nothing after them. If there are more, those that were written are not enough: there are at most
+ * INFER_MOST_RANGES, and infer_evidence has at most 68. With `room` 0 `ranges` may be null. `needs` must not be null. A
+ * call takes some 3 KB of the stack. */
 #define INFER_MOST_RANGES 80
 typedef struct infer_range {
     size_t place, len, step;
@@ -168,7 +168,7 @@ size_t infer_detect_content_type(const void *buf, size_t len, char *out, size_t 
  * it: a text that would take more is empty.
  *
  * The MIME type in the text, as the standard writes it: "text/html;charset=utf-8". It is empty if there is none, or if
- * the text has more than 256 parameters. */
+ * the text has more than 256 parameters, those that do not count among them, such as repeated ones. */
 #define INFER_MIME_SIZE 4096
 size_t infer_mime_parse(const char *text, size_t text_len, char *out, size_t size);
 
@@ -231,7 +231,10 @@ enum infer_mime_context {
 size_t infer_mime_compute(const char *content_type, size_t content_type_len, uint32_t flags, int32_t context, const void *buf, size_t len, char *out, size_t size);
 
 /* Whether no bytes that may follow change what is computed for a page, and whether some make a browser run scripts that
- * got no type from the server. True of the first is certain, and false of the second: the other values are not. */
+ * got no type from the server. True of the first is certain, and false of the second. With INFER_MIME_HEADER bytes the
+ * other values are certain too. With fewer, the first can be false although no bytes change what is computed, except
+ * where the standard asks no bytes; and true of the second means that some bytes that may follow match, as if more than
+ * INFER_MIME_HEADER bytes counted. */
 bool infer_mime_is_decided(const char *content_type, size_t content_type_len, uint32_t flags, const void *buf, size_t len);
 bool infer_mime_may_be_scriptable(const void *buf, size_t len);
 
@@ -273,7 +276,8 @@ int32_t infer_types_get(const void *text, size_t text_len, const void *buf, size
 
 /* The number, from 1, of the line whose type infer_types_get gives, and 0 if it gives the wider answer or none. So you
  * can distinguish a type of your own from a further type with the same MIME type and extension. If a file has a name
- * too, ask infer_named if this is 0: a line of your own wins over names, since whoever wrote it knows the files. */
+ * too, ask infer_named if this is 0: a line of your own wins over names, since whoever wrote it knows the files. For a
+ * text for which infer_types_check does not give 0 the call is safe, but its result means nothing. */
 size_t infer_types_line(const void *text, size_t text_len, const void *buf, size_t len);
 
 /* A NAME AND ITS BYTES. The bytes win: a name only chooses among what they leave open, and the standing says what the
@@ -299,7 +303,8 @@ struct infer_named_type {
 };
 
 /* The answer by a name and bytes: the standing, one of `enum infer_standing`; the row, as infer_more_position returns
- * it for the bytes alone; the resulting type; and the first type that the name stands for, whatever the bytes are. */
+ * it for the bytes alone; the resulting type; and the first type that the name stands for, whatever the bytes are. A
+ * name that many kinds of file have, such as x.lib, stands for a type and still says nothing if the bytes are of none. */
 struct infer_named_answer {
     int32_t standing, row;
     struct infer_named_type told, name;
