@@ -351,6 +351,20 @@ func TestOwnTypes(t *testing.T) {
 	if _, err := LoadTypes(path + "-not"); !errors.Is(err, os.ErrNotExist) {
 		t.Error(err)
 	}
+	for _, long := range []string{path, "/dev/zero"} {
+		if err := os.WriteFile(path, bytes.Repeat([]byte("#"), 1<<20), 0o600); err != nil {
+			t.Fatal(err)
+		}
+		if _, err := LoadTypes(path); err != nil {
+			t.Error(err)
+		}
+		if err := os.Truncate(path, 1<<40); err != nil {
+			t.Fatal(err)
+		}
+		if _, err := LoadTypes(long); !errors.Is(err, syscall.EFBIG) {
+			t.Error(long, err)
+		}
+	}
 }
 
 func TestMistakes(t *testing.T) {
@@ -582,7 +596,7 @@ func TestEvidence(t *testing.T) {
 		{png[:61], DetectEvidence, []toldRange{byPNG, byMobi}, 4, false},
 		{png, DetectEvidence, []toldRange{byPNG, byMobi}, 4, false},
 		{png, DetectMoreEvidence, []toldRange{byPNG, byMobi, {300, 0, "apng"}}, 4, true},
-		{tar, DetectEvidence, []toldRange{byFirst, byMobi, {1, 1, "png"}, {1, 8, "webp"}, {5, 0, "heif"}, {1, 12, "mov"}, {5, 257, "tar"}}, 262, false},
+		{tar, DetectEvidence, []toldRange{{5, 257, "tar"}, byFirst, byMobi, {1, 1, "png"}, {1, 8, "webp"}, {5, 0, "heif"}, {1, 12, "mov"}}, 262, false},
 	} {
 		found := it.tell(it.b)
 		if !reflect.DeepEqual(toldRanges(found.Ranges), it.ranges) || found.Wanted != len(it.ranges) || found.Least != it.least || found.IsExact != it.isExact {

@@ -29,7 +29,9 @@ import "C"
 import (
 	"bytes"
 	"fmt"
+	"io"
 	"os"
+	"syscall"
 	"unsafe"
 )
 
@@ -62,9 +64,26 @@ func NewTypes(text []byte) (*OwnTypes, error) {
 	return &OwnTypes{append([]byte(nil), text...)}, nil
 }
 
-// LoadTypes gives those of the text in a file. A mistake of the text is a *TypesError, which the error wraps.
+// What a file of types may have, as a device has no end.
+const longestText = 1 << 20
+
+func readText(path string) ([]byte, error) {
+	file, err := os.Open(path)
+	if err != nil {
+		return nil, err
+	}
+	defer file.Close()
+	text, err := io.ReadAll(io.LimitReader(file, longestText+1))
+	if err == nil && len(text) > longestText {
+		err = &os.PathError{Op: "read", Path: path, Err: syscall.EFBIG}
+	}
+	return text, err
+}
+
+// LoadTypes gives those of the text in a file, which has at most 1 MiB. A mistake of the text is a *TypesError, which the
+// error wraps.
 func LoadTypes(path string) (*OwnTypes, error) {
-	text, err := os.ReadFile(path)
+	text, err := readText(path)
 	if err != nil {
 		return nil, err
 	}

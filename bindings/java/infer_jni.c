@@ -48,7 +48,7 @@ JNIEXPORT jstring NAME(encoding)(JNIEnv *env, jclass self, jbyteArray array, job
 }
 
 JNIEXPORT jint NAME(typesGet)(JNIEnv *env, jclass self, jbyteArray text, jbyteArray array, jobject direct, jint from, jint size, jbyteArray mime_type, jbyteArray extension) {
-    jbyte told[2][INFER_TYPES_TEXT_SIZE];
+    jbyte told[2][INFER_TYPES_TEXT_SIZE] = {{0}};
     size_t text_size = (size_t)(*env)->GetArrayLength(env, text);
     /* Where a buffer begins is asked before an array is held. */
     char *at = array ? NULL : held(env, NULL, direct), *types = held(env, text, NULL);
@@ -103,6 +103,26 @@ JNIEXPORT jint NAME(line)(JNIEnv *env, jclass self, jbyteArray name, jbyteArray 
     (*env)->SetByteArrayRegion(env, room, 0, (jsize)room_size, (const jbyte *)out);
     free(out);
     return (jint)length;
+}
+
+JNIEXPORT jint NAME(evidence)(JNIEnv *env, jclass self, jbyteArray array, jobject direct, jint from, jint size, jboolean more, jlongArray ranges, jlongArray needs) {
+    infer_range found[INFER_MOST_RANGES];
+    infer_needs all = {0};
+    jlong numbers[4 * INFER_MOST_RANGES];
+    char *at = held(env, array, direct);
+    size_t count = 0;
+    jint row;
+    (void)self;
+    if (array && !at) return refuse(env), INFER_NO_ROW;
+    row = (more ? infer_more_evidence : infer_evidence)(array ? at + from : at, (size_t)size, found, INFER_MOST_RANGES, &all);
+    release(env, array, at);
+    for (; count < all.wanted && count < INFER_MOST_RANGES; count++) {
+        jlong *to = numbers + 4 * count;
+        to[0] = (jlong)found[count].place, to[1] = (jlong)found[count].len, to[2] = (jlong)found[count].step, to[3] = found[count].row;
+    }
+    (*env)->SetLongArrayRegion(env, ranges, 0, (jsize)(4 * count), numbers);
+    (*env)->SetLongArrayRegion(env, needs, 0, 3, (jlong[]){(jlong)all.wanted, (jlong)all.least, all.is_exact});
+    return row;
 }
 
 JNIEXPORT jint NAME(oddities)(JNIEnv *env, jclass self, jbyteArray name) {

@@ -242,20 +242,27 @@ const namedTypeAt = (distance, likely) => {
 };
 
 const encoder = new TextEncoder();
-const bytesOfName = (name) => (typeof name === "string" ? encoder.encode(name) : frontOf(name, Infinity).slice());
+
+/** Puts a name where the module sees it, and gives where that is and its length. To encode it there is much faster than to make
+ *  an array of it, but needs three bytes a code unit, which memory keeps. */
+const holdName = (name) => {
+    if (typeof name !== "string") return hold(frontOf(name, Infinity).slice());
+    if (name.length > FRONT) return hold(encoder.encode(name));
+    held = undefined;
+    makeRoom(TYPES + 3 * name.length);
+    return [at(TYPES), BigInt(encoder.encodeInto(name, room.subarray(TYPES)).written)];
+};
 
 /** What can be odd about a name, in the order of the bits. */
 const ODDITIES = ["control", "direction", "end", "two extensions"];
 export const oddities = (name) => {
-    const found = infer.infer_oddities(...hold(bytesOfName(name)));
+    const found = infer.infer_oddities(...holdName(name));
     return ODDITIES.filter((_, bit) => (found >> bit) & 1);
 };
 
 export const named = (name, input) => {
-    const text = bytesOfName(name);
-    const size = hand(input);
-    const [given, length] = hold(text);
-    infer.infer_named(given, length, place, size, at(FRONT));
+    const [given, length] = holdName(name);
+    infer.infer_named(given, length, place, hand(input), at(FRONT));
     // To make a DataView takes longer than to read these.
     const row = room[FRONT + 4] | (room[FRONT + 5] << 8) | (room[FRONT + 6] << 16) | (room[FRONT + 7] << 24);
     const typeOfBytes = answerOf(row);
@@ -264,12 +271,11 @@ export const named = (name, input) => {
 };
 
 export const line = (name, input) => {
-    const text = bytesOfName(name);
+    const given = holdName(name);
     const size = hand(input);
-    const none = hold(new Uint8Array());
-    const given = hold(text);
-    const distance = TYPES + text.length;
-    const most = 6 * text.length + 512;
+    const none = [at(TYPES), 0n];
+    const distance = TYPES + Number(given[1]);
+    const most = 6 * Number(given[1]) + 512;
     makeRoom(distance + most);
     const length = infer.infer_label_write(...given, place, size, 0, 0, 0, ...none, ...none, 0n, at(NUMBERS), at(NUMBERS + 8), at(distance), BigInt(most));
     return new TextDecoder().decode(room.subarray(distance, distance + Number(length) - 1));

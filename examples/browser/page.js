@@ -53,11 +53,11 @@ const restIfLong = async () => {
 
 /** After how many first bytes nothing that follows can change the wider answer; undefined if not even after all of them. */
 const decidedAfter = (front) => {
-    if (!infer.isWiderDecided(front)) return undefined;
+    if (!infer.isMoreDecided(front)) return undefined;
     let [low, high] = [0, front.length];
     while (low < high) {
         const middle = (low + high) >> 1;
-        if (infer.isWiderDecided(front.subarray(0, middle))) high = middle;
+        if (infer.isMoreDecided(front.subarray(0, middle))) high = middle;
         else low = middle + 1;
     }
     return low;
@@ -94,7 +94,7 @@ const read = async ({ name, open }) => {
 /** All that a row of the table says of a file. Its bytes are not kept: a folder can have very many files. */
 const judge = async ({ name, file, size, front, fault }) => {
     if (fault !== undefined) return { name, fault };
-    const [type, wider] = [await infer.fileTypeFromBuffer(front), infer.wider(front)];
+    const [type, wider] = [await infer.fileTypeFromBuffer(front), infer.getMore(front)];
     const told = infer.named(name, front);
     const [kind, words] = saidOf(told);
     const { standing, typeOfName } = told;
@@ -172,7 +172,7 @@ const reasonsOf = (front, { ranges, wanted, least, isExact }) => {
 /** What an opened file shows below its row. */
 const detailsOf = async ({ file, size, type, wider }) => {
     const front = await frontOf(file);
-    const evidence = infer.widerEvidence(front);
+    const evidence = infer.moreEvidence(front);
     const facts = [["Type", wider?.mime ?? "unknown"]];
     if (type && !same(type, wider)) facts.push(["A kind of", `${type.ext}, ${type.mime}`]);
     facts.push(["Size", counted(size, "byte")], ...reasonsOf(front, evidence));
@@ -182,6 +182,8 @@ const detailsOf = async ({ file, size, type, wider }) => {
 const cellOf = (label, className, ...inside) => {
     const cell = element("td", className, ...inside);
     cell.dataset.label = label;
+    // What there is no room for is read by a pointer.
+    cell.title = cell.textContent;
     cell.role = "cell";
     return cell;
 };
@@ -227,7 +229,7 @@ const rowOf = (result) => {
         row.append(cell);
         return row;
     }
-    const type = result.wider ? [result.wider.ext, " ", element("span", "note", result.wider.mime)] : ["unknown"];
+    const type = result.wider ? [result.wider.ext, " ", element("span", "note", result.wider.mime)] : [nameOfType(result)];
     const [encoding, after] = [result.encoding ?? "none", afterText(result)];
     row.append(cellOf("Type", "", ...type), cellOf("Encoding", "", encoding), cellOf("The name", result.kind, result.words), cellOf("Decided after", "", after));
     row.addEventListener("click", () => toggle(row, result));
@@ -237,7 +239,8 @@ const rowOf = (result) => {
 const results = [];
 const counts = new Map();
 const differs = (result) => result.kind === "differs" || result.fault !== undefined;
-const nameOfType = ({ wider, fault }) => (fault === undefined ? (wider?.ext ?? "unknown") : "not read");
+/** As infer_label tells it. */
+const nameOfType = ({ wider, size, fault }) => (fault === undefined ? (wider?.ext ?? (size === 0 ? "empty" : "unknown")) : "not read");
 
 /** What is listed: by which words and in which order. Without a key, those that are contradicted come first. */
 const list = { onlyDiffering: false, words: "", key: "", isDown: false, most: ROWS_AT_ONCE };

@@ -13,12 +13,13 @@ HERE = os.path.dirname(os.path.abspath(__file__))
 sys.path.insert(0, os.path.dirname(HERE))
 import support
 
-MODULE = f"{support.ROOT}/c/out/wasm64-unknown-unknown/infer.wasm"
+# The modules of which the page takes the first that is there.
+MODULES = [f"{support.ROOT}/{it}/infer.wasm" for it in ("c/out/wasm64-unknown-unknown", "dist")]
 
 
 def missing() -> str:
     """Why there is no page, or nothing."""
-    return "" if os.path.exists(MODULE) else "no module of c/build --target wasm64-unknown-unknown"
+    return "" if any(map(os.path.exists, MODULES)) else "no module of c/build --target wasm64-unknown-unknown"
 
 
 def free_port() -> int:

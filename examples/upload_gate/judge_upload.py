@@ -29,8 +29,9 @@ LONGEST_SHOWN = 16
 ENTRY, END, WIDE_END = struct.Struct("<4s24xHHH8xL"), struct.Struct("<4s6xHLLH"), struct.Struct("<4Q4sLQL")
 # Names that lead out of the folder into which they are unpacked, by any system.
 OUTSIDE = re.compile(rb"[/\\]|[A-Za-z]:|(?:.*[/\\])?\.\.(?:[/\\]|\Z)", re.DOTALL)
-# Names that are hidden, a path, an option of a program, or a device of Windows.
-UNSAFE = re.compile(r"[-.]|.*[/\\]|(?:con|prn|aux|nul|com[0-9]|lpt[0-9])(?:\.|\Z)", re.IGNORECASE | re.DOTALL)
+# Names that are hidden, a path, an option of a program, or a device of Windows. There a file ends before ":" too, and a server
+# has taken ";" so.
+UNSAFE = re.compile(r"[-.]|.*[/\\:;]|(?:con|prn|aux|nul|conin\$|conout\$|(?:com|lpt)[0-9\xb9\xb2\xb3]) *(?:\.|\Z)", re.IGNORECASE | re.DOTALL)
 
 
 def is_kin(kind: infer.Type, other: infer.Type) -> bool:

@@ -1,3 +1,4 @@
+import dev.hoarvelt.infer.Evidence;
 import dev.hoarvelt.infer.Infer;
 import dev.hoarvelt.infer.Named;
 import dev.hoarvelt.infer.NamedType;
@@ -44,6 +45,7 @@ final class Asks {
             case "line" -> System.out.println(Infer.line("main\n.py", "import os\n".getBytes(StandardCharsets.UTF_8)));
             case "namedPaths" -> rest.forEach(path -> say(path, () -> shown(Infer.named(Path.of(path)))));
             case "oddities" -> given().forEach(name -> System.out.println(Infer.oddities(new String(name, StandardCharsets.UTF_8))));
+            case "evidence" -> evidence(Path.of(rest.get(0)));
             case "older" -> older(rest.get(0));
             case "streams" -> streams();
             case "nulls" -> nulls();
@@ -105,6 +107,24 @@ final class Asks {
                 shown(Infer.named(name, bytes)),
                 shown(Infer.named(name, inside(bytes, ByteBuffer.allocateDirect(bytes.length + 9)))),
                 shown(Infer.named(name, new BufferedInputStream(new ByteArrayInputStream(bytes), 16)))));
+        }
+    }
+
+    private static String shown(Evidence it) {
+        List<String> ranges = it.ranges().stream().map(range -> range.place() + " " + range.length() + " " + range.step() + " " + shown(range.type()) + " " + range.accepts()).toList();
+        return shown(it.type()) + "|" + String.join(";", ranges) + "|" + it.wanted() + " " + it.least() + " " + it.isExact();
+    }
+
+    /** Of each buffer that is given, what decides both answers, in each way to hand it over. */
+    private static void evidence(Path file) throws IOException {
+        for (byte[] bytes : given()) {
+            Files.write(file, bytes);
+            System.out.println(String.join(
+                "\t",
+                shown(Infer.evidence(bytes)), shown(Infer.moreEvidence(bytes)),
+                shown(Infer.evidence(inside(bytes, ByteBuffer.allocateDirect(bytes.length + 9)))), shown(Infer.moreEvidence(inside(bytes, ByteBuffer.allocate(bytes.length + 9)))),
+                shown(Infer.evidence(new ByteArrayInputStream(bytes))), shown(Infer.moreEvidence(new ByteArrayInputStream(bytes))),
+                shown(Infer.evidence(file)), shown(Infer.moreEvidence(file))));
         }
     }
 

@@ -13,6 +13,7 @@ ASKED(jboolean, isDecided, jbyteArray, jobject, jint, jint);
 ASKED(jstring, encoding, jbyteArray, jobject, jint, jint);
 ASKED(jint, typesGet, jbyteArray, jbyteArray, jobject, jint, jint, jbyteArray, jbyteArray);
 ASKED(void, named, jbyteArray, jbyteArray, jobject, jint, jint, jbyteArray);
+ASKED(jint, evidence, jbyteArray, jobject, jint, jint, jboolean, jlongArray, jlongArray);
 ASKED(jstring, typesMistake, jbyteArray, jlongArray);
 ASKED(jstring, mimeType, jint);
 #define ASK(name, ...) Java_dev_hoarvelt_infer_Library_##name(&env, NULL, __VA_ARGS__)
@@ -96,11 +97,19 @@ static void test_answers(struct array *photo, char *direct) {
     wants(says(ASK(encoding, bytes, NULL, 0, 2), "us-ascii") && says(ASK(encoding, bytes, NULL, 2, 3), ""), "an encoding");
 }
 
+static int is_zero(const char *bytes, size_t size) {
+    size_t at = 0;
+    while (at < size && bytes[at] == 0)
+        at++;
+    return at == size;
+}
+
 static void test_types(struct array *photo) {
     struct array own = ARRAY("two image/two image - 2: @0 \"go\""), flawed = ARRAY("two image/two image"), mime_type = ARRAY(""), extension = ARRAY("");
     jlong place[2] = {-1, -1};
     wants(ASK(typesGet, (jbyteArray)&own, (jbyteArray)photo, NULL, 0, 5, (jbyteArray)&mime_type, (jbyteArray)&extension) == 6, "the class of a type of one's own");
     wants(strcmp(mime_type.bytes, "image/two") == 0 && strcmp(extension.bytes, "two") == 0, "its texts");
+    wants(is_zero(mime_type.bytes + 9, 256 - 9) && is_zero(extension.bytes + 3, 256 - 3), "nothing else of the stack");
     wants(ASK(typesGet, (jbyteArray)&own, NULL, (jobject)(void *)photo->bytes, 0, 5, (jbyteArray)&mime_type, (jbyteArray)&extension) == 6, "the same of a buffer");
     wants(ASK(typesGet, (jbyteArray)&own, (jbyteArray)photo, NULL, 3, 0, (jbyteArray)&mime_type, (jbyteArray)&extension) == -1, "no type");
     wants(says(ASK(typesMistake, (jbyteArray)&own, (jlongArray)(void *)place), "") && place[0] == 0 && place[1] == 0, "a text without a mistake");
@@ -129,6 +138,17 @@ static void test_names(struct array *photo) {
     }
 }
 
+/* JPEG's row is before all that begin so, and three bytes are all that it asks. */
+static void test_evidence(struct array *photo) {
+    jlong ranges[4 * 80] = {-1}, needs[3] = {-1};
+    jint jpeg = ASK(position, (jbyteArray)photo, NULL, 2, 3);
+    wants(ASK(evidence, (jbyteArray)photo, NULL, 2, 3, 0, (jlongArray)(void *)ranges, (jlongArray)(void *)needs) == jpeg, "the row of an evidence");
+    wants(needs[0] >= 1 && needs[1] >= 3 && ranges[0] == 0 && ranges[1] == 3 && ranges[2] == 1 && ranges[3] == jpeg, "the range of it");
+    wants(ASK(evidence, NULL, (jobject)(void *)(photo->bytes + 2), 0, 3, 1, (jlongArray)(void *)ranges, (jlongArray)(void *)needs) == jpeg, "the same of a buffer");
+    thrown = 0, refused_from = 0;
+    wants(ASK(evidence, (jbyteArray)photo, NULL, 0, 5, 0, (jlongArray)(void *)ranges, (jlongArray)(void *)needs) == -1 && thrown == 1 && held == 0, "an evidence without memory");
+}
+
 static void test_refused(struct array *photo) {
     jlong place[2];
     thrown = 0;
@@ -146,6 +166,7 @@ int main(void) {
     test_answers(&photo, direct);
     test_types(&photo);
     test_names(&photo);
+    test_evidence(&photo);
     test_refused(&photo);
     puts(wrong ? "wrong" : "right");
     return wrong != 0;

@@ -236,7 +236,7 @@ test("evidence names the bytes that decide", () => {
         [infer.evidence, png.subarray(0, 61), [byPNG, byMobi], 4, false],
         [infer.evidence, png, [byPNG, byMobi], 4, false],
         [infer.moreEvidence, png, [byPNG, byMobi, [300, 0, "apng"]], 4, true],
-        [infer.evidence, tar, [first, byMobi, [1, 1, "png"], [1, 8, "webp"], [5, 0, "heif"], [1, 12, "mov"], [5, 257, "tar"]], 262, false],
+        [infer.evidence, tar, [[5, 257, "tar"], first, byMobi, [1, 1, "png"], [1, 8, "webp"], [5, 0, "heif"], [1, 12, "mov"]], 262, false],
     ];
     for (const [tell, data, ranges, least, isExact] of told) {
         const found = tell(data);

@@ -55,6 +55,12 @@ test("npm packs all that is needed, and an empty folder takes it", { skip: isThe
     assert.equal(ended.stdout, printed, ended.stderr);
 });
 
+test("the page names each call, but for the older names", async () => {
+    const names = [...Object.keys(await import("../node.js")), ...Object.keys(await import("../aliases-node.js"))];
+    const missing = names.filter((it) => !/wider/i.test(it) && !new RegExp(`\\b${it}\\b`).test(page));
+    assert.deepEqual([missing, page.match(/\bwider\(|`wider`/)], [[], null]);
+});
+
 test("the page's program stores an image, and nothing else", () => {
     const folder = folderWith("storing");
     writeFileSync(join(folder, "store.mjs"), storing);

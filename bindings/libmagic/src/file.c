@@ -100,7 +100,7 @@ static void restore_times(int fd, const struct stat *about) {
 }
 
 int say_path(struct magic_set *it, const char *path) {
-    struct stat about;
+    struct stat about = {0};
     int special = say_special(it, path);
     if (special != 0) return special > 0 ? 0 : -1;
     int fd;
@@ -111,9 +111,15 @@ int say_path(struct magic_set *it, const char *path) {
         say_unreadable(it, path);
         return 0;
     }
-    bool restores = it->flags & MAGIC_PRESERVE_ATIME && fstat(fd, &about) == 0;
-    int answer = say_read(it, fd, path, it->asks_names ? path : NULL);
-    if (restores) restore_times(fd, &about);
+    bool is_known = fstat(fd, &about) == 0;
+    /* The path may name something else by now. */
+    if (is_known && !S_ISREG(about.st_mode)) {
+        forget(it);
+        special = say_kind(it, path, &about);
+    }
+    int answer = special < 0 ? -1 : 0;
+    if (special == 0) answer = say_read(it, fd, path, it->asks_names ? path : NULL);
+    if (is_known && it->flags & MAGIC_PRESERVE_ATIME) restore_times(fd, &about);
     close(fd);
     return answer;
 }

@@ -4,6 +4,7 @@
 #define INFER_MAGIC_SET_H
 
 #include "infer.h"
+#include <sys/stat.h>
 #include <sys/types.h>
 
 /* The numbers of libmagic's interface, as its header magic.h has them. */
@@ -96,6 +97,8 @@ void say_type(struct magic_set *it, const struct front *front);
 
 /* special.c: says what is no regular file with contents. 1 if it did, 0 if the file is to be read, -1 if it failed. */
 int say_special(struct magic_set *it, const char *path);
+/* The same of what was found there. */
+int say_kind(struct magic_set *it, const char *path, const struct stat *about);
 /* Says how a file that cannot be opened may be used. */
 void say_unreadable(struct magic_set *it, const char *path);
 

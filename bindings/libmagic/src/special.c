@@ -89,23 +89,27 @@ static int say_directory(struct magic_set *it, const char *path) {
     return -1;
 }
 
-int say_special(struct magic_set *it, const char *path) {
-    struct stat about, target;
-    if ((it->flags & MAGIC_SYMLINK ? stat(path, &about) : lstat(path, &about)) != 0) return say_missing(it, path, errno);
-    if (S_ISLNK(about.st_mode) && is_silent(it) && stat(path, &target) == 0) about = target;
+int say_kind(struct magic_set *it, const char *path, const struct stat *about) {
     bool reads_devices = it->flags & MAGIC_DEVICES;
-    say_bits(it, about.st_mode);
-    switch (about.st_mode & S_IFMT) {
+    say_bits(it, about->st_mode);
+    switch (about->st_mode & S_IFMT) {
     case S_IFDIR: return say_directory(it, path);
     case S_IFLNK: return say_link(it, path);
     case S_IFSOCK: return say_inode(it, "socket", "socket");
     case S_IFIFO: return say_inode(it, "fifo", "fifo (named pipe)");
-    case S_IFCHR: return reads_devices ? 0 : say_device(it, "chardevice", "character", about.st_rdev);
-    case S_IFBLK: return reads_devices ? 0 : say_device(it, "blockdevice", "block", about.st_rdev);
+    case S_IFCHR: return reads_devices ? 0 : say_device(it, "chardevice", "character", about->st_rdev);
+    case S_IFBLK: return reads_devices ? 0 : say_device(it, "blockdevice", "block", about->st_rdev);
     default: break;
     }
-    if (about.st_size == 0 && !reads_devices) return say_inode(it, "x-empty", "empty");
+    if (about->st_size == 0 && !reads_devices) return say_inode(it, "x-empty", "empty");
     /* What comes after the bits is said of the contents. */
     if (it->said_len != 0) say(it, " , ");
     return 0;
+}
+
+int say_special(struct magic_set *it, const char *path) {
+    struct stat about, target;
+    if ((it->flags & MAGIC_SYMLINK ? stat(path, &about) : lstat(path, &about)) != 0) return say_missing(it, path, errno);
+    if (S_ISLNK(about.st_mode) && is_silent(it) && stat(path, &target) == 0) about = target;
+    return say_kind(it, path, &about);
 }

@@ -9,6 +9,7 @@ The names are those of filetype.py: `guess` takes a path, bytes or a file that i
 from __future__ import annotations
 
 import enum
+import errno
 import importlib
 import os
 from collections.abc import Iterable, Iterator, Sized
@@ -590,6 +591,10 @@ class TypesError(ValueError):
         return f"{place}: {self.reason}"
 
 
+# A text of types in a file is read up to this, as a device has no end.
+_LONGEST_TEXT = 1 << 20
+
+
 class Types:
     """Types that a text describes, one a line, in the notation of docs/NOTATION.md:
 
@@ -608,9 +613,11 @@ class Types:
 
     @classmethod
     def load(cls, path: Union[str, os.PathLike[str]]) -> Types:
-        """Those of the text in that file."""
+        """Those of the text in that file, which has at most 1 MiB."""
         with open(path, "rb") as file:
-            text = file.read()
+            text = file.read(_LONGEST_TEXT + 1)
+        if len(text) > _LONGEST_TEXT:
+            raise OSError(errno.EFBIG, os.strerror(errno.EFBIG), os.fspath(path))
         try:
             return cls(text)
         except TypesError as mistake:

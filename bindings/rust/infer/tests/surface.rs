@@ -205,7 +205,7 @@ fn evidence_names_the_bytes_that_decide() {
     let tar = placed(300, &[(0, b"\x89"), (257, b"ustar")]);
     // From 61 bytes on there is one at 60, which is no B of BOOKMOBI.
     let png_told = [(4, 0, "png"), (1, 60, "mobi")];
-    let tar_told = [(1, 0, ""), (1, 60, "mobi"), (1, 1, "png"), (1, 8, "webp"), (5, 0, "heif"), (1, 12, "mov"), (5, 257, "tar")];
+    let tar_told = [(5, 257, "tar"), (1, 0, ""), (1, 60, "mobi"), (1, 1, "png"), (1, 8, "webp"), (5, 0, "heif"), (1, 12, "mov")];
     let told: [Told; 7] = [
         (b"", &[], 0, true),
         (b"MZ", &[(2, 0, "exe")], 2, false),

@@ -21,7 +21,7 @@ import java.util.stream.IntStream;
  * }</pre>
  *
  * <p>Bytes can be handed over in five ways. Of an array or a buffer all that is handed over is looked at, {@link #FRONT}
- * bytes are enough, and nobody may change them meanwhile. A buffer's are those between its position and its limit, which
+ * bytes are enough, and nobody may change them meanwhile. The collector waits while an array is looked at. A buffer's are those between its position and its limit, which
  * stay. Of a stream the next {@link #FRONT} bytes are read, between {@link InputStream#mark mark} and
  * {@link InputStream#reset reset}, so it stands afterwards where it stood; one that cannot go back is an
  * {@link IllegalArgumentException}. A path or a file is that of a regular file, and of any other an {@link IOException} tells. A
@@ -201,6 +201,46 @@ public final class Infer {
     /** {@return the same, of the first bytes of a file, whose name its path is} */
     public static Named named(File file) throws IOException {
         return named(file.toPath());
+    }
+
+    /** {@return the bytes that decide the answer of {@code get}} */
+    public static Evidence evidence(byte[] bytes) {
+        return Evidence.of(Bytes.of(bytes), false);
+    }
+
+    /** {@return the same, of a buffer's bytes} */
+    public static Evidence evidence(ByteBuffer buffer) {
+        return Evidence.of(Bytes.of(buffer), false);
+    }
+
+    /** {@return the same, of the next bytes of a stream, which stays where it is} */
+    public static Evidence evidence(InputStream in) throws IOException {
+        return Evidence.of(Front.of(in), false);
+    }
+
+    /** {@return the same, of the first bytes of a file} */
+    public static Evidence evidence(Path path) throws IOException {
+        return Evidence.of(Front.of(path), false);
+    }
+
+    /** {@return the bytes that decide the answer of {@code getMore}} */
+    public static Evidence moreEvidence(byte[] bytes) {
+        return Evidence.of(Bytes.of(bytes), true);
+    }
+
+    /** {@return the same, of a buffer's bytes} */
+    public static Evidence moreEvidence(ByteBuffer buffer) {
+        return Evidence.of(Bytes.of(buffer), true);
+    }
+
+    /** {@return the same, of the next bytes of a stream, which stays where it is} */
+    public static Evidence moreEvidence(InputStream in) throws IOException {
+        return Evidence.of(Front.of(in), true);
+    }
+
+    /** {@return the same, of the first bytes of a file} */
+    public static Evidence moreEvidence(Path path) throws IOException {
+        return Evidence.of(Front.of(path), true);
     }
 
     /** {@return what is odd about a name} It changes nothing of what {@code named} tells. */

@@ -52,6 +52,13 @@ final class Library {
         return line(name, it.array(), it.direct(), it.from(), it.size(), room);
     }
 
+    /** The row that the bytes have, or -1. What decides it goes into the ranges, four numbers each, and the needs. */
+    static int evidence(Bytes it, boolean more, long[] ranges, long[] needs) {
+        return evidence(it.array(), it.direct(), it.from(), it.size(), more, ranges, needs);
+    }
+
+    private static native int evidence(byte[] array, ByteBuffer direct, int from, int size, boolean more, long[] ranges, long[] needs);
+
     private static native int position(byte[] array, ByteBuffer direct, int from, int size);
 
     private static native int morePosition(byte[] array, ByteBuffer direct, int from, int size);

@@ -6,6 +6,7 @@ import java.nio.ByteBuffer;
 import java.nio.CharBuffer;
 import java.nio.charset.CharacterCodingException;
 import java.nio.charset.StandardCharsets;
+import java.nio.file.FileSystemException;
 import java.nio.file.Files;
 import java.nio.file.Path;
 import java.util.Optional;
@@ -21,6 +22,9 @@ import java.util.Optional;
  * <p>Bytes are handed over as to {@link Infer}. All may be called from any thread.
  */
 public final class Types {
+    /** A text in a file is read up to this. */
+    private static final int LONGEST_TEXT = 1 << 20;
+
     private final byte[] text;
 
     private Types(byte[] text, String place) {
@@ -49,13 +53,19 @@ public final class Types {
     }
 
     /**
-     * {@return the types that the text in a regular file describes}
+     * {@return the types that the text in a regular file describes, which has at most 1 MiB}
      *
      * @throws TypesException if it describes none
      */
     public static Types load(Path path) throws IOException {
         Front.refuseUnlessRegular(path);
-        return new Types(Files.readAllBytes(path), path + ": ");
+        try (InputStream in = Files.newInputStream(path)) {
+            byte[] text = in.readNBytes(LONGEST_TEXT + 1);
+            if (text.length > LONGEST_TEXT) {
+                throw new FileSystemException(path.toString(), null, "more than 1 MiB of types");
+            }
+            return new Types(text, path + ": ");
+        }
     }
 
     private Optional<Type> get(Bytes bytes) {

@@ -35,6 +35,8 @@ final class Library {
     private static final MethodHandle LINE = critical("infer_label_write", FunctionDescriptor.of(JAVA_LONG, ADDRESS, JAVA_LONG, ADDRESS, JAVA_LONG,
         JAVA_INT, JAVA_INT, JAVA_INT, ADDRESS, JAVA_LONG, ADDRESS, JAVA_LONG, JAVA_LONG, ADDRESS, ADDRESS, ADDRESS, JAVA_LONG));
     private static final MethodHandle NAMED = critical("infer_named", FunctionDescriptor.ofVoid(ADDRESS, JAVA_LONG, ADDRESS, JAVA_LONG, ADDRESS));
+    private static final MethodHandle EVIDENCE = handle("infer_evidence", JAVA_INT, ADDRESS, JAVA_LONG, ADDRESS, JAVA_LONG, ADDRESS);
+    private static final MethodHandle MORE_EVIDENCE = handle("infer_more_evidence", JAVA_INT, ADDRESS, JAVA_LONG, ADDRESS, JAVA_LONG, ADDRESS);
     private static final MethodHandle ODDITIES = handle("infer_oddities", JAVA_INT, ADDRESS, JAVA_LONG);
     private static final MethodHandle TYPES_CHECK = handle("infer_types_check", JAVA_LONG, ADDRESS, JAVA_LONG, ADDRESS, ADDRESS, ADDRESS, JAVA_LONG);
     private static final MethodHandle ROW_COUNT = handle("infer_row_count", JAVA_LONG);
@@ -132,6 +134,19 @@ final class Library {
     static void named(byte[] name, Bytes it, byte[] answer) {
         try {
             NAMED.invokeExact(MemorySegment.ofArray(name), (long) name.length, segment(it), (long) it.size(), MemorySegment.ofArray(answer));
+        } catch (Throwable fault) {
+            throw thrown(fault);
+        }
+    }
+
+    /**
+     * The row that the bytes have, or -1. What decides it goes into the ranges, four numbers each, and the needs. The last
+     * number of each is shorter in C, where it stands in the bytes that come first.
+     */
+    static int evidence(Bytes it, boolean more, long[] ranges, long[] needs) {
+        MethodHandle call = more ? MORE_EVIDENCE : EVIDENCE;
+        try {
+            return (int) call.invokeExact(segment(it), (long) it.size(), MemorySegment.ofArray(ranges), (long) ranges.length / 4, MemorySegment.ofArray(needs));
         } catch (Throwable fault) {
             throw thrown(fault);
         }
