@@ -37,6 +37,7 @@ ASKS(jint, position, infer_position)
 ASKS(jint, morePosition, infer_more_position)
 ASKS(jboolean, isDecided, infer_is_decided)
 ASKS(jboolean, moreIsDecided, infer_more_is_decided)
+ASKS(jboolean, mimeMayBeScriptable, infer_mime_may_be_scriptable)
 
 JNIEXPORT jstring NAME(encoding)(JNIEnv *env, jclass self, jbyteArray array, jobject direct, jint from, jint size) {
     char *at = held(env, array, direct), name[INFER_TEXT_SIZE];
@@ -125,15 +126,85 @@ JNIEXPORT jint NAME(evidence)(JNIEnv *env, jclass self, jbyteArray array, jobjec
     return row;
 }
 
-JNIEXPORT jint NAME(oddities)(JNIEnv *env, jclass self, jbyteArray name) {
-    size_t size = (size_t)(*env)->GetArrayLength(env, name);
-    char *text = held(env, name, NULL);
-    jint found;
+/* A function of Java for a call that is asked about a text. */
+#define ASKS_TEXT(type, name, call) \
+    JNIEXPORT type NAME(name)(JNIEnv *env, jclass self, jbyteArray text) { \
+        size_t size = (size_t)(*env)->GetArrayLength(env, text); \
+        char *at = held(env, text, NULL); \
+        type answer = 0; \
+        (void)self; \
+        if (!at) return refuse(env), answer; \
+        answer = (type)call(at, size); \
+        release(env, text, at); \
+        return answer; \
+    }
+
+ASKS_TEXT(jint, oddities, infer_oddities)
+ASKS_TEXT(jint, mimeGroups, infer_mime_groups)
+ASKS_TEXT(jboolean, mimeIsNosniff, infer_mime_is_nosniff)
+ASKS_TEXT(jboolean, mimeIsOldServer, infer_mime_is_old_server)
+
+JNIEXPORT jboolean NAME(mimeIsBlocked)(JNIEnv *env, jclass self, jbyteArray text, jint destination) {
+    size_t size = (size_t)(*env)->GetArrayLength(env, text);
+    char *at = held(env, text, NULL);
+    jboolean answer;
     (void)self;
-    if (!text) return refuse(env), 0;
-    found = (jint)infer_oddities(text, size);
-    release(env, name, text);
-    return found;
+    if (!at) return refuse(env), 0;
+    answer = infer_mime_is_blocked(at, size, destination);
+    release(env, text, at);
+    return answer;
+}
+
+/* An array with the bytes of a MIME type. Where memory for it is refused, Java has thrown already. */
+static jbyteArray array_of(JNIEnv *env, const char *mime, size_t size) {
+    jbyteArray array = (*env)->NewByteArray(env, (jsize)size);
+    if (array) (*env)->SetByteArrayRegion(env, array, 0, (jsize)size, (const jbyte *)mime);
+    return array;
+}
+
+/* A function of Java for a call that finds the MIME type of a text. */
+#define ASKS_MIME(name, call) \
+    JNIEXPORT jbyteArray NAME(name)(JNIEnv *env, jclass self, jbyteArray text) { \
+        char *at, mime[INFER_MIME_SIZE]; \
+        size_t size = (size_t)(*env)->GetArrayLength(env, text); \
+        (void)self; \
+        at = held(env, text, NULL); \
+        if (!at) return refuse(env), NULL; \
+        size = call(at, size, mime, sizeof mime); \
+        release(env, text, at); \
+        return array_of(env, mime, size); \
+    }
+
+ASKS_MIME(mimeParse, infer_mime_parse)
+ASKS_MIME(mimeExtract, infer_mime_extract)
+
+/* What a call makes of a text and of bytes, of which memory for either may be refused. */
+#define WITH_BOTH(text, array, direct, from, call) \
+    size_t text_size = (size_t)(*env)->GetArrayLength(env, text); \
+    /* Where a buffer begins is asked before an array is held. */ \
+    char *at = array ? NULL : held(env, NULL, direct), *type = held(env, text, NULL); \
+    int is_held; \
+    (void)self; \
+    if (array) at = held(env, array, NULL); \
+    is_held = type && (at || !array); \
+    if (is_held) call; \
+    release(env, array, at); \
+    release(env, text, type)
+
+JNIEXPORT jbyteArray NAME(mimeCompute)(JNIEnv *env, jclass self, jbyteArray text, jint flags, jint context, jbyteArray array, jobject direct, jint from, jint size) {
+    char mime[INFER_MIME_SIZE];
+    size_t found = 0;
+    WITH_BOTH(text, array, direct, from,
+        found = infer_mime_compute(type, text_size, (uint32_t)flags, context, array ? at + from : at, (size_t)size, mime, sizeof mime));
+    if (!is_held) return refuse(env), NULL;
+    return array_of(env, mime, found);
+}
+
+JNIEXPORT jboolean NAME(mimeIsDecided)(JNIEnv *env, jclass self, jbyteArray text, jint flags, jbyteArray array, jobject direct, jint from, jint size) {
+    jboolean answer = 0;
+    WITH_BOTH(text, array, direct, from, answer = infer_mime_is_decided(type, text_size, (uint32_t)flags, array ? at + from : at, (size_t)size));
+    if (!is_held) refuse(env);
+    return answer;
 }
 
 JNIEXPORT jstring NAME(typesMistake)(JNIEnv *env, jclass self, jbyteArray text, jlongArray place) {

@@ -1,5 +1,6 @@
 import dev.hoarvelt.infer.Evidence;
 import dev.hoarvelt.infer.Infer;
+import dev.hoarvelt.infer.MimeSniff;
 import dev.hoarvelt.infer.Named;
 import dev.hoarvelt.infer.NamedType;
 import dev.hoarvelt.infer.Type;
@@ -46,6 +47,7 @@ final class Asks {
             case "namedPaths" -> rest.forEach(path -> say(path, () -> shown(Infer.named(Path.of(path)))));
             case "oddities" -> given().forEach(name -> System.out.println(Infer.oddities(new String(name, StandardCharsets.UTF_8))));
             case "evidence" -> evidence(Path.of(rest.get(0)));
+            case "mime" -> mime();
             case "older" -> older(rest.get(0));
             case "streams" -> streams();
             case "nulls" -> nulls();
@@ -58,10 +60,14 @@ final class Asks {
         return HexFormat.of().parseHex(digits);
     }
 
-    private static List<byte[]> given() throws IOException {
+    private static List<String> lines() throws IOException {
         try (BufferedReader in = new BufferedReader(new InputStreamReader(System.in))) {
-            return in.lines().map(Asks::hex).toList();
+            return in.lines().toList();
         }
+    }
+
+    private static List<byte[]> given() throws IOException {
+        return lines().stream().map(Asks::hex).toList();
     }
 
     private static String shown(Optional<Type> type) {
@@ -126,6 +132,37 @@ final class Asks {
                 shown(Infer.evidence(new ByteArrayInputStream(bytes))), shown(Infer.moreEvidence(new ByteArrayInputStream(bytes))),
                 shown(Infer.evidence(file)), shown(Infer.moreEvidence(file))));
         }
+    }
+
+    /** Of each question, which is a call, a text, two numbers and bytes, what the call says, as digits of UTF-8. */
+    private static void mime() throws IOException {
+        for (String line : lines()) {
+            String[] asked = line.split("\t", -1);
+            String text = new String(hex(asked[1]), StandardCharsets.UTF_8);
+            int flags = Integer.parseInt(asked[2]);
+            int number = Integer.parseInt(asked[3]);
+            byte[] bytes = hex(asked[4]);
+            MimeSniff.Supplied supplied = new MimeSniff.Supplied(text, (flags & 1) != 0, (flags & 2) != 0, MimeSniff.Context.values()[number]);
+            ByteBuffer direct = inside(bytes, ByteBuffer.allocateDirect(bytes.length + 9));
+            String told = switch (asked[0]) {
+                case "parse" -> MimeSniff.parse(text).orElse("none");
+                case "extract" -> MimeSniff.extract(text).orElse("none");
+                case "groups" -> MimeSniff.groups(text).toString();
+                case "nosniff" -> String.valueOf(MimeSniff.isNosniff(text));
+                case "blocked" -> String.valueOf(MimeSniff.isBlocked(text, MimeSniff.Destination.values()[number]));
+                case "old_server" -> String.valueOf(MimeSniff.isOldServer(text));
+                case "compute" -> same(MimeSniff.compute(bytes, supplied).orElse("none"), MimeSniff.compute(direct, supplied).orElse("none"));
+                case "is_decided" -> same(MimeSniff.isDecided(bytes, supplied), MimeSniff.isDecided(direct, supplied));
+                case "may_be_scriptable" -> same(MimeSniff.mayBeScriptable(bytes), MimeSniff.mayBeScriptable(direct));
+                default -> throw new IllegalArgumentException(line);
+            };
+            System.out.println(HexFormat.of().formatHex(told.getBytes(StandardCharsets.UTF_8)));
+        }
+    }
+
+    /** What is said of an array, if the same is said of a buffer. */
+    private static String same(Object ofArray, Object ofBuffer) {
+        return ofArray.equals(ofBuffer) ? ofArray.toString() : ofArray + " and " + ofBuffer;
     }
 
     private interface Way {

@@ -14,6 +14,10 @@ ASKED(jstring, encoding, jbyteArray, jobject, jint, jint);
 ASKED(jint, typesGet, jbyteArray, jbyteArray, jobject, jint, jint, jbyteArray, jbyteArray);
 ASKED(void, named, jbyteArray, jbyteArray, jobject, jint, jint, jbyteArray);
 ASKED(jint, evidence, jbyteArray, jobject, jint, jint, jboolean, jlongArray, jlongArray);
+ASKED(jbyteArray, mimeParse, jbyteArray);
+ASKED(jbyteArray, mimeCompute, jbyteArray, jint, jint, jbyteArray, jobject, jint, jint);
+ASKED(jboolean, mimeIsDecided, jbyteArray, jint, jbyteArray, jobject, jint, jint);
+ASKED(jboolean, mimeIsBlocked, jbyteArray, jint);
 ASKED(jstring, typesMistake, jbyteArray, jlongArray);
 ASKED(jstring, mimeType, jint);
 #define ASK(name, ...) Java_dev_hoarvelt_infer_Library_##name(&env, NULL, __VA_ARGS__)
@@ -60,6 +64,13 @@ static void JNICALL set_bytes(JNIEnv *self, jbyteArray array, jsize from, jsize 
     (void)self, alone();
     memcpy(((struct array *)array)->bytes + from, bytes, (size_t)size);
 }
+static jbyteArray JNICALL new_bytes(JNIEnv *self, jsize size) {
+    static struct array made;
+    (void)self, alone();
+    if (refused_from-- == 0) return thrown++, NULL;
+    made = (struct array){"", size, NULL};
+    return (jbyteArray)&made;
+}
 static void JNICALL set_longs(JNIEnv *self, jlongArray array, jsize from, jsize size, const jlong *longs) {
     (void)self, alone();
     memcpy((jlong *)(void *)array + from, longs, (size_t)size * sizeof *longs);
@@ -72,7 +83,7 @@ static jstring JNICALL text(JNIEnv *self, const char *bytes) {
 
 static const struct JNINativeInterface_ calls = {
     .GetPrimitiveArrayCritical = hold, .ReleasePrimitiveArrayCritical = release, .GetArrayLength = size_of, .GetDirectBufferAddress = address,
-    .FindClass = find, .ThrowNew = throw_new, .SetByteArrayRegion = set_bytes, .SetLongArrayRegion = set_longs, .NewStringUTF = text,
+    .FindClass = find, .ThrowNew = throw_new, .SetByteArrayRegion = set_bytes, .SetLongArrayRegion = set_longs, .NewStringUTF = text, .NewByteArray = new_bytes,
 };
 static JNIEnv env = &calls;
 
@@ -149,6 +160,32 @@ static void test_evidence(struct array *photo) {
     wants(ASK(evidence, (jbyteArray)photo, NULL, 0, 5, 0, (jlongArray)(void *)ranges, (jlongArray)(void *)needs) == -1 && thrown == 1 && held == 0, "an evidence without memory");
 }
 
+static int holds(jbyteArray array, const char *wanted) {
+    struct array *it = (struct array *)array;
+    return it && (size_t)it->size == strlen(wanted) && memcmp(it->bytes, wanted, strlen(wanted)) == 0;
+}
+
+static void test_mime_types(struct array *photo) {
+    struct array page = ARRAY("Text/HTML; Charset=utf-8"), flawed = ARRAY("text"), none = ARRAY("");
+    jobject buffer = (jobject)(void *)(photo->bytes + 2);
+    thrown = 0;
+    wants(holds(ASK(mimeParse, (jbyteArray)&page), "text/html;charset=utf-8") && holds(ASK(mimeParse, (jbyteArray)&flawed), ""), "a MIME type");
+    wants(ASK(mimeIsBlocked, (jbyteArray)&page, 0) && !ASK(mimeIsBlocked, (jbyteArray)&page, 2), "a page that is fetched as a script");
+    wants(holds(ASK(mimeCompute, (jbyteArray)&none, 0, 0, (jbyteArray)photo, NULL, 2, 3), "image/jpeg"), "a photo without a type");
+    wants(holds(ASK(mimeCompute, (jbyteArray)&none, 0, 0, NULL, buffer, 0, 3), "image/jpeg"), "the same of a buffer");
+    wants(ASK(mimeIsDecided, (jbyteArray)&page, 1, NULL, buffer, 0, 3), "a page that nobody may sniff");
+    wants(thrown == 0 && held == 0, "an exception, or a text that is held for good");
+    for (int first = 0; first < 3; first++) {
+        refused_from = first;
+        wants(!ASK(mimeCompute, (jbyteArray)&none, 0, 0, (jbyteArray)photo, NULL, 2, 3), "a computed type without memory");
+        wants(thrown == 1 + first && held == 0, "the error of it");
+    }
+    refused_from = 1, wants(!ASK(mimeParse, (jbyteArray)&page), "a MIME type without memory");
+    refused_from = 1, wants(!ASK(mimeIsDecided, (jbyteArray)&page, 1, (jbyteArray)photo, NULL, 2, 3), "what is decided without memory");
+    refused_from = 0, wants(!ASK(mimeIsBlocked, (jbyteArray)&page, 0), "what is blocked without memory");
+    wants(thrown == 6 && held == 0, "refused memory is an error each time");
+}
+
 static void test_refused(struct array *photo) {
     jlong place[2];
     thrown = 0;
@@ -167,6 +204,7 @@ int main(void) {
     test_types(&photo);
     test_names(&photo);
     test_evidence(&photo);
+    test_mime_types(&photo);
     test_refused(&photo);
     puts(wrong ? "wrong" : "right");
     return wrong != 0;

@@ -57,6 +57,25 @@ final class Library {
         return evidence(it.array(), it.direct(), it.from(), it.size(), more, ranges, needs);
     }
 
+    /** The type that a browser computes, as the bytes of a header, or no bytes. */
+    static byte[] mimeCompute(byte[] contentType, int flags, int context, Bytes it) {
+        return mimeCompute(contentType, flags, context, it.array(), it.direct(), it.from(), it.size());
+    }
+
+    static boolean mimeIsDecided(byte[] contentType, int flags, Bytes it) {
+        return mimeIsDecided(contentType, flags, it.array(), it.direct(), it.from(), it.size());
+    }
+
+    static boolean mimeMayBeScriptable(Bytes it) {
+        return mimeMayBeScriptable(it.array(), it.direct(), it.from(), it.size());
+    }
+
+    private static native byte[] mimeCompute(byte[] contentType, int flags, int context, byte[] array, ByteBuffer direct, int from, int size);
+
+    private static native boolean mimeIsDecided(byte[] contentType, int flags, byte[] array, ByteBuffer direct, int from, int size);
+
+    private static native boolean mimeMayBeScriptable(byte[] array, ByteBuffer direct, int from, int size);
+
     private static native int evidence(byte[] array, ByteBuffer direct, int from, int size, boolean more, long[] ranges, long[] needs);
 
     private static native int position(byte[] array, ByteBuffer direct, int from, int size);
@@ -80,6 +99,20 @@ final class Library {
 
     /** What is wrong with a text of types, or the empty text. The line and the column go into the place. */
     static native String typesMistake(byte[] text, long[] place);
+
+    /** The MIME type of a text as the bytes of a header, or no bytes. */
+    static native byte[] mimeParse(byte[] text);
+
+    static native byte[] mimeExtract(byte[] values);
+
+    /** The sum of the bits of MimeSniff.Group. */
+    static native int mimeGroups(byte[] text);
+
+    static native boolean mimeIsNosniff(byte[] value);
+
+    static native boolean mimeIsBlocked(byte[] value, int destination);
+
+    static native boolean mimeIsOldServer(byte[] value);
 
     static native int rowCount();
 

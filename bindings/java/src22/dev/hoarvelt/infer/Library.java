@@ -12,6 +12,7 @@ import java.lang.foreign.MemorySegment;
 import java.lang.foreign.SymbolLookup;
 import java.lang.invoke.MethodHandle;
 import java.nio.charset.StandardCharsets;
+import java.util.Arrays;
 
 /**
  * The calls of the C library, whose header infer.h says what each answers. Here they go by java.lang.foreign, past
@@ -20,6 +21,9 @@ import java.nio.charset.StandardCharsets;
 final class Library {
     /** Room for each text of a type of one's own, with its zero, and so for any text. */
     static final int TEXT_SIZE = 256;
+
+    /** Room for a MIME type with all its parameters: INFER_MIME_SIZE. */
+    private static final int MIME_SIZE = 4096;
 
     static {
         Loader.load();
@@ -39,6 +43,16 @@ final class Library {
     private static final MethodHandle MORE_EVIDENCE = handle("infer_more_evidence", JAVA_INT, ADDRESS, JAVA_LONG, ADDRESS, JAVA_LONG, ADDRESS);
     private static final MethodHandle ODDITIES = handle("infer_oddities", JAVA_INT, ADDRESS, JAVA_LONG);
     private static final MethodHandle TYPES_CHECK = handle("infer_types_check", JAVA_LONG, ADDRESS, JAVA_LONG, ADDRESS, ADDRESS, ADDRESS, JAVA_LONG);
+    private static final MethodHandle MIME_PARSE = handle("infer_mime_parse", JAVA_LONG, ADDRESS, JAVA_LONG, ADDRESS, JAVA_LONG);
+    private static final MethodHandle MIME_EXTRACT = handle("infer_mime_extract", JAVA_LONG, ADDRESS, JAVA_LONG, ADDRESS, JAVA_LONG);
+    private static final MethodHandle MIME_COMPUTE =
+        handle("infer_mime_compute", JAVA_LONG, ADDRESS, JAVA_LONG, JAVA_INT, JAVA_INT, ADDRESS, JAVA_LONG, ADDRESS, JAVA_LONG);
+    private static final MethodHandle MIME_IS_DECIDED = handle("infer_mime_is_decided", JAVA_BOOLEAN, ADDRESS, JAVA_LONG, JAVA_INT, ADDRESS, JAVA_LONG);
+    private static final MethodHandle MIME_MAY_BE_SCRIPTABLE = handle("infer_mime_may_be_scriptable", JAVA_BOOLEAN, ADDRESS, JAVA_LONG);
+    private static final MethodHandle MIME_GROUPS = handle("infer_mime_groups", JAVA_INT, ADDRESS, JAVA_LONG);
+    private static final MethodHandle MIME_IS_NOSNIFF = handle("infer_mime_is_nosniff", JAVA_BOOLEAN, ADDRESS, JAVA_LONG);
+    private static final MethodHandle MIME_IS_BLOCKED = handle("infer_mime_is_blocked", JAVA_BOOLEAN, ADDRESS, JAVA_LONG, JAVA_INT);
+    private static final MethodHandle MIME_IS_OLD_SERVER = handle("infer_mime_is_old_server", JAVA_BOOLEAN, ADDRESS, JAVA_LONG);
     private static final MethodHandle ROW_COUNT = handle("infer_row_count", JAVA_LONG);
     private static final MethodHandle MORE_ROW_COUNT = handle("infer_more_row_count", JAVA_LONG);
     private static final MethodHandle CLASS = handle("infer_class", JAVA_INT, JAVA_INT);
@@ -186,6 +200,87 @@ final class Library {
         } catch (Throwable fault) {
             throw thrown(fault);
         }
+    }
+
+    private static byte[] mime(MethodHandle call, byte[] text) {
+        byte[] out = new byte[MIME_SIZE];
+        try {
+            long size = (long) call.invokeExact(MemorySegment.ofArray(text), (long) text.length, MemorySegment.ofArray(out), (long) MIME_SIZE);
+            return Arrays.copyOf(out, (int) size);
+        } catch (Throwable fault) {
+            throw thrown(fault);
+        }
+    }
+
+    /** The MIME type of a text as the bytes of a header, or no bytes. */
+    static byte[] mimeParse(byte[] text) {
+        return mime(MIME_PARSE, text);
+    }
+
+    static byte[] mimeExtract(byte[] values) {
+        return mime(MIME_EXTRACT, values);
+    }
+
+    /** The type that a browser computes, as the bytes of a header, or no bytes. */
+    static byte[] mimeCompute(byte[] contentType, int flags, int context, Bytes it) {
+        byte[] out = new byte[MIME_SIZE];
+        try {
+            long size = (long) MIME_COMPUTE.invokeExact(
+                MemorySegment.ofArray(contentType), (long) contentType.length, flags, context, segment(it), (long) it.size(),
+                MemorySegment.ofArray(out), (long) MIME_SIZE);
+            return Arrays.copyOf(out, (int) size);
+        } catch (Throwable fault) {
+            throw thrown(fault);
+        }
+    }
+
+    static boolean mimeIsDecided(byte[] contentType, int flags, Bytes it) {
+        try {
+            return (boolean) MIME_IS_DECIDED.invokeExact(MemorySegment.ofArray(contentType), (long) contentType.length, flags, segment(it), (long) it.size());
+        } catch (Throwable fault) {
+            throw thrown(fault);
+        }
+    }
+
+    static boolean mimeMayBeScriptable(Bytes it) {
+        try {
+            return (boolean) MIME_MAY_BE_SCRIPTABLE.invokeExact(segment(it), (long) it.size());
+        } catch (Throwable fault) {
+            throw thrown(fault);
+        }
+    }
+
+    /** The sum of the bits of MimeSniff.Group. */
+    static int mimeGroups(byte[] text) {
+        try {
+            return (int) MIME_GROUPS.invokeExact(MemorySegment.ofArray(text), (long) text.length);
+        } catch (Throwable fault) {
+            throw thrown(fault);
+        }
+    }
+
+    private static boolean is(MethodHandle call, byte[] value) {
+        try {
+            return (boolean) call.invokeExact(MemorySegment.ofArray(value), (long) value.length);
+        } catch (Throwable fault) {
+            throw thrown(fault);
+        }
+    }
+
+    static boolean mimeIsNosniff(byte[] value) {
+        return is(MIME_IS_NOSNIFF, value);
+    }
+
+    static boolean mimeIsBlocked(byte[] value, int destination) {
+        try {
+            return (boolean) MIME_IS_BLOCKED.invokeExact(MemorySegment.ofArray(value), (long) value.length, destination);
+        } catch (Throwable fault) {
+            throw thrown(fault);
+        }
+    }
+
+    static boolean mimeIsOldServer(byte[] value) {
+        return is(MIME_IS_OLD_SERVER, value);
     }
 
     static int rowCount() {
