@@ -1,5 +1,5 @@
 -- A text that is laid into a room, and more of it behind.
-use Rattle.std.proofs.Common.{◌≡◌, ◌+◌, ◌-◌, ◌<◌, ◌≤◌, ℕ, List, [], ◌++◌, ap, ap₂, append-nil, append_assoc, arith, drop, length, length-append, length-drop, refl, subst, sym, take, ◌∙◌}
+use Rattle.std.proofs.Common.{◌≡◌, ◌+◌, ◌-◌, ◌<◌, ◌≤◌, ℕ, List, [], ◌++◌, ap, ap₂, append-nil, append_assoc, arith, drop, length, length-append, length-drop, subst, sym, take, ◌∙◌}
 use Rattle.std.proofs.Math.ListN.{drop_of_length-le}
 use Rattle.std.proofs.Math.Seq.{drop-append_seam, take-append-add, take-append_seam}
 use Rattle.std.proofs.lemmas.Grind.{common_steps}

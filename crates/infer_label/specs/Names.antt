@@ -80,9 +80,9 @@ char_shown form c = if is_escaped c then unseen_shown c else (if is_mark form c 
 abbrev pub IsSeen : ℕ → Type 0
 IsSeen x = (0x20 ≤ x) × (x ≢ 0x7F)
 
--- the byte is of ASCII and stands for itself in each form
+-- the byte is of ASCII and stands for itself in each form: no control, no quotation mark and no backslash
 abbrev pub is_plain : ℕ → Bool
-is_plain x = nat_lt x 0x80 && (not (is_escaped x) && not (is_mark Json x))
+is_plain x = (nat_le 0x20 x && nat_lt x 0x7F) && (not (x == 0x22) && not (x == 0x5C))
 
 -- a byte of a name that is not UTF-8
 abbrev pub byte_shown : Form → ℕ → List ℕ

@@ -1,5 +1,5 @@
 -- What is written to the room of a caller.
-use Rattle.std.specs.Prelude.{◌≡◌, ◌-◌, ◌^◌, ℕ, List, [], ◌++◌, drop, length, min, take}
+use Rattle.std.specs.Prelude.{◌≡◌, ◌-◌, ◌^◌, ℕ, List, ◌++◌, drop, length, min, take}
 use Rattle.infer_label.specs.declared.room.Room.{Room}
 
 -- the room begins with the text, or with as much of it as it can hold, and is behind it as it was at the start

@@ -35,7 +35,7 @@ fn is_plain(name: &[u8]) -> bool
 fn is_plain_byte(byte: u8) -> bool
     ensures { result ≡ is_plain byte }
 {
-    byte < 0x80 && !is_escaped(u32::from(byte)) && !is_mark(Form::Json, u32::from(byte))
+    b' ' <= byte && byte < 0x7F && byte != b'"' && byte != b'\\'
 }
 
 fn write_chars(text: &str, form: Form, out: &mut Room<'_>)

@@ -1,4 +1,4 @@
-use Rattle.infer_label.proofs.WritesLemmas.{writes_both, writes_is}
+use Rattle.infer_label.proofs.WritesLemmas.{writes_both}
 use Rattle.infer_label.proofs.json.write_members.Goals as goal
 
 pub returns : goal.returns

@@ -1,5 +1,5 @@
-use Rattle.std.proofs.Common.{◌≡◌, ◌++◌, ◌%◌, ◌+◌, Bool, true, false, ℕ, List, refl, subst, sym, ap, ◌∙◌, if◌then◌else◌}
-use Rattle.infer_label.specs.Names.{code_shown, is_tag, unseen_shown}
+use Rattle.std.proofs.Common.{◌++◌, ◌%◌, ◌+◌, subst, sym, ◌∙◌, if◌then◌else◌}
+use Rattle.infer_label.specs.Names.{code_shown}
 use Rattle.infer_label.specs.Writes.{Writes}
 use Rattle.infer_label.proofs.WritesLemmas.{writes_both}
 use Rattle.infer_label.proofs.names.write_unseen.Goals as goal
