@@ -2,14 +2,23 @@
 #include "program.h"
 #include <dirent.h>
 #include <errno.h>
+#include <fcntl.h>
 #include <fnmatch.h>
+#include <stddef.h>
 #include <stdlib.h>
 #include <string.h>
+#include <sys/resource.h>
 #include <sys/stat.h>
+#include <unistd.h>
+
+/* How many folders are open at once at most, and what part of the descriptors that the system gives. */
+enum { MOST_FOLDERS = 256, PART_OF_DESCRIPTORS = 4 };
+static atomic_uint open_folders;
 
 /* A folder that is walked, in the order of names, and the folder that it is in. */
 struct level {
     struct level *outer;
+    struct folder *folder; /* or a null pointer, if too many are open */
     struct dirent **entries;
     int count, next;
     size_t path_size; /* how much of the path is the folder's, with a slash */
@@ -59,7 +68,10 @@ static struct item *add_item(struct batch *batch, const char *path, size_t size)
     return item;
 }
 
-static int by_name(const struct dirent **left, const struct dirent **right) { return strcmp((*left)->d_name, (*right)->d_name); }
+static int by_name(const void *left, const void *right) {
+    const struct dirent *const *one = left, *const *other = right;
+    return strcmp((*one)->d_name, (*other)->d_name);
+}
 
 static int is_entry(const struct dirent *it) { return strcmp(it->d_name, ".") != 0 && strcmp(it->d_name, "..") != 0; }
 
@@ -72,23 +84,96 @@ static void set_path(struct inputs *inputs, size_t size, const char *name) {
 
 static struct item *add_path(struct inputs *inputs, struct batch *batch) { return add_item(batch, inputs->path.bytes, inputs->path.size); }
 
+/* Keeps an open folder for its files, or closes it if there are not descriptors enough: then their paths serve. */
+static struct folder *keep_folder(int fd) {
+    struct rlimit limit = {0};
+    getrlimit(RLIMIT_NOFILE, &limit);
+    if (open_folders >= MOST_FOLDERS || open_folders >= limit.rlim_cur / PART_OF_DESCRIPTORS) {
+        close(fd);
+        return NULL;
+    }
+    struct folder *folder = allocated(malloc(sizeof *folder));
+    folder->fd = fd;
+    atomic_init(&folder->users, 1);
+    open_folders++;
+    return folder;
+}
+
+void release_folder(struct folder *folder) {
+    if (!folder || atomic_fetch_sub(&folder->users, 1) > 1)
+        return;
+    close(folder->fd);
+    free(folder);
+    open_folders--;
+}
+
+/* Adds the entry of the innermost folder whose path this is. */
+static void add_entry(struct inputs *inputs, struct batch *batch, const struct dirent *entry) {
+    struct level *level = inputs->walk;
+    struct item *item = add_path(inputs, batch);
+    item->is_walked = true;
+    item->is_regular = entry->d_type == DT_REG;
+    item->folder = level->folder;
+    item->name = level->path_size;
+    if (item->folder)
+        atomic_fetch_add(&item->folder->users, 1);
+}
+
+/* Opens the folder with the path, by its name in the innermost one if that is open. */
+static int open_folder(const struct inputs *inputs) {
+    const struct level *level = inputs->walk;
+    const struct folder *outer = level ? level->folder : NULL;
+    const char *name = inputs->path.bytes + (outer ? level->path_size : 0);
+    return openat(outer ? outer->fd : AT_FDCWD, name, O_RDONLY | O_DIRECTORY | O_CLOEXEC | (level ? O_NOFOLLOW : 0));
+}
+
+/* Puts the entries that are left behind those of the level. */
+static bool read_entries(struct level *level, DIR *folder) {
+    const struct dirent *entry;
+    size_t room = 0;
+    while (errno = 0, (entry = readdir(folder))) {
+        if (!is_entry(entry))
+            continue;
+        if ((size_t)level->count == room)
+            level->entries = allocated(realloc(level->entries, (room = 2 * room + 16) * sizeof *level->entries));
+        size_t size = offsetof(struct dirent, d_name) + strlen(entry->d_name) + 1;
+        level->entries[level->count++] = memcpy(allocated(malloc(size)), entry, size);
+    }
+    return errno == 0;
+}
+
+/* Lists an open folder in the order of names. */
+static bool list_folder(struct level *level, int fd) {
+    int again = fcntl(fd, F_DUPFD_CLOEXEC, 0);
+    DIR *folder = again < 0 ? NULL : fdopendir(again);
+    if (!folder)
+        return false;
+    bool is_whole = read_entries(level, folder);
+    int fault = errno;
+    closedir(folder);
+    errno = fault;
+    qsort(level->entries, (size_t)level->count, sizeof *level->entries, by_name);
+    return is_whole;
+}
+
 /* Begins to walk the folder with the path. */
 static void enter(struct inputs *inputs, struct batch *batch, const struct stat *about) {
-    struct dirent **entries;
-    int count = scandir(inputs->path.bytes, &entries, is_entry, by_name), fault = errno;
-    if (count < 0) {
-        add_path(inputs, batch)->fault = fault;
-        return;
-    }
-    put_text(&inputs->path, inputs->path.bytes[inputs->path.size - 1] == '/' ? "" : "/");
     struct level *level = allocated(malloc(sizeof *level));
-    *level = (struct level){inputs->walk, entries, count, 0, inputs->path.size, about->st_dev, about->st_ino};
+    *level = (struct level){.outer = inputs->walk, .system = about->st_dev, .number = about->st_ino};
+    int fd = open_folder(inputs);
+    bool is_listed = fd >= 0 && list_folder(level, fd);
+    if (!is_listed)
+        add_path(inputs, batch)->fault = errno;
+    put_text(&inputs->path, inputs->path.bytes[inputs->path.size - 1] == '/' ? "" : "/");
+    level->path_size = inputs->path.size;
+    level->folder = fd < 0 ? NULL : keep_folder(fd);
     inputs->walk = level;
 }
 
 static void leave(struct inputs *inputs) {
     struct level *level = inputs->walk;
     inputs->walk = level->outer;
+    release_folder(level->folder);
     for (int i = 0; i < level->count; i++)
         free(level->entries[i]);
     free(level->entries);
@@ -125,8 +210,10 @@ static void step(struct inputs *inputs, struct batch *batch) {
     if (is_excluded(inputs->options, inputs->path.bytes, entry->d_name))
         return;
     bool is_asked = entry->d_type == DT_DIR || entry->d_type == DT_UNKNOWN;
-    if (!is_asked || lstat(inputs->path.bytes, &about) != 0 || !S_ISDIR(about.st_mode))
-        add_path(inputs, batch)->is_walked = true;
+    int at = level->folder ? level->folder->fd : AT_FDCWD;
+    const char *name = inputs->path.bytes + (level->folder ? level->path_size : 0);
+    if (!is_asked || fstatat(at, name, &about, AT_SYMLINK_NOFOLLOW) != 0 || !S_ISDIR(about.st_mode))
+        add_entry(inputs, batch, entry);
     else if (is_loop(level, &about))
         add_path(inputs, batch)->fault = ELOOP;
     else if (!inputs->options->is_one_system || about.st_dev == level->system)

@@ -77,41 +77,52 @@ static void read_open(struct labeller *labeller, int fd, const struct stat *abou
 }
 
 /* Opens what was a regular file just before, and does not wait if something else has taken its place. */
-static int open_file(const char *path, bool is_walked) {
+static int open_file(int at, const char *name, bool is_walked) {
     int fd;
     do
-        fd = open(path, O_RDONLY | O_NONBLOCK | O_NOCTTY | O_CLOEXEC | (is_walked ? O_NOFOLLOW : 0));
+        fd = openat(at, name, O_RDONLY | O_NONBLOCK | O_NOCTTY | O_CLOEXEC | (is_walked ? O_NOFOLLOW : 0));
     while (fd < 0 && errno == EINTR);
     return fd;
 }
 
-/* Why a path leads to no file, or that it is a link which leads nowhere. */
-static void note_missing(const char *path, struct read *front) {
+/* Why a name leads to no file, or that it is a link which leads nowhere. */
+static void note_missing(int at, const char *name, struct read *front) {
     struct stat link;
     int fault = errno;
-    bool is_broken = (fault == ENOENT || fault == ELOOP) && lstat(path, &link) == 0 && S_ISLNK(link.st_mode);
+    bool is_broken = (fault == ENOENT || fault == ELOOP) && fstatat(at, name, &link, AT_SYMLINK_NOFOLLOW) == 0 && S_ISLNK(link.st_mode);
     front->kind = is_broken ? "broken link" : NULL;
     front->fault = is_broken ? NULL : strerror(fault);
 }
 
-/* Reads a regular file and nothing else: a device can act as soon as it is opened. Its kind and size are those just before, as to
- * ask the open file would be one more call for each. */
-static void read_path(struct labeller *labeller, const char *path, bool is_walked, struct read *front) {
+/* Opens what was a regular file when the walk met it, and asks the open file about itself. */
+static int open_met(int at, const char *name, struct stat *about) {
+    int fd = open_file(at, name, true);
+    if (fd >= 0 && fstat(fd, about) != 0) {
+        close(fd);
+        fd = -1;
+    }
+    return fd;
+}
+
+/* Reads a regular file and nothing else: a device can act as soon as it is opened, so that nothing is opened of which it is not
+ * known that it is regular. One that is open already is not asked for its kind and size again, which would be one more call. */
+static void read_path(struct labeller *labeller, const char *path, const struct item *item, struct read *front) {
+    int at = item->folder ? item->folder->fd : AT_FDCWD;
+    const char *name = item->folder ? path + item->name : path;
     struct stat about;
-    if (fstatat(AT_FDCWD, path, &about, is_walked ? AT_SYMLINK_NOFOLLOW : 0) != 0) {
-        note_missing(path, front);
+    int fd = item->is_regular ? open_met(at, name, &about) : -1;
+    if (fd < 0 && fstatat(at, name, &about, item->is_walked ? AT_SYMLINK_NOFOLLOW : 0) != 0) {
+        note_missing(at, name, front);
         return;
     }
     front->kind = kind_of(about.st_mode);
-    if (front->kind)
-        return;
-    int fd = open_file(path, is_walked);
-    if (fd < 0)
+    if (fd < 0 && !front->kind && (fd = open_file(at, name, item->is_walked)) < 0)
         front->fault = strerror(errno);
-    else {
+    if (fd < 0)
+        return;
+    if (!front->kind)
         read_open(labeller, fd, &about, front);
-        close(fd);
-    }
+    close(fd);
 }
 
 static void read_input(struct labeller *labeller, struct read *front) {
@@ -207,12 +218,13 @@ static void put_kind(struct labeller *labeller, const char *name, size_t name_si
 static void label_item(struct labeller *labeller, struct batch *batch, struct item *item) {
     const char *path = batch->paths.bytes + item->path;
     struct read front = {.fault = item->fault ? strerror(item->fault) : NULL};
-    if (strlen(path) != item->path_size && !item->is_input)
+    if (!item->is_walked && !item->is_input && strlen(path) != item->path_size)
         front.fault = "a name with a zero byte";
     else if (item->is_input)
         read_input(labeller, &front);
     else if (!front.fault)
-        read_path(labeller, path, item->is_walked, &front);
+        read_path(labeller, path, item, &front);
+    release_folder(item->folder);
     item->line = batch->lines.size;
     item->bytes = front.bytes;
     item->is_fault = front.fault != NULL;

@@ -3,6 +3,7 @@
 #define INFER_LABEL_PROGRAM_H
 
 #include "infer.h"
+#include <stdatomic.h>
 #include <stdio.h>
 #include <sys/types.h>
 
@@ -29,12 +30,22 @@ struct options {
     struct text types; /* the text of --types */
 };
 
+/* An open folder, relative to which its files are opened, so that the system looks up one name for each and not a path. Its last
+ * user closes it. */
+struct folder {
+    int fd;
+    atomic_uint users;
+};
+
 /* A file to tell of, and what is told of it. */
 struct item {
     size_t path, path_size; /* where its path stands in the batch's texts */
+    size_t name;            /* how much of that is the folder's, if it is open */
+    struct folder *folder;  /* or a null pointer */
     int fault;              /* why it cannot be looked at, or 0 */
     bool is_input;          /* it is standard input */
     bool is_walked;         /* it was met on a walk, which follows no link */
+    bool is_regular;        /* and was a regular file then */
     bool is_fault, is_known, is_lie, is_told;
     size_t line, line_size; /* where its line stands in the batch's lines */
     uintmax_t bytes;
@@ -73,6 +84,7 @@ struct inputs;
 struct inputs *open_inputs(const struct options *options, char **paths);
 bool fill_batch(struct inputs *inputs, struct batch *batch);
 bool close_inputs(struct inputs *inputs);
+void release_folder(struct folder *folder);
 
 /* label.c */
 struct labeller;
