@@ -119,7 +119,7 @@ static void add_entry(struct inputs *inputs, struct batch *batch, const struct d
         atomic_fetch_add(&item->folder->users, 1);
 }
 
-/* Opens the folder with the path, by its name in the innermost one if that is open. */
+/* Opens the folder with the path, by its name in the innermost one if that is open: then no path is too long. */
 static int open_folder(const struct inputs *inputs) {
     const struct level *level = inputs->walk;
     const struct folder *outer = level ? level->folder : NULL;
@@ -152,7 +152,8 @@ static bool list_folder(struct level *level, int fd) {
     int fault = errno;
     closedir(folder);
     errno = fault;
-    qsort(level->entries, (size_t)level->count, sizeof *level->entries, by_name);
+    if (level->count > 0)
+        qsort(level->entries, (size_t)level->count, sizeof *level->entries, by_name);
     return is_whole;
 }
 
