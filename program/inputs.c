@@ -163,8 +163,9 @@ static void enter(struct inputs *inputs, struct batch *batch, const struct stat 
     *level = (struct level){.outer = inputs->walk, .system = about->st_dev, .number = about->st_ino};
     int fd = open_folder(inputs);
     bool is_listed = fd >= 0 && list_folder(level, fd);
+    int fault = errno;
     if (!is_listed)
-        add_path(inputs, batch)->fault = errno;
+        add_path(inputs, batch)->fault = fault;
     put_text(&inputs->path, inputs->path.bytes[inputs->path.size - 1] == '/' ? "" : "/");
     level->path_size = inputs->path.size;
     level->folder = fd < 0 ? NULL : keep_folder(fd);
