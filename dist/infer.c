@@ -92504,11 +92504,8 @@ l4 = UINT64_C(0);
 for (;;) {
 if (l1 == l4) goto after2;
 {
-l6 = (u32)(int8_t)load8(l0 + l4);
-if ((int32_t)l6 < (int32_t)0u) goto after5;
-if (l6 < 32u) goto after5;
-if (l6 == 127u) goto after5;
-l6 = l6 & 255u;
+l6 = (u32)load8(l0 + l4);
+if (((l6 - 32u) & 255u) > 94u) goto after5;
 if (l6 == 34u) goto after5;
 l4 = l4 + UINT64_C(1);
 if (l6 != 92u) continue;
@@ -92650,34 +92647,34 @@ if (l4 <= l13) goto after22;
 {
 l14 = load64(l3);
 l15 = l14 + l13;
-l3 = l4 - l13;
-l4 = (l3 < l1) ? l3 : l1;
-if ((l15 - l0) >= l4) goto after23;
-l10 = l4 & UINT64_C(3);
-l3 = UINT64_C(0);
+l4 = l4 - l13;
+l3 = (l4 < l1) ? l4 : l1;
+if ((l15 - l0) >= l3) goto after23;
+l10 = l3 & UINT64_C(3);
+l4 = UINT64_C(0);
 {
-if (l4 < UINT64_C(4)) goto after24;
-l16 = l4 & UINT64_C(18446744073709551612);
-l3 = UINT64_C(0);
+if (l3 < UINT64_C(4)) goto after24;
+l16 = l3 & UINT64_C(18446744073709551612);
+l4 = UINT64_C(0);
 for (;;) {
-l4 = l15 + l3;
-l11 = l0 + l3;
-store8(l4, (uint8_t)(u32)load8(l11));
-store8(l4 + UINT64_C(1), (uint8_t)(u32)load8(l11 + UINT64_C(1)));
-store8(l4 + UINT64_C(2), (uint8_t)(u32)load8(l11 + UINT64_C(2)));
-store8(l4 + UINT64_C(3), (uint8_t)(u32)load8(l11 + UINT64_C(3)));
-l3 = l3 + UINT64_C(4);
-if (l16 != l3) continue;
+l3 = l15 + l4;
+l11 = l0 + l4;
+store8(l3, (uint8_t)(u32)load8(l11));
+store8(l3 + UINT64_C(1), (uint8_t)(u32)load8(l11 + UINT64_C(1)));
+store8(l3 + UINT64_C(2), (uint8_t)(u32)load8(l11 + UINT64_C(2)));
+store8(l3 + UINT64_C(3), (uint8_t)(u32)load8(l11 + UINT64_C(3)));
+l4 = l4 + UINT64_C(4);
+if (l16 != l4) continue;
 break;
 }
 if (l10 == 0) goto after22;
 }
 after24:;
-l0 = l0 + l3;
-l3 = l14 + (l3 + l13);
+l0 = l0 + l4;
+l4 = l14 + (l4 + l13);
 for (;;) {
-store8(l3, (uint8_t)(u32)load8(l0));
-l3 = l3 + UINT64_C(1);
+store8(l4, (uint8_t)(u32)load8(l0));
+l4 = l4 + UINT64_C(1);
 l0 = l0 + UINT64_C(1);
 l10 = l10 - UINT64_C(1);
 if (l10 != UINT64_C(0)) continue;
@@ -92685,8 +92682,8 @@ goto after22;
 }
 }
 after23:;
-if (l4 == 0) goto after22;
-copy(l15, l0, l4);
+if (l3 == 0) goto after22;
+copy(l15, l0, l3);
 }
 after22:;
 l0 = l1 + load64(l12);
