@@ -48,19 +48,25 @@ JNIEXPORT jstring NAME(encoding)(JNIEnv *env, jclass self, jbyteArray array, job
     return (*env)->NewStringUTF(env, name);
 }
 
+/* What a call makes of a text and of bytes, of which memory for either may be refused: then is_held is 0. */
+#define WITH_BOTH(text, array, direct, call) \
+    size_t text_size = (size_t)(*env)->GetArrayLength(env, text); \
+    /* Where a buffer begins is asked before an array is held. */ \
+    char *at = array ? NULL : held(env, NULL, direct), *chars = held(env, text, NULL); \
+    int is_held; \
+    (void)self; \
+    if (array) at = held(env, array, NULL); \
+    is_held = chars && (at || !array); \
+    if (is_held) call; \
+    release(env, array, at); \
+    release(env, text, chars)
+
 JNIEXPORT jint NAME(typesGet)(JNIEnv *env, jclass self, jbyteArray text, jbyteArray array, jobject direct, jint from, jint size, jbyteArray mime_type, jbyteArray extension) {
     jbyte told[2][INFER_TYPES_TEXT_SIZE] = {{0}};
-    size_t text_size = (size_t)(*env)->GetArrayLength(env, text);
-    /* Where a buffer begins is asked before an array is held. */
-    char *at = array ? NULL : held(env, NULL, direct), *types = held(env, text, NULL);
     jint class_code = INFER_NO_ROW;
-    (void)self;
-    if (array) at = held(env, array, NULL);
-    if (types && (at || !array))
-        class_code = infer_types_get(types, text_size, array ? at + from : at, (size_t)size, (char *)told[0], sizeof told[0], (char *)told[1], sizeof told[1]);
-    release(env, array, at);
-    release(env, text, types);
-    if (!types || (array && !at)) return refuse(env), class_code;
+    WITH_BOTH(text, array, direct,
+        class_code = infer_types_get(chars, text_size, array ? at + from : at, (size_t)size, (char *)told[0], sizeof told[0], (char *)told[1], sizeof told[1]));
+    if (!is_held) return refuse(env), class_code;
     if (class_code == INFER_NO_ROW) return class_code;
     (*env)->SetByteArrayRegion(env, mime_type, 0, sizeof told[0], told[0]);
     (*env)->SetByteArrayRegion(env, extension, 0, sizeof told[1], told[1]);
@@ -72,15 +78,8 @@ _Static_assert(sizeof(struct infer_named_answer) == 308, "Named.java has another
 
 JNIEXPORT void NAME(named)(JNIEnv *env, jclass self, jbyteArray name, jbyteArray array, jobject direct, jint from, jint size, jbyteArray told) {
     struct infer_named_answer answer = {0};
-    size_t name_size = (size_t)(*env)->GetArrayLength(env, name);
-    /* Where a buffer begins is asked before an array is held. */
-    char *at = array ? NULL : held(env, NULL, direct), *text = held(env, name, NULL);
-    (void)self;
-    if (array) at = held(env, array, NULL);
-    if (text && (at || !array)) infer_named(text, name_size, array ? at + from : at, (size_t)size, &answer);
-    release(env, array, at);
-    release(env, name, text);
-    if (!text || (array && !at)) {
+    WITH_BOTH(name, array, direct, infer_named(chars, text_size, array ? at + from : at, (size_t)size, &answer));
+    if (!is_held) {
         refuse(env);
         return;
     }
@@ -178,31 +177,18 @@ static jbyteArray array_of(JNIEnv *env, const char *mime, size_t size) {
 ASKS_MIME(mimeParse, infer_mime_parse)
 ASKS_MIME(mimeExtract, infer_mime_extract)
 
-/* What a call makes of a text and of bytes, of which memory for either may be refused. */
-#define WITH_BOTH(text, array, direct, from, call) \
-    size_t text_size = (size_t)(*env)->GetArrayLength(env, text); \
-    /* Where a buffer begins is asked before an array is held. */ \
-    char *at = array ? NULL : held(env, NULL, direct), *type = held(env, text, NULL); \
-    int is_held; \
-    (void)self; \
-    if (array) at = held(env, array, NULL); \
-    is_held = type && (at || !array); \
-    if (is_held) call; \
-    release(env, array, at); \
-    release(env, text, type)
-
 JNIEXPORT jbyteArray NAME(mimeCompute)(JNIEnv *env, jclass self, jbyteArray text, jint flags, jint context, jbyteArray array, jobject direct, jint from, jint size) {
     char mime[INFER_MIME_SIZE];
     size_t found = 0;
-    WITH_BOTH(text, array, direct, from,
-        found = infer_mime_compute(type, text_size, (uint32_t)flags, context, array ? at + from : at, (size_t)size, mime, sizeof mime));
+    WITH_BOTH(text, array, direct,
+        found = infer_mime_compute(chars, text_size, (uint32_t)flags, context, array ? at + from : at, (size_t)size, mime, sizeof mime));
     if (!is_held) return refuse(env), NULL;
     return array_of(env, mime, found);
 }
 
 JNIEXPORT jboolean NAME(mimeIsDecided)(JNIEnv *env, jclass self, jbyteArray text, jint flags, jbyteArray array, jobject direct, jint from, jint size) {
     jboolean answer = 0;
-    WITH_BOTH(text, array, direct, from, answer = infer_mime_is_decided(type, text_size, (uint32_t)flags, array ? at + from : at, (size_t)size));
+    WITH_BOTH(text, array, direct, answer = infer_mime_is_decided(chars, text_size, (uint32_t)flags, array ? at + from : at, (size_t)size));
     if (!is_held) refuse(env);
     return answer;
 }
