@@ -2,7 +2,7 @@
 pub use Rattle.infer.specs.Arrivals.{Begins, BeginsAlone, Comes, IsAwaited, NewcomersAreAwaited}
 pub use Rattle.infer.specs.Arrivals.{last_after, last_awaited}
 pub use Rattle.infer.specs.Buffer.{head, IsBuffer}
-pub use Rattle.infer.specs.BuiltIn.{BuiltIn, IsAccepted}
+pub use Rattle.infer.specs.BuiltIn.{BuiltIn, IsAccepted, TellsAccepted}
 pub use Rattle.infer.specs.BuiltIn.{avif, doc, fixed, framed, heif, html, matroska, office, pdf, ppt, xls, xml}
 pub use Rattle.infer.specs.Caller.{Contracts, Contract, Allows, FixesAnswers}
 pub use Rattle.infer.specs.Decided.{AllowsExactly, AnswersAreOpen, CanBeDecided, DecidedByRows, DecidedLasts, IsAnswerForGood}

@@ -1,5 +1,5 @@
 -- The table's length, and what its rows have.
-use Rattle.infer.proofs.Common.{◌≡◌, ◌↔◌, ℕ, [], length, refl, Option, None, Some, MatchOption, option_map_or, slice_get, table, ROW_COUNT, BuiltIn, fixed, Row, signature_of, RowHas, List, IsAccepted, Accepts}
+use Rattle.infer.proofs.Common.{IsTrue, Bool, TellsAccepted, subst, sym, ◌≡◌, ◌↔◌, ℕ, [], length, refl, Option, None, Some, MatchOption, option_map_or, slice_get, table, ROW_COUNT, BuiltIn, fixed, Row, signature_of, RowHas, List, IsAccepted, Accepts}
 
 pub length-table : length table ≡ ROW_COUNT
 unfolding table
@@ -19,3 +19,8 @@ module _ (Q : BuiltIn → Type 0) (never : ¬ Q (fixed [])) where
 
 pub row_accepts : (b : List ℕ) (i : ℕ) → IsAccepted (signature_of i) b ↔ RowHas (Accepts b) i
 row_accepts b i = signature_has (λ s. IsAccepted s b) (λ h. absurd (cc)) i
+
+-- what tells whether a signature accepts is true exactly if it does
+pub accepted_as_told : (s : BuiltIn) (b : List ℕ) (r : Bool) → TellsAccepted s b r → IsTrue r ↔ IsAccepted s b
+accepted_as_told (fixed alternatives) b r told = (subst IsTrue told, subst IsTrue (sym told))
+accepted_as_told s b r told = told

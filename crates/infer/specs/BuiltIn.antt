@@ -1,5 +1,5 @@
 -- Built-in signatures, and which buffers they accept.
-use Rattle.std.specs.Prelude.{ℕ, List, IsTrue}
+use Rattle.std.specs.Prelude.{◌≡◌, ◌↔◌, ℕ, Bool, List, IsTrue}
 use Rattle.infer_sig.specs.Signature.{Alternative, accepts}
 use Rattle.infer_deep.specs.Brands.{IsAvif, IsHeif}
 use Rattle.infer_deep.specs.ClassId.{IsDoc, IsPpt, IsXls}
@@ -37,3 +37,8 @@ IsAccepted xls b = IsXls b
 IsAccepted ppt b = IsPpt b
 IsAccepted html b = IsHtml b
 IsAccepted xml b = IsXml b
+
+-- the answer tells whether the signature accepts the buffer: of a fixed one, by its parts
+abbrev pub TellsAccepted : BuiltIn → List ℕ → Bool → Type 0
+TellsAccepted (fixed alternatives) b r = r ≡ accepts alternatives b
+TellsAccepted s b r = IsTrue r ↔ IsAccepted s b

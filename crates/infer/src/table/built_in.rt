@@ -1,7 +1,7 @@
 //! The built-in rows, each with what it shows, its matcher and a sample. Their names and numbers follow from this list.
 ghost use Rattle.std.specs.Prelude.{◌≡◌, ◌↔◌, ◌<◌, Some, IsTrue, length, map, slice_get};
 ghost use Rattle.std.specs.List.{list_all};
-ghost use Rattle.infer.specs.BuiltIn.{IsAccepted};
+ghost use Rattle.infer.specs.BuiltIn.{IsAccepted, TellsAccepted};
 ghost use Rattle.infer.specs.Decided.{TellsMayBecome};
 ghost use Rattle.infer.specs.Listed.{buffer_listed, is_inside, number_of, row_listed};
 ghost use Rattle.infer.specs.Row.{Accepts};
@@ -233,14 +233,23 @@ pub(crate) fn samples() -> &'static [Pieces; ROW_COUNT]
     &SAMPLES
 }
 
-/// Whether the row accepts `buf`. Matchers are called by name: a function pointer in a static would hide what its
-/// contract says.
+/// Whether the row accepts `buf`, as its signature tells. Matchers are called by name: a function pointer in a static would
+/// hide what its contract says.
 #[tactic(auto, unfolding(crate::specs::Table::signature_of, crate::specs::Table::table))]
+#[inline(always)]
+fn match_row(name: RowName, buf: &[u8]) -> bool
+    ensures { TellsAccepted (signature_of (number_of name)) buf.now result }
+{
+    with_rows!(matchers name buf)
+}
+
+/// Whether the row accepts `buf`.
+#[tactic(auto, using(crate::proofs::TableLemmas::accepted_as_told))]
 #[inline(always)]
 pub(crate) fn accepts_row(name: RowName, buf: &[u8]) -> bool
     ensures { IsTrue result ↔ IsAccepted (signature_of (number_of name)) buf.now }
 {
-    with_rows!(matchers name buf)
+    match_row(name, buf)
 }
 
 /// Whether some bytes after `buf` make the row accept it, as its signature tells.
