@@ -14,7 +14,7 @@ use infer_evidence::Set::{AllBut, AnyOf, Between};
 use infer_evidence::{Alternative, Search};
 
 /// How many rows stand in a list. The last is filled with rows of no alternative.
-const ROWS_OF_A_LIST: usize = 25;
+const ROWS_OF_A_LIST: usize = 10;
 
 /// The alternatives of a row's signature.
 #[derive(Drop)]
@@ -56,6 +56,9 @@ static KNOWN_FROM_0: [Option<Known>; ROWS_OF_A_LIST] = known! {
     Dex [37 Text(0, b"dex\n"), Byte(36, AnyOf(b"p"))];
     Dey [101 Text(0, b"dey\n"), Text(40, b"dex\n"), Byte(76, AnyOf(b"p"))];
     Der [3 Text(0, b"0\x82")];
+};
+
+static KNOWN_FROM_10: [Option<Known>; ROWS_OF_A_LIST] = known! {
     Coff [3 Text(0, b"d\x86")] [3 Text(0, b"L\x01")] [3 Text(0, b"\0\x02")];
     Pem [12 Text(0, b"-----BEGIN ")];
     Qcow2 [5 Text(0, b"QFI\xFB")];
@@ -66,19 +69,22 @@ static KNOWN_FROM_0: [Option<Known>; ROWS_OF_A_LIST] = known! {
     Png [4 Text(0, b"\x89PNG")];
     Gif [3 Text(0, b"GIF")];
     Webp [12 Text(8, b"WEBP")];
+};
+
+static KNOWN_FROM_20: [Option<Known>; ROWS_OF_A_LIST] = known! {
     Cr2 [11 Text(0, b"II*\0"), Text(8, b"CR\x02")] [11 Text(0, b"MM\0*"), Text(8, b"CR\x02")];
     Tiff [10 Text(0, b"II*\0"), Byte(8, AllBut(0x43)), Byte(9, AllBut(0x52))] [10 Text(0, b"MM\0*"), Byte(8, AllBut(0x43)), Byte(9, AllBut(0x52))];
     Bmp [2 Text(0, b"BM")];
     Jxr [3 Text(0, b"II\xBC")];
     Psd [4 Text(0, b"8BPS")];
-};
-
-static KNOWN_FROM_25: [Option<Known>; ROWS_OF_A_LIST] = known! {
     Ico [4 Text(0, b"\0\0\x01\0")];
     Heif;
     Avif;
     Jxl [3 Text(0, b"\xFF\n")] [13 Text(0, b"\0\0\0\x0CJXL \r\n\x87\n")];
     Ora [58 Text(0, b"PK\x03\x04"), Text(30, b"mimetypeimage/openraster")];
+};
+
+static KNOWN_FROM_30: [Option<Known>; ROWS_OF_A_LIST] = known! {
     Djvu [15 Text(0, b"AT&TFORM"), Text(12, b"DJV")];
     Dwg [6 AnyText(0, &[b"MC0.0\0", b"AC1.2\0", b"AC1.3\0", b"AC1.40", b"AC1.50", b"AC2.10", b"AC2.21", b"AC2.22", b"AC1001", b"AC1002", b"AC1003", b"AC1004", b"AC1006", b"AC1009", b"AC1012", b"AC1013", b"AC1014", b"AC1015", b"AC1018", b"AC1021", b"AC1024", b"AC1027", b"AC1032", b"AC1035"])];
     Mp4 [12 Text(4, b"ftyp"), AnyText(8, &[b"avc1", b"dash", b"iso2", b"iso3", b"iso4", b"iso5", b"iso6", b"isom", b"mmp4", b"mp41", b"mp42", b"mp4v", b"mp71", b"MSNV", b"NDAS", b"NDSC", b"NSDC", b"NDSH", b"NDSM", b"NDSP", b"NDSS", b"NDXC", b"NDXH", b"NDXM", b"NDXP", b"NDXS", b"F4V ", b"F4P "])];
@@ -89,6 +95,9 @@ static KNOWN_FROM_25: [Option<Known>; ROWS_OF_A_LIST] = known! {
     Avi [11 Text(0, b"RIFF"), Text(8, b"AVI")];
     Wmv [10 Text(0, b"0&\xB2u\x8Ef\xCF\x11\xA6\xD9")];
     Mpeg [4 Text(0, b"\0\0\x01"), Byte(3, Between(0xB0, 0xBF))];
+};
+
+static KNOWN_FROM_40: [Option<Known>; ROWS_OF_A_LIST] = known! {
     Flv [4 Text(0, b"FLV\x01")];
     Midi [4 Text(0, b"MThd")];
     Mp3 [3 Text(0, b"ID3")] [3 Byte(0, AnyOf(b"\xFF")), Byte(1, AnyOf(b"\xFB\xF3\xF2"))];
@@ -112,6 +121,9 @@ static KNOWN_FROM_50: [Option<Known>; ROWS_OF_A_LIST] = known! {
     Doc;
     Docx;
     Xls;
+};
+
+static KNOWN_FROM_60: [Option<Known>; ROWS_OF_A_LIST] = known! {
     Xlsx;
     Ppt;
     Pptx;
@@ -122,19 +134,22 @@ static KNOWN_FROM_50: [Option<Known>; ROWS_OF_A_LIST] = known! {
     Zip [4 Text(0, b"PK\x03\x04")] [4 Text(0, b"PK\x05\x06")] [4 Text(0, b"PK\x07\x08")] [8 Text(0, b"PK00PK\x03\x04")];
     Tar [262 Text(257, b"ustar")];
     Par2 [9 Text(0, b"PAR2\0PKT")];
+};
+
+static KNOWN_FROM_70: [Option<Known>; ROWS_OF_A_LIST] = known! {
     Rar [7 Text(0, b"Rar!\x1A\x07"), Byte(6, AnyOf(b"\0\x01"))];
     Gz [3 Text(0, b"\x1F\x8B\x08")];
     Bz2 [3 Text(0, b"BZh")];
     Bz3 [5 Text(0, b"BZ3v1")];
     SevenZ [6 Text(0, b"7z\xBC\xAF'\x1C")];
-};
-
-static KNOWN_FROM_75: [Option<Known>; ROWS_OF_A_LIST] = known! {
     Xz [6 Text(0, b"\xFD7zXZ\0")];
     Pdf;
     Swf [3 Byte(0, AnyOf(b"CF")), Text(1, b"WS")];
     Rtf [5 Text(0, b"{\\rtf")];
     Eot [36 Text(8, b"\x02\0\x01"), Text(34, b"LP")] [36 Text(8, b"\x01\0\0"), Text(34, b"LP")] [36 Text(8, b"\x02\0\x02"), Text(34, b"LP")];
+};
+
+static KNOWN_FROM_80: [Option<Known>; ROWS_OF_A_LIST] = known! {
     Ps [2 Text(0, b"%!")];
     Sqlite [4 Text(0, b"SQLi")];
     Nes [4 Text(0, b"NES\x1A")];
@@ -145,6 +160,9 @@ static KNOWN_FROM_75: [Option<Known>; ROWS_OF_A_LIST] = known! {
     Z [2 Byte(0, AnyOf(b"\x1F")), Byte(1, AnyOf(b"\xA0\x9D"))];
     Lz [4 Text(0, b"LZIP")];
     Rpm [97 Text(0, b"\xED\xAB\xEE\xDB")];
+};
+
+static KNOWN_FROM_90: [Option<Known>; ROWS_OF_A_LIST] = known! {
     Dcm [132 Text(128, b"DICM")];
     Zst;
     Lz4;
@@ -157,40 +175,92 @@ static KNOWN_FROM_75: [Option<Known>; ROWS_OF_A_LIST] = known! {
     NoRow [];
 };
 
+#[tactic(auto, unfolding(crate::specs::Table::signature_of, crate::specs::Table::table))]
 fn known_from_0() -> &'static [Option<Known>; ROWS_OF_A_LIST]
-    ensures { AreListed 0 25 result.now }
+    ensures { AreListed 0 10 result.now }
 {
     &KNOWN_FROM_0
 }
 
-fn known_from_25() -> &'static [Option<Known>; ROWS_OF_A_LIST]
-    ensures { AreListed 25 25 result.now }
+#[tactic(auto, unfolding(crate::specs::Table::signature_of, crate::specs::Table::table))]
+fn known_from_10() -> &'static [Option<Known>; ROWS_OF_A_LIST]
+    ensures { AreListed 10 10 result.now }
 {
-    &KNOWN_FROM_25
+    &KNOWN_FROM_10
 }
 
+#[tactic(auto, unfolding(crate::specs::Table::signature_of, crate::specs::Table::table))]
+fn known_from_20() -> &'static [Option<Known>; ROWS_OF_A_LIST]
+    ensures { AreListed 20 10 result.now }
+{
+    &KNOWN_FROM_20
+}
+
+#[tactic(auto, unfolding(crate::specs::Table::signature_of, crate::specs::Table::table))]
+fn known_from_30() -> &'static [Option<Known>; ROWS_OF_A_LIST]
+    ensures { AreListed 30 10 result.now }
+{
+    &KNOWN_FROM_30
+}
+
+#[tactic(auto, unfolding(crate::specs::Table::signature_of, crate::specs::Table::table))]
+fn known_from_40() -> &'static [Option<Known>; ROWS_OF_A_LIST]
+    ensures { AreListed 40 10 result.now }
+{
+    &KNOWN_FROM_40
+}
+
+#[tactic(auto, unfolding(crate::specs::Table::signature_of, crate::specs::Table::table))]
 fn known_from_50() -> &'static [Option<Known>; ROWS_OF_A_LIST]
-    ensures { AreListed 50 25 result.now }
+    ensures { AreListed 50 10 result.now }
 {
     &KNOWN_FROM_50
 }
 
-fn known_from_75() -> &'static [Option<Known>; ROWS_OF_A_LIST]
-    ensures { AreListed 75 25 result.now }
+#[tactic(auto, unfolding(crate::specs::Table::signature_of, crate::specs::Table::table))]
+fn known_from_60() -> &'static [Option<Known>; ROWS_OF_A_LIST]
+    ensures { AreListed 60 10 result.now }
 {
-    &KNOWN_FROM_75
+    &KNOWN_FROM_60
+}
+
+#[tactic(auto, unfolding(crate::specs::Table::signature_of, crate::specs::Table::table))]
+fn known_from_70() -> &'static [Option<Known>; ROWS_OF_A_LIST]
+    ensures { AreListed 70 10 result.now }
+{
+    &KNOWN_FROM_70
+}
+
+#[tactic(auto, unfolding(crate::specs::Table::signature_of, crate::specs::Table::table))]
+fn known_from_80() -> &'static [Option<Known>; ROWS_OF_A_LIST]
+    ensures { AreListed 80 10 result.now }
+{
+    &KNOWN_FROM_80
+}
+
+#[tactic(auto, unfolding(crate::specs::Table::signature_of, crate::specs::Table::table))]
+fn known_from_90() -> &'static [Option<Known>; ROWS_OF_A_LIST]
+    ensures { AreListed 90 10 result.now }
+{
+    &KNOWN_FROM_90
 }
 
 /// The row with which a list begins in which this one stands, and the list.
 fn list_of(row: usize) -> (usize, &'static [Option<Known>; ROWS_OF_A_LIST])
     ensures begins { result.0 ≤ row }
-    ensures listed { AreListed result.0 25 result.1.now }
+    ensures listed { AreListed result.0 10 result.1.now }
 {
     match row {
-        0..=24 => (0, known_from_0()),
-        25..=49 => (25, known_from_25()),
-        50..=74 => (50, known_from_50()),
-        75.. => (75, known_from_75()),
+        0..=9 => (0, known_from_0()),
+        10..=19 => (10, known_from_10()),
+        20..=29 => (20, known_from_20()),
+        30..=39 => (30, known_from_30()),
+        40..=49 => (40, known_from_40()),
+        50..=59 => (50, known_from_50()),
+        60..=69 => (60, known_from_60()),
+        70..=79 => (70, known_from_70()),
+        80..=89 => (80, known_from_80()),
+        90.. => (90, known_from_90()),
     }
 }
 
