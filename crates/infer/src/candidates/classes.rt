@@ -40,7 +40,7 @@ impl<C: Class> Question for OfClass<C> {
 macro_rules! some_of {
     ($arm:ident $buf:ident $($($name:ident)+ ($($row:tt)*))*) => {
         match $arm {
-            $($(Arm::$name)|+ => Outlined(chain!($($row)*)).some($buf),)*
+            $($(Arm::$name)|+ => Outlined::<chain!($($row)*)>::some($buf),)*
         }
     };
 }

@@ -17,85 +17,78 @@ use infer_deep::archive::after_skippable_frames;
 use infer_deep::doc::deciding_folder;
 use infer_deep::places::stands_at;
 use infer_deep::text::after_white_space;
+use std::marker::PhantomData;
 
 /// The number that no row has.
 const NO_ROW: u32 = u32::MAX;
 
-/// Rows to ask, in this order.
+/// Rows to ask, in this order, which the type names.
 pub trait Chain {
-    ghost rows: { Self → List ℕ };
+    ghost rows: { List ℕ };
 
     /// The first that accepts `buf`.
-    fn first(&self, buf: &[u8]) -> Option<usize>
-        ensures { IsFirstAmong (RowHas (Accepts buf.now)) (rows self.now) result };
+    fn first(buf: &[u8]) -> Option<usize>
+        ensures { IsFirstAmong (RowHas (Accepts buf.now)) rows result };
 }
 
 /// No row.
-#[derive(Drop)]
 pub struct End;
 
 /// A row, and then others.
-#[derive(Drop)]
-pub struct Then<const I: usize, C>(pub C);
+pub struct Then<const I: usize, C>(PhantomData<C>);
 
 /// Three rows, and then others. A chain of threes is shorter, and so its proof.
-#[derive(Drop)]
-pub struct ThenThree<const I: usize, const J: usize, const K: usize, C>(pub C);
+pub struct ThenThree<const I: usize, const J: usize, const K: usize, C>(PhantomData<C>);
 
 /// The three types of Office in ZIP archives, whose deciding folder is looked for once, and then others.
-#[derive(Drop)]
-pub struct ThenOffice<C>(pub C);
+pub struct ThenOffice<C>(PhantomData<C>);
 
 /// Two rows that pass over the same beginning of a buffer, which is passed over once, and then others.
-#[derive(Drop)]
-pub struct ThenTwo<const I: usize, const J: usize, S, C>(pub S, pub C);
+pub struct ThenTwo<const I: usize, const J: usize, S, C>(PhantomData<(S, C)>);
 
 /// The beginning that two rows pass over.
-pub trait Shared<const I: usize, const J: usize>: Drop {
+pub trait Shared<const I: usize, const J: usize> {
     /// What follows it in `buf`. Both rows answer of it as of `buf`.
-    fn after<'a>(&self, buf: &'a [u8]) -> &'a [u8]
+    fn after<'a>(buf: &'a [u8]) -> &'a [u8]
         ensures first { RowHas (Accepts result.now) I ↔ RowHas (Accepts buf.now) I }
         ensures second { RowHas (Accepts result.now) J ↔ RowHas (Accepts buf.now) J };
 }
 
 /// Zstandard and LZ4, after skippable frames.
-#[derive(Drop)]
 pub struct Frames;
 
 /// HTML and XML, after white space.
-#[derive(Drop)]
 pub struct Markup;
 
 /// A chain as a function of its own.
-#[derive(Drop)]
-pub struct Outlined<C>(pub C);
+pub struct Outlined<C>(PhantomData<C>);
 
 impl Chain for End {
-    ghost rows = { λ _. [] };
+    ghost rows = { [] };
 
     #[inline(always)]
-    fn first(&self, _buf: &[u8]) -> Option<usize> {
+    fn first(_buf: &[u8]) -> Option<usize> {
         None
     }
 }
 
 impl<const I: usize, C: Chain> Chain for Then<I, C> {
-    ghost rows = { λ s. I ∷ C.rows s.0 };
+    ghost rows = { I ∷ C.rows };
 
     #[inline(always)]
-    fn first(&self, buf: &[u8]) -> Option<usize> {
+    fn first(buf: &[u8]) -> Option<usize> {
         if accepts(buf, I) {
             return Some(I);
         }
-        self.0.first(buf)
+        C::first(buf)
     }
 }
 
 impl<const I: usize, const J: usize, const K: usize, C: Chain> Chain for ThenThree<I, J, K, C> {
-    ghost rows = { λ s. I ∷ J ∷ K ∷ C.rows s.0 };
+    ghost rows = { I ∷ J ∷ K ∷ C.rows };
 
     #[inline(always)]
-    fn first(&self, buf: &[u8]) -> Option<usize> {
+    fn first(buf: &[u8]) -> Option<usize> {
         if accepts(buf, I) {
             return Some(I);
         }
@@ -105,44 +98,44 @@ impl<const I: usize, const J: usize, const K: usize, C: Chain> Chain for ThenThr
         if accepts(buf, K) {
             return Some(K);
         }
-        self.0.first(buf)
+        C::first(buf)
     }
 }
 
 impl<C: Chain> Chain for ThenOffice<C> {
     ghost use Rattle.infer.specs.declared.table.rows.TheConstants.{DOCX, PPTX, XLSX};
 
-    ghost rows = { λ s. DOCX ∷ XLSX ∷ PPTX ∷ C.rows s.0 };
+    ghost rows = { DOCX ∷ XLSX ∷ PPTX ∷ C.rows };
 
     #[inline(always)]
-    fn first(&self, buf: &[u8]) -> Option<usize> {
+    fn first(buf: &[u8]) -> Option<usize> {
         match office_row(buf) {
             Some(row) => Some(row),
-            None => self.0.first(buf),
+            None => C::first(buf),
         }
     }
 }
 
 impl<const I: usize, const J: usize, S: Shared<I, J>, C: Chain> Chain for ThenTwo<I, J, S, C> {
-    ghost rows = { λ s. I ∷ J ∷ C.rows s.1 };
+    ghost rows = { I ∷ J ∷ C.rows };
 
     #[inline(always)]
-    fn first(&self, buf: &[u8]) -> Option<usize> {
-        let rest = self.0.after(buf);
+    fn first(buf: &[u8]) -> Option<usize> {
+        let rest = S::after(buf);
         if accepts(rest, I) {
             return Some(I);
         }
         if accepts(rest, J) {
             return Some(J);
         }
-        self.1.first(buf)
+        C::first(buf)
     }
 }
 
 impl Shared<{ ZST }, { LZ4 }> for Frames {
     #[tactic(auto, unfolding(crate::specs::Table::table))]
     #[inline(always)]
-    fn after<'a>(&self, buf: &'a [u8]) -> &'a [u8] {
+    fn after<'a>(buf: &'a [u8]) -> &'a [u8] {
         after_skippable_frames(buf)
     }
 }
@@ -150,17 +143,17 @@ impl Shared<{ ZST }, { LZ4 }> for Frames {
 impl Shared<{ HTML }, { XML }> for Markup {
     #[tactic(auto, unfolding(crate::specs::Table::table))]
     #[inline(always)]
-    fn after<'a>(&self, buf: &'a [u8]) -> &'a [u8] {
+    fn after<'a>(buf: &'a [u8]) -> &'a [u8] {
         after_white_space(buf)
     }
 }
 
 impl<C: Chain> Chain for Outlined<C> {
-    ghost rows = { λ s. C.rows s.0 };
+    ghost rows = { C.rows };
 
     #[inline(never)]
-    fn first(&self, buf: &[u8]) -> Option<usize> {
-        self.0.first(buf)
+    fn first(buf: &[u8]) -> Option<usize> {
+        C::first(buf)
     }
 }
 
@@ -168,10 +161,10 @@ impl<C: Chain> Outlined<C> {
     /// The number of the first row, as [`Chain::first`] answers, and [`NO_ROW`] for none. A number takes one register.
     #[tactic(auto, using(crate::proofs::CandidateLemmas::first_is_row, crate::proofs::CandidateLemmas::numbered_row))]
     #[inline(never)]
-    pub fn number(&self, buf: &[u8]) -> u32
-        ensures { IsFirstAmong (RowHas (Accepts buf.now)) (C.rows self.now.0) (row_numbered result) }
+    pub fn number(buf: &[u8]) -> u32
+        ensures { IsFirstAmong (RowHas (Accepts buf.now)) C.rows (row_numbered result) }
     {
-        match self.0.first(buf) {
+        match C::first(buf) {
             Some(row) => row as u32,
             None => NO_ROW,
         }
@@ -179,10 +172,10 @@ impl<C: Chain> Outlined<C> {
 
     /// Whether some row of the chain accepts `buf`.
     #[inline(never)]
-    pub fn some(&self, buf: &[u8]) -> bool
-        ensures { TellsSome (C.rows self.now.0) buf.now result }
+    pub fn some(buf: &[u8]) -> bool
+        ensures { TellsSome C.rows buf.now result }
     {
-        self.0.first(buf).is_some()
+        C::first(buf).is_some()
     }
 }
 
@@ -249,32 +242,33 @@ macro_rules! list_at {
 macro_rules! number_at {
     ([$arm:ident $buf:ident] $($name:ident ($($row:tt)*))*) => {
         match $arm {
-            $(Arm::$name => Outlined(chain!($($row)*)).number($buf),)*
+            $(Arm::$name => Outlined::<chain!($($row)*)>::number($buf),)*
         }
     };
 }
 
+// The rows as the type of a chain.
 macro_rules! chain {
     () => {
         End
     };
     (/ $($rest:tt)*) => {
-        Outlined(chain!($($rest)*))
+        Outlined<chain!($($rest)*)>
     };
     ([DOCX XLSX PPTX] $($rest:tt)*) => {
-        ThenOffice(chain!($($rest)*))
+        ThenOffice<chain!($($rest)*)>
     };
     ([ZST LZ4] $($rest:tt)*) => {
-        ThenTwo::<ZST, LZ4, Frames, _>(Frames, chain!($($rest)*))
+        ThenTwo<ZST, LZ4, Frames, chain!($($rest)*)>
     };
     ([HTML XML] $($rest:tt)*) => {
-        ThenTwo::<HTML, XML, Markup, _>(Markup, chain!($($rest)*))
+        ThenTwo<HTML, XML, Markup, chain!($($rest)*)>
     };
     ($i:ident $j:ident $k:ident $($rest:tt)*) => {
-        ThenThree::<$i, $j, $k, _>(chain!($($rest)*))
+        ThenThree<$i, $j, $k, chain!($($rest)*)>
     };
     ($i:ident $($rest:tt)*) => {
-        Then::<$i, _>(chain!($($rest)*))
+        Then<$i, chain!($($rest)*)>
     };
 }
 
