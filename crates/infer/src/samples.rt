@@ -39,7 +39,9 @@ fn write(pieces: &Pieces, out: &mut [u8; SAMPLE_SIZE])
 {
     *out = [0; SAMPLE_SIZE];
     put(0, pieces.front, out);
-    put(pieces.place, pieces.text, out);
+    if let Some(piece) = &pieces.behind {
+        put(piece.place, piece.text, out);
+    }
 }
 
 /// Writes the sample of the built-in row `i` to the front of `out`, and zeros after it, and gives its length.

@@ -159,18 +159,20 @@ macro_rules! samples {
         [$(Pieces {
             len: $len,
             front: $front,
-            place: or_else!(0 $($place)?),
-            text: or_else!(b"" $($text)?),
+            behind: piece!($($place $text)?),
         }),*]
     };
 }
 
-macro_rules! or_else {
-    ($default:literal) => {
-        $default
+macro_rules! piece {
+    () => {
+        None
     };
-    ($default:literal $given:literal) => {
-        $given
+    ($place:literal $text:literal) => {
+        Some(Piece {
+            place: $place,
+            text: $text,
+        })
     };
 }
 
@@ -181,10 +183,16 @@ pub(crate) struct BuiltInRow {
     pub row: RowName,
 }
 
-/// A buffer of `len` bytes: zeros, but for one text at 0 and one at `place`.
+/// A buffer of `len` bytes: zeros, but for the text at 0, and maybe a piece behind it.
 pub(crate) struct Pieces {
     pub len: usize,
     pub front: &'static [u8],
+    pub behind: Option<Piece>,
+}
+
+/// A text at a place.
+#[derive(Drop)]
+pub(crate) struct Piece {
     pub place: usize,
     pub text: &'static [u8],
 }
