@@ -135,24 +135,25 @@ ROWS_OF_A_LINE, LINES = 16, 16
 ROWS_AT_ONCE = ROWS_OF_A_LINE * LINES
 OF_ROWS = """-- Made by `tools/tables`: the rows of the code are those of the definitions, and a zero stands after each of their texts, sixteen
 -- rows a line, so that a line which is refused tells of which rows.
-use Rattle.infer_more.proofs.Common.{{{names}, ◌≡◌, drop, length, map, refl}}
-use Rattle.infer_more.proofs.ListedLemmas.{{AreAlike, listed, shown, walked}}
+use Rattle.infer_more.proofs.Common.{{{names}, ◌≡◌, drop, length, map, refl, subst}}
+use Rattle.infer_more.proofs.ListedLemmas.{{AreAlike, listed, listed_is, listed_near, shown, walked}}
 use Rattle.infer_more.specs.Listed.{{alternatives, asked_texts, extensions, mime_types, pieces, relations, rows}}
 use Rattle.infer_more.specs.declared.listed.relations.TheConstants.{{RELATION_COUNT}}
 {lines}
-behind : map listed (drop {past} rows) ≡ map shown (drop {past} further)
+behind : map listed_near (drop {past} rows) ≡ map shown (drop {past} further)
 unfolding rows {unfolded}
 behind = refl
 
 pub rows_listed : map listed rows ≡ map shown further
-rows_listed = {walked}
+rows_listed = subst (λ listed. map listed rows ≡ map shown further) listed_is
+    ({walked})
 
 pub length-relations : length relations ≡ RELATION_COUNT
 unfolding relations {unfolded}
 length-relations = refl
 """
 LINES_OF_ROWS = """
-from_{first} : AreAlike listed shown rows further {first}
+from_{first} : AreAlike listed_near shown rows further {first}
 unfolding alternatives asked_texts extensions mime_types pieces relations rows {unfolded}
 from_{first} = (
 {lines}
@@ -335,7 +336,7 @@ def answers(rows, names):
     firsts = range(0, len(rows), ROWS_AT_ONCE)
     walked = "behind"
     for first in reversed(firsts):
-        walked = f"walked listed shown rows further {first} {first + ROWS_AT_ONCE} refl from_{first} {walked if first == firsts[-1] else f'({walked})'}"
+        walked = f"walked listed_near shown rows further {first} {first + ROWS_AT_ONCE} refl from_{first} {walked if first == firsts[-1] else f'({walked})'}"
     yield "ListedRows", OF_ROWS.format(
         names=joined, unfolded=unfolded, lines="".join(of_rows(first, unfolded) for first in firsts), walked=walked, past=firsts[-1] + ROWS_AT_ONCE)
     for first, _ in in_lists(rows):

@@ -1,6 +1,7 @@
 pub mod Common
 pub mod ListLemmas
 pub mod AsciiLemmas
+pub mod NearLemmas
 pub mod ListedLemmas
 pub mod ListedRows
 pub mod JoinedLemmas

@@ -1,10 +1,22 @@
 -- The rows that the code lists, some at a time, beside those of the definitions.
-use Rattle.infer_more.proofs.Common.{◌≡◌, ◌+◌, ◌∙◌, ℕ, zero, suc, List, ◌++◌, [], ◌∷◌, Option, None, Some, get_or, get_or_from_slice_get, refl, ap, arith, drop, map, option_map, subst, sym, Further, FurtherRow, ended_shown, row_listed, slice_get-map}
-use Rattle.std.proofs.Common.{slice_get}
+use Rattle.infer_more.proofs.Common.{◌≡◌, ◌+◌, ◌==◌, ◌∙◌, ℕ, zero, suc, List, ◌++◌, [], ◌∷◌, Option, None, Some, get_or, get_or_from_slice_get, if◌then◌else◌, refl, ap, arith, drop, map, option_map, subst, sym, Further, FurtherRow, ended_shown, row_listed, slice_get-map}
+use Rattle.std.proofs.Common.{ap₂, slice_get}
+use Rattle.std.proofs.Math.Path.{fun_ext}
 use Rattle.std.proofs.lemmas.List.{drop-drop, map-append, take-append-drop}
+use Rattle.infer.specs.Triple.{triple}
 use Rattle.infer_formats.specs.Relation.{Relation, plain_text}
+use Rattle.infer_more.proofs.NearLemmas.{Stretches, near, near_is}
 use Rattle.infer_more.specs.Ended.{Ended}
-use Rattle.infer_more.specs.Listed.{ended_of, relation_at, relations, stretch}
+use Rattle.infer_more.specs.Listed.{alternative_listed, alternatives, asked_texts, ended_of, extensions, mime_types, pieces, relation_at, relations, stretch}
+use Rattle.infer_more.specs.declared.listed.Alternative.{Alternative}
+use Rattle.infer_more.specs.declared.listed.Alternative.TheVariants.{BinaryBytes, Bytes, Related}
+use Rattle.infer_more.specs.declared.listed.Bytes as code
+use Rattle.infer_more.specs.declared.listed.Piece.{Piece}
+use Rattle.infer_more.specs.declared.listed.Piece.TheVariants.{At, Between, OneOf}
+use Rattle.infer_notation.specs.Alternative as signature
+use Rattle.infer_notation.specs.Alternative.{binary_bytes, bytes, related}
+use Rattle.infer_sig.specs.Signature as fixed
+use Rattle.infer_sig.specs.Signature.{Part, any_of, at_least, between, byte, text}
 
 -- the row, and its texts with what stands after each;  and as the definitions have both
 abbrev pub listed : FurtherRow → Further × Ended
@@ -12,6 +24,61 @@ listed r = (row_listed r, ended_of r)
 
 abbrev pub shown : Further → Further × Ended
 shown r = (r, ended_shown r.shows)
+
+-- the same by what stands near in the code's lists: first what a piece asks, and an alternative of bytes
+abbrev part_by : Stretches ℕ → Piece → Part
+part_by asked (At place t) = text place (asked t.start t.count)
+part_by asked (OneOf place set) = byte place (any_of (asked set.start set.count))
+part_by asked (Between place low high) = if low == high then text place (low ∷ []) else byte place (between low high)
+
+abbrev bytes_by : Stretches ℕ → Stretches Piece → code.Bytes → fixed.Alternative
+bytes_by asked pieces a = at_least a.least (map (part_by asked) (pieces a.pieces.start a.pieces.count))
+
+-- a relation, which is the only element of a stretch
+abbrev relation_by : Stretches Relation → ℕ → Relation
+relation_by relations number = get_or (relations number 1) 0 plain_text
+
+abbrev alternative_by : (code.Bytes → fixed.Alternative) → (ℕ → Relation) → Alternative → signature.Alternative
+alternative_by asked relation (Bytes a) = bytes (asked a)
+alternative_by asked relation (BinaryBytes a) = binary_bytes (asked a)
+alternative_by asked relation (Related number) = related (relation number)
+
+-- and a row, with what stands after its texts
+abbrev row_by : (Alternative → signature.Alternative) → Stretches Alternative → Stretches ℕ → Stretches ℕ → FurtherRow → Further × Ended
+row_by asked alternatives mime_types extensions r = (
+  record {
+    shows = triple r.matcher_type (mime_types r.mime_type.start r.mime_type.count) (extensions r.extension.start r.extension.count);
+    parent = r.parent;
+    signature = map asked (alternatives r.signature.start r.signature.count);
+  },
+  record {
+    mime_type = mime_types r.mime_type.start (r.mime_type.count + 1);
+    extension = extensions r.extension.start (r.extension.count + 1);
+  },
+)
+
+abbrev asked_near : Alternative → signature.Alternative
+asked_near = alternative_by (bytes_by (near asked_texts) (near pieces)) (relation_by (near relations))
+
+abbrev pub listed_near : FurtherRow → Further × Ended
+listed_near = row_by asked_near (near alternatives) (near mime_types) (near extensions)
+
+first_left : (n : ℕ) (list : List Relation) → get_or (stretch list n 1) 0 plain_text ≡ get_or list n plain_text
+first_left zero [] = refl
+first_left zero (r ∷ list) = refl
+first_left (suc n) [] = refl
+first_left (suc n) (r ∷ list) = first_left n list
+
+relation_is : relation_by (near relations) ≡ relation_at
+relation_is = ap relation_by (near_is relations) ∙ fun_ext (λ n. first_left n relations)
+
+asked_is : asked_near ≡ alternative_listed
+asked_is = ap₂ alternative_by (ap₂ bytes_by (near_is asked_texts) (near_is pieces)) relation_is
+
+pub listed_is : listed_near ≡ listed
+listed_is =
+    ap₂ (λ asked alternatives. row_by asked alternatives (near mime_types) (near extensions)) asked_is (near_is alternatives)
+    ∙ ap₂ (row_by alternative_listed (stretch alternatives)) (near_is mime_types) (near_is extensions)
 
 module _ {A B C : Type 0} (f : A → C) (g : B → C) (xs : List A) (ys : List B) where
   -- sixteen elements from s on have the same images in either list

@@ -1,11 +1,11 @@
 -- Made by `tools/tables`: the rows of the code are those of the definitions, and a zero stands after each of their texts, sixteen
 -- rows a line, so that a line which is refused tells of which rows.
-use Rattle.infer_more.proofs.Common.{archives, assorted, bitmaps, bundles, buried, captions, chunks, code, compiled, consoles, databases, deeper, dialects, disks, documents, elements, farther, further, games, headers, headlines, images, inner, keyrings, kinds, late, letters, markup, measures, media, mended, notations, objects, office, openings, others, packages, packed, papers, pictures, prefaces, prints, rasters, records, remarks, roots, schemas, science, scores, scripts, secrets, settings, shallow, shapes, sounds, squeezed, stores, texts, tunes, unheaded, volumes, ◌≡◌, drop, length, map, refl}
-use Rattle.infer_more.proofs.ListedLemmas.{AreAlike, listed, shown, walked}
+use Rattle.infer_more.proofs.Common.{archives, assorted, bitmaps, bundles, buried, captions, chunks, code, compiled, consoles, databases, deeper, dialects, disks, documents, elements, farther, further, games, headers, headlines, images, inner, keyrings, kinds, late, letters, markup, measures, media, mended, notations, objects, office, openings, others, packages, packed, papers, pictures, prefaces, prints, rasters, records, remarks, roots, schemas, science, scores, scripts, secrets, settings, shallow, shapes, sounds, squeezed, stores, texts, tunes, unheaded, volumes, ◌≡◌, drop, length, map, refl, subst}
+use Rattle.infer_more.proofs.ListedLemmas.{AreAlike, listed, listed_is, listed_near, shown, walked}
 use Rattle.infer_more.specs.Listed.{alternatives, asked_texts, extensions, mime_types, pieces, relations, rows}
 use Rattle.infer_more.specs.declared.listed.relations.TheConstants.{RELATION_COUNT}
 
-from_0 : AreAlike listed shown rows further 0
+from_0 : AreAlike listed_near shown rows further 0
 unfolding alternatives asked_texts extensions mime_types pieces relations rows archives assorted bitmaps bundles buried captions chunks code compiled consoles databases deeper dialects disks documents elements farther further games headers headlines images inner keyrings kinds late letters markup measures media mended notations objects office openings others packages packed papers pictures prefaces prints rasters records remarks roots schemas science scores scripts secrets settings shallow shapes sounds squeezed stores texts tunes unheaded volumes
 from_0 = (
   refl,  -- 0 to 15
@@ -26,7 +26,7 @@ from_0 = (
   refl,  -- 240 to 255
 )
 
-from_256 : AreAlike listed shown rows further 256
+from_256 : AreAlike listed_near shown rows further 256
 unfolding alternatives asked_texts extensions mime_types pieces relations rows archives assorted bitmaps bundles buried captions chunks code compiled consoles databases deeper dialects disks documents elements farther further games headers headlines images inner keyrings kinds late letters markup measures media mended notations objects office openings others packages packed papers pictures prefaces prints rasters records remarks roots schemas science scores scripts secrets settings shallow shapes sounds squeezed stores texts tunes unheaded volumes
 from_256 = (
   refl,  -- 256 to 271
@@ -47,7 +47,7 @@ from_256 = (
   refl,  -- 496 to 511
 )
 
-from_512 : AreAlike listed shown rows further 512
+from_512 : AreAlike listed_near shown rows further 512
 unfolding alternatives asked_texts extensions mime_types pieces relations rows archives assorted bitmaps bundles buried captions chunks code compiled consoles databases deeper dialects disks documents elements farther further games headers headlines images inner keyrings kinds late letters markup measures media mended notations objects office openings others packages packed papers pictures prefaces prints rasters records remarks roots schemas science scores scripts secrets settings shallow shapes sounds squeezed stores texts tunes unheaded volumes
 from_512 = (
   refl,  -- 512 to 527
@@ -68,7 +68,7 @@ from_512 = (
   refl,  -- 752 to 767
 )
 
-from_768 : AreAlike listed shown rows further 768
+from_768 : AreAlike listed_near shown rows further 768
 unfolding alternatives asked_texts extensions mime_types pieces relations rows archives assorted bitmaps bundles buried captions chunks code compiled consoles databases deeper dialects disks documents elements farther further games headers headlines images inner keyrings kinds late letters markup measures media mended notations objects office openings others packages packed papers pictures prefaces prints rasters records remarks roots schemas science scores scripts secrets settings shallow shapes sounds squeezed stores texts tunes unheaded volumes
 from_768 = (
   refl,  -- 768 to 783
@@ -89,12 +89,13 @@ from_768 = (
   refl,  -- 1008 to 1023
 )
 
-behind : map listed (drop 1024 rows) ≡ map shown (drop 1024 further)
+behind : map listed_near (drop 1024 rows) ≡ map shown (drop 1024 further)
 unfolding rows archives assorted bitmaps bundles buried captions chunks code compiled consoles databases deeper dialects disks documents elements farther further games headers headlines images inner keyrings kinds late letters markup measures media mended notations objects office openings others packages packed papers pictures prefaces prints rasters records remarks roots schemas science scores scripts secrets settings shallow shapes sounds squeezed stores texts tunes unheaded volumes
 behind = refl
 
 pub rows_listed : map listed rows ≡ map shown further
-rows_listed = walked listed shown rows further 0 256 refl from_0 (walked listed shown rows further 256 512 refl from_256 (walked listed shown rows further 512 768 refl from_512 (walked listed shown rows further 768 1024 refl from_768 behind)))
+rows_listed = subst (λ listed. map listed rows ≡ map shown further) listed_is
+    (walked listed_near shown rows further 0 256 refl from_0 (walked listed_near shown rows further 256 512 refl from_256 (walked listed_near shown rows further 512 768 refl from_512 (walked listed_near shown rows further 768 1024 refl from_768 behind))))
 
 pub length-relations : length relations ≡ RELATION_COUNT
 unfolding relations archives assorted bitmaps bundles buried captions chunks code compiled consoles databases deeper dialects disks documents elements farther further games headers headlines images inner keyrings kinds late letters markup measures media mended notations objects office openings others packages packed papers pictures prefaces prints rasters records remarks roots schemas science scores scripts secrets settings shallow shapes sounds squeezed stores texts tunes unheaded volumes
