@@ -1,6 +1,6 @@
 -- The parts of a prolog, the tag that they lead to, the name of the document type, and what more bytes may make of them.
 use Rattle.infer_formats.proofs.Common.{◌≡◌, ◌↔◌, ℕ, ◌+◌, ◌-◌, ◌<◌, ◌≤◌, ◌⊎◌, inl, inr, List, ◌++◌, Option, None, Some, length, codes, get_or, add-zero, refl, sym, subst, ap, ◌∙◌, arith, cases_lt, slice_range, OccursAt, Lasts, AgreesWithDoctype, BeginsAt, BeginsElement, ClosesDeclaration, HasRoot, HasRootWith, IsDoctype, IsEnclosed, IsMisc, IsPart, IsRootElement, IsSpaceRun, EndsType, IsXmlSpace, ReachesTag, StartsTag, utf8_mark, IsAfterLast, IsRun, zero, suc, drop, get_or_append_left, AgreesAt, MayBecome, grown_agrees, OccursAt-front, HasInTag, drop-append-le, IsNameByte, MayReachTag}
-use Rattle.infer_formats.specs.Markup.{StartsElement, here, later}
+use Rattle.infer_formats.specs.Markup.{StartsElement, TellsRoot, here, later}
 use Rattle.infer_formats.proofs.FrontLemmas.{SharesFront, after_last_shared, byte_shared, byte_shared_back, front_grows, front_swaps, range_shared, run_shared, text_shared}
 use Rattle.infer_formats.proofs.RunLemmas.{one_after_last, one_run_end}
 use Rattle.infer_formats.proofs.SubsetLemmas.{close_lasts, close_within, comment_first, enclosed_lasts, instruction_first, one_close, one_enclosed}
@@ -397,3 +397,15 @@ root_stays_with b n rest name text is (more, bytes, (other, root, in_tag)) =
 
 pub without_text : (b name text : List ℕ) → MayBecome (HasRootWith name text) b → MayBecome (HasRoot name) b
 without_text b name text (more, bytes, (rest, root, in_tag)) = (more, bytes, (rest, root))
+
+-- ---- what tells the root element: a root whose tag has ended, and that there will be none
+pub ended_tells : (b n rest : List ℕ) → IsRootElement n rest b → HasClosing rest → TellsRoot b
+ended_tells b n rest is closes m o ms os name text = (
+  λ h. let same = root_stays b n rest name is (m, ms, h) in HasRoot-lasts name b o (rest, subst (λ x. IsRootElement x rest b) same is),
+  λ h. let stays = root_stays_with b n rest name text is (m, ms, h) in
+      HasRootWith-lasts name text b o (rest, subst (λ x. IsRootElement x rest b) stays.0 is, in_tag_ended text rest closes stays.1),
+)
+
+pub never_tells : (b : List ℕ) → ((name : List ℕ) → ¬ MayBecome (HasRoot name) b) → TellsRoot b
+never_tells b never m o ms os name text =
+    (λ h. absurd (never name (m, ms, h)), λ h. absurd (never name (without_text b name text (m, ms, h))))

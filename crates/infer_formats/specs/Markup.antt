@@ -1,10 +1,11 @@
 -- Markup, by its root element: the first element, behind a prolog of white space, processing instructions, comments and
 -- at most one document type declaration.
-use Rattle.std.specs.Prelude.{◌≡◌, ◌≢◌, ◌↔◌, ℕ, ◌+◌, ◌-◌, ◌<◌, ◌≤◌, ◌⊎◌, List, [], ◌∷◌, ◌++◌, length, codes, drop, slice_index, slice_range, Option, None, Some, MatchOption}
+use Rattle.std.specs.Prelude.{◌≡◌, ◌≢◌, ◌↔◌, ℕ, ◌+◌, ◌-◌, ◌<◌, ◌≤◌, ◌⊎◌, All, Bool, IsTrue, List, [], ◌∷◌, ◌++◌, length, codes, drop, slice_index, slice_range, Option, None, Some, MatchOption}
 use Rattle.memchr.specs.Find.{OccursAt}
 use Rattle.infer_deep.specs.Open.{AgreesAt}
 use Rattle.infer_deep.specs.Places.{IsFirstPlace}
 use Rattle.infer_formats.specs.Runs.{IsAfterLast, IsRun}
+use Rattle.infer_formats.specs.declared.markup.Root.{Root}
 
 -- white space, of which XML has no 0C
 abbrev pub IsXmlSpace : ℕ → Type 0
@@ -142,6 +143,10 @@ abbrev pub IsRootElement : List ℕ → List ℕ → List ℕ → Type 0
 IsRootElement name rest b =
     (p at to : ℕ) × BeginsAt b p × ReachesTag b at to p None × (name ≡ slice_range b at to) × (rest ≡ drop to b)
 
+-- the root element of b is this one, or b has none
+abbrev pub IsRootOf : Option Root → List ℕ → Type 0
+IsRootOf root b = MatchOption root ((name rest : List ℕ) → ¬ IsRootElement name rest b) (λ r. IsRootElement r.name.now r.rest.now b)
+
 -- the text stands in `rest` before its first ">", or anywhere if it has none
 abbrev pub HasInTag : List ℕ → List ℕ → Type 0
 HasInTag text rest = (p : ℕ) × OccursAt rest text p × ((k : ℕ) → k < p + length text → slice_index rest k ≢ 0x3E)
@@ -153,6 +158,19 @@ HasRoot name b = (rest : List ℕ) × IsRootElement name rest b
 -- and the text in its tag behind the name
 abbrev pub HasRootWith : List ℕ → List ℕ → List ℕ → Type 0
 HasRootWith name text b = (rest : List ℕ) × IsRootElement name rest b × HasInTag text rest
+
+-- whatever bytes follow b, its root element has the same name, and the same texts in its tag
+abbrev pub TellsRoot : List ℕ → Type 0
+TellsRoot b = (m n : List ℕ) → All (λ x. x < 256) m → All (λ x. x < 256) n → (name text : List ℕ)
+    → (HasRoot name (b ++ m) → HasRoot name (b ++ n)) × (HasRootWith name text (b ++ m) → HasRootWith name text (b ++ n))
+
+-- P asks for nothing but the root element: where that is told, P is
+abbrev pub IsOfRoot : (List ℕ → Type 0) → Type 0
+IsOfRoot P = (b m n : List ℕ) → TellsRoot b → All (λ x. x < 256) m → All (λ x. x < 256) n → P (b ++ m) → P (b ++ n)
+
+-- and so it is told by this root element, if there is one, whether a buffer has P
+abbrev pub TellsByRoot : Option Root → (List ℕ → Type 0) → Bool → Type 0
+TellsByRoot root P answer = IsOfRoot P × ((b : List ℕ) → IsRootOf root b → (IsTrue answer ↔ P b))
 
 -- behind a "<" the name of an element stands at p, or another "<" there or behind
 abbrev pub MayStart : List ℕ → ℕ → Type 0

@@ -1,7 +1,7 @@
 //! Markup, by its root element: Extensible Markup Language (XML) 1.0 (W3C), sections 2.8 and 3.1.
 ghost use Rattle.std.specs.Prelude.{◌≡◌, ◌↔◌, ◌+◌, ◌<◌, ◌≤◌, ℕ, List, length, slice_index, IsTrue, IfSome, MatchOption};
 ghost use Rattle.infer_deep.specs.Open.{AgreesAt};
-ghost use Rattle.infer_formats.specs.Markup.{HasInTag, HasRoot, HasRootWith, IsRootElement, MayBeRooted, MayStart, utf8_mark};
+ghost use Rattle.infer_formats.specs.Markup.{HasInTag, HasRoot, HasRootWith, IsRootElement, IsRootOf, MayBeRooted, MayStart, utf8_mark};
 
 mod names;
 mod open;
@@ -11,7 +11,7 @@ use crate::search::find_early;
 use infer_deep::places::{has_at, may_stand_at};
 use memchr::memchr;
 use names::{begins_element, is_xml_space};
-pub use open::{may_have_root, may_have_root_with};
+pub use open::{may_have_root, may_have_root_with, tells_root};
 use prolog::{prolog_behind, tag_at};
 
 /// The root element of markup.
@@ -34,14 +34,32 @@ impl Root<'_> {
     }
 }
 
+/// Whether a buffer with this root element, or with none, has one of this local name.
+pub fn has_name(root: &Option<Root<'_>>, name: &[u8]) -> bool
+    ensures { (b : List ℕ) → IsRootOf root.now b → (IsTrue result ↔ HasRoot name.now b) }
+{
+    match root {
+        Some(root) => root.name == name,
+        None => false,
+    }
+}
+
+/// Whether it has one of this local name, and the text in its tag behind the name.
+pub fn has_name_and_text(root: &Option<Root<'_>>, name: &[u8], text: &[u8]) -> bool
+    ensures { (b : List ℕ) → IsRootOf root.now b
+        → (IsTrue result ↔ HasRootWith name.now text.now b) }
+{
+    match root {
+        Some(root) => root.name == name && root.has_in_tag(text),
+        None => false,
+    }
+}
+
 /// Whether the root element has this local name.
 pub fn has_root(buf: &[u8], name: &[u8]) -> bool
     ensures { IsTrue result ↔ HasRoot name.now buf.now }
 {
-    match root_apart(buf) {
-        Some(root) => root.name == name,
-        None => false,
-    }
+    has_name(&root_apart(buf), name)
 }
 
 /// Whether the root element has this local name, and the text in its tag behind the name.
@@ -49,10 +67,7 @@ pub fn has_root(buf: &[u8], name: &[u8]) -> bool
 pub fn has_root_with(buf: &[u8], name: &[u8], text: &[u8]) -> bool
     ensures { IsTrue result ↔ HasRootWith name.now text.now buf.now }
 {
-    match root_apart(buf) {
-        Some(root) => root.name == name && root.has_in_tag(text),
-        None => false,
-    }
+    has_name_and_text(&root_apart(buf), name, text)
 }
 
 /// The root element of markup, as that of the name "svg" in `<?xml version="1.0"?><!-- --><s:svg>`.
@@ -64,8 +79,7 @@ pub fn has_root_with(buf: &[u8], name: &[u8], text: &[u8]) -> bool
 /// If a document type was declared, its name is the same.
 #[inline(always)]
 pub fn root_of(buf: &[u8]) -> Option<Root<'_>>
-    ensures found { MatchOption result ((name rest : List ℕ) → ¬ IsRootElement name rest buf.now)
-        (λ r. IsRootElement r.name.now r.rest.now buf.now) }
+    ensures found { IsRootOf result buf.now }
     ensures only { IfSome result
         (λ r. (name rest : List ℕ) → IsRootElement name rest buf.now → (name ≡ r.name.now)
         × (rest ≡ r.rest.now)) }
@@ -80,8 +94,7 @@ pub fn root_of(buf: &[u8]) -> Option<Root<'_>>
 /// [`root_of`] as a function of its own, so that the functions here share its code.
 #[inline(never)]
 fn root_apart(buf: &[u8]) -> Option<Root<'_>>
-    ensures found { MatchOption result ((name rest : List ℕ) → ¬ IsRootElement name rest buf.now)
-        (λ r. IsRootElement r.name.now r.rest.now buf.now) }
+    ensures found { IsRootOf result buf.now }
     ensures only { IfSome result
         (λ r. (name rest : List ℕ) → IsRootElement name rest buf.now → (name ≡ r.name.now)
         × (rest ≡ r.rest.now)) }

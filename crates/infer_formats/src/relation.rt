@@ -1,8 +1,9 @@
 //! Relations: what each takes, whether a buffer has it, what bytes after the buffer can bring or take, and a short buffer that
 //! has it.
-ghost use Rattle.std.specs.Prelude.{◌≡◌, ◌≤◌, ◌↔◌, [], IsTrue, length, map};
+ghost use Rattle.std.specs.Prelude.{◌≡◌, ◌≤◌, ◌↔◌, [], IfSome, IsTrue, length, map};
 ghost use Rattle.infer_deep.specs.Signatures.{MayBecome};
 ghost use Rattle.infer_formats.specs.Open.{Stays};
+ghost use Rattle.infer_formats.specs.Markup.{TellsByRoot};
 ghost use Rattle.infer_formats.specs.Relation.{Fits, IsSound, class_id, dbase, directory_tag, directory_tag_and_make, has_entry, header, least_of, model, model_listed, name_listed, names, of_text, package_with, program, relation_listed, root, root_with, shared_object};
 
 use crate::begins::{begins, begins_and_has, begins_and_has_all, may_begin};
@@ -14,7 +15,9 @@ use crate::json::{
     has_first_key, has_first_key_with, is_json, is_json_lines, may_become_json,
     may_become_json_lines, may_have_first_key, may_have_first_key_with,
 };
-use crate::markup::{has_root, has_root_with, may_have_root, may_have_root_with};
+use crate::markup::{
+    Root, has_name, has_name_and_text, has_root, has_root_with, may_have_root, may_have_root_with,
+};
 use crate::model::{Model, Text, at, entry, five, four, made, one, three, two};
 use crate::numbers::bytes16;
 use crate::png::{is_animated, may_become_animated};
@@ -236,6 +239,17 @@ impl<'a> Relation<'a> {
             Relation::JsonLines => is_json_lines(buf),
             Relation::JsonText => is_json(buf),
             Relation::PlainText => is_text(buf),
+        }
+    }
+
+    /// Whether a buffer with this root element, or with none, has it. `None` if it asks for something else.
+    pub fn of_root(&self, root: &Option<Root<'_>>) -> Option<bool>
+        ensures { IfSome result (TellsByRoot root.now (Fits (relation_listed self.now))) }
+    {
+        match self {
+            Relation::Root(name) => Some(has_name(root, name)),
+            Relation::RootWith(name, text) => Some(has_name_and_text(root, name, text)),
+            _ => None,
         }
     }
 

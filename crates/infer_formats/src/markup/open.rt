@@ -1,7 +1,7 @@
 //! What more bytes may make the root element.
 ghost use Rattle.std.specs.Prelude.{◌≡◌, ◌↔◌, ◌<◌, ◌≤◌, ℕ, List, length, slice_index, IsTrue};
 ghost use Rattle.infer_deep.specs.Signatures.{MayBecome};
-ghost use Rattle.infer_formats.specs.Markup.{HasInTag, HasRoot, HasRootWith, IsXmlSpace, MayReachTag};
+ghost use Rattle.infer_formats.specs.Markup.{HasInTag, HasRoot, HasRootWith, IsXmlSpace, MayReachTag, TellsRoot};
 
 use super::names::is_xml_space;
 use super::prolog::{prolog_end, prolog_start};
@@ -26,6 +26,16 @@ pub fn may_have_root_with(buf: &[u8], name: &[u8], text: &[u8]) -> bool
     match root_apart(buf) {
         Some(root) => is_same(root.name, name) && may_have_in_tag(&root, text),
         None => may_come_to_root(buf),
+    }
+}
+
+/// Whether the front tells the root element of every buffer that begins so: its tag has ended, or there will be none.
+pub fn tells_root(front: &[u8]) -> bool
+    ensures { IsTrue result → TellsRoot front.now }
+{
+    match root_apart(front) {
+        Some(root) => has_closing(root.rest),
+        None => !may_come_to_root(front),
     }
 }
 
