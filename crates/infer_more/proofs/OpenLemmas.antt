@@ -31,18 +31,34 @@ module _ {A B : Type 0} (f : A → B) (P : B → Type 0) where
   some_at (x ∷ xs) zero d lt p = inl p
   some_at (x ∷ xs) (suc k) d lt p = inr (some_at xs k d (omega arith) p)
 
-  pub none_more : (xs : List A) (k : ℕ) (d : A) → k < length xs → ¬ SomeOf (take k xs) → ¬ P (f (get_or xs k d)) → ¬ SomeOf (take (k + 1) xs)
-  none_more [] k d lt before none = absurd (omega arith)
-  none_more (x ∷ xs) zero d lt before none = λ h. elim h [ inl p ↦ none p | inr q ↦ q ]
-  none_more (x ∷ xs) (suc k) d lt before none =
+  pub some_more : (xs : List A) (k : ℕ) (d : A) → k < length xs → SomeOf (take (k + 1) xs) ↔ (SomeOf (take k xs) ⊎ P (f (get_or xs k d)))
+  some_more [] k d lt = absurd (omega arith)
+  some_more (x ∷ xs) zero d lt = (
+    λ h. elim h as (λ t. ⊥ ⊎ P (f x)) [ inl p ↦ inr p | inr q ↦ inl q ],
+    λ h. elim h as (λ t. P (f x) ⊎ ⊥) [ inl q ↦ inr q | inr p ↦ inl p ],
+  )
+  some_more (x ∷ xs) (suc k) d lt =
       let e : suc k + 1 ≡ suc (k + 1) = omega arith in
-      rw e (λ h. elim h [
-        | inl p ↦ before (inl p)
-        | inr q ↦ none_more xs k d (omega arith) (λ s. before (inr s)) none q
-      ])
+      let rest = some_more xs k d (omega arith) in
+      rw e (
+        λ h. elim h as (λ t. SomeOf (x ∷ take k xs) ⊎ P (f (get_or xs k d))) [
+          | inl p ↦ inl (inl p)
+          | inr q ↦ elim (rest.0 q) as (λ t. SomeOf (x ∷ take k xs) ⊎ P (f (get_or xs k d))) [ inl s ↦ inl (inr s) | inr p ↦ inr p ]
+        ],
+        λ h. elim h as (λ t. SomeOf (x ∷ take (k + 1) xs)) [
+          | inl before ↦ elim before as (λ t. SomeOf (x ∷ take (k + 1) xs)) [ inl p ↦ inl p | inr s ↦ inr (rest.1 (inl s)) ]
+          | inr p ↦ inr (rest.1 (inr p))
+        ],
+      )
+
+  pub none_more : (xs : List A) (k : ℕ) (d : A) → k < length xs → ¬ SomeOf (take k xs) → ¬ P (f (get_or xs k d)) → ¬ SomeOf (take (k + 1) xs)
+  none_more xs k d lt before none = λ h. elim ((some_more xs k d lt).0 h) [ inl s ↦ before s | inr p ↦ none p ]
+
+  pub some_of : (xs : List A) (n : ℕ) → length xs ≤ n → SomeOf xs ↔ SomeOf (take n xs)
+  some_of xs n le = (λ h. subst SomeOf (sym (take_all n xs le)) h, λ h. subst SomeOf (take_all n xs le) h)
 
   pub none_of : (xs : List A) (n : ℕ) → length xs ≤ n → ¬ SomeOf (take n xs) → ¬ SomeOf xs
-  none_of xs n le h = subst (λ l. ¬ SomeOf l) (take_all n xs le) h
+  none_of xs n le h = λ some. h ((some_of xs n le).0 some)
 
 module _ (b : List ℕ) where
   pub some_accepted : (xs : List Alternative) → SomeOf alternative_listed (λ a. Fits a b) xs ↔ Accepted (signature_listed xs) b

@@ -1,23 +1,26 @@
 -- A front that tells of a row, and the whole buffer.
-use Rattle.infer_more.proofs.Common.{◌≡◌, ◌↔◌, ◌+◌, ◌<◌, ◌≤◌, ◌∷◌, ◌++◌, ◌∙◌, ◌==◌, ℕ, zero, suc, Bool, true, false, IsTrue, List, [], Option, None, Some, MatchOption, inl, inr, ap, refl, subst, sym, arith, if◌then◌else◌, length, take, get_or, and_parts, and_from, eqb-true, le-leb, leb-true, lt-ltb, IsBuffer, Accepted, Further, further, Fits, alternative_listed, part_listed, signature_listed, slice_get_read, has_part, allows, between, IsFirst, IsFirstOf, Widens, WidensAt, cases_lt}
+use Rattle.infer_more.proofs.Common.{◌≡◌, ◌↔◌, ◌+◌, ◌<◌, ◌≤◌, ◌⊎◌, ◌||◌, ◌∷◌, ◌++◌, ◌∙◌, ◌==◌, ℕ, zero, suc, Bool, true, false, IsTrue, List, [], Option, None, Some, IfSome, MatchOption, inl, inr, ap, refl, subst, sym, arith, if◌then◌else◌, length, take, drop, take-append-drop, false≢true, get_or, and_parts, and_from, eqb-true, le-leb, leb-true, lt-ltb, IsBuffer, Accepted, Further, further, Fits, alternative_listed, part_listed, signature_listed, slice_get_read, has_part, allows, between, IsFirst, IsFirstOf, Widens, WidensAt, cases_lt}
 use Rattle.std.proofs.Common.{slice_get}
 use Rattle.std.proofs.lemmas.Bool.{ltb-true}
-use Rattle.std.proofs.lemmas.List.Elements.{All-head, All-tail}
+use Rattle.std.proofs.lemmas.List.Elements.{All-drop, All-head, All-tail}
 use Rattle.std.specs.Prelude.{All, Any}
 use Rattle.infer.proofs.CandidateLemmas.{read_has}
 use Rattle.infer.proofs.ListLemmas.{HoldsAt-read}
 use Rattle.infer.proofs.EvidenceLemmas.{buffers_with, same_by_reads}
 use Rattle.infer_deep.specs.Signatures.{MayBecome}
+use Rattle.infer_formats.specs.Markup.{IsOfRoot, TellsByRoot, TellsRoot}
+use Rattle.infer_formats.specs.declared.markup.Root.{Root}
 use Rattle.infer_notation.specs.Alternative as signature
 use Rattle.infer_evidence.proofs.ListedLemmas.{all_told}
 use Rattle.infer_sig.specs.Places.{StandsByPlace}
 use Rattle.infer_sig.specs.Signature as fixed
 use Rattle.infer_sig.specs.Signature.{any_of, byte, fits, stands, text}
 use Rattle.infer_more.specs.Listed.{bytes_listed, pieces_of}
-use Rattle.infer_more.specs.Why.{IsAlikeAt, IsTold, IsToldAt, HasBytes, HasPiece, LacksBytes}
+use Rattle.infer_more.specs.Why.{IsAlikeAt, IsRootRead, IsTold, IsToldAt, HasBytes, HasPiece, LacksBytes}
 use Rattle.infer_more.specs.declared.listed.Alternative.{Alternative}
 use Rattle.infer_more.specs.declared.listed.Alternative.TheVariants.{BinaryBytes, Bytes, Related}
 use Rattle.infer_more.specs.declared.listed.Bytes as listed
+use Rattle.infer_more.specs.declared.why.RootRead.{RootRead}
 
 -- buffers that begin with what tells of a row are accepted alike
 alike_with : (o : Option Further) (f v w : List ℕ) → IsBuffer v → IsBuffer w → MatchOption o (Unit {0}) (λ r. IsTold r.signature f)
@@ -45,6 +48,53 @@ alike_itself (Some r) b = (λ h. h, λ h. h)
 
 pub whole_tells : (i : ℕ) (b c : List ℕ) → length c ≡ length b → ((k : ℕ) → k < length b → (k < length c) × (get_or c k 0 ≡ get_or b k 0)) → IsAlikeAt i b c
 whole_tells i b c long same = subst (IsAlikeAt i b) (sym (same_by_reads b c long same)) (alike_itself (slice_get further i) b)
+
+-- ---- rows that ask for a root element
+
+-- of one alternative more, the root element tells as it does of both
+some_true : (p q : Bool) → IsTrue (p || q) ↔ (IsTrue p ⊎ IsTrue q)
+some_true true q = (λ h. inl refl, λ h. refl)
+some_true false q = (λ h. inr h, λ h. elim h as (λ t. IsTrue q) [ inl p ↦ absurd (false≢true p) | inr q ↦ q ])
+
+pub root_of_either : (root : Option Root) (P Q R : List ℕ → Type 0) (p q : Bool) → ((b : List ℕ) → R b ↔ (P b ⊎ Q b))
+    → TellsByRoot root P p → TellsByRoot root Q q → TellsByRoot root R (p || q)
+root_of_either root P Q R p q parts (own, first) (other, second) = (
+  λ front m n tells ms ns h. (parts (front ++ n)).1 (elim ((parts (front ++ m)).0 h) as (λ t. P (front ++ n) ⊎ Q (front ++ n)) [
+    | inl x ↦ inl (own front m n tells ms ns x)
+    | inr y ↦ inr (other front m n tells ms ns y)
+  ]),
+  λ b is. let tests = some_true p q in (
+    λ told. (parts b).1 (elim (tests.0 told) as (λ t. P b ⊎ Q b) [ inl x ↦ inl ((first b is).0 x) | inr y ↦ inr ((second b is).0 y) ]),
+    λ h. tests.1 (elim ((parts b).0 h) as (λ t. IsTrue p ⊎ IsTrue q) [ inl x ↦ inl ((first b is).1 x) | inr y ↦ inr ((second b is).1 y) ]),
+  ),
+)
+
+pub root_of_same : (root : Option Root) (P R : List ℕ → Type 0) (told : Bool) → ((b : List ℕ) → R b ↔ P b) → TellsByRoot root P told → TellsByRoot root R told
+root_of_same root P R told same (own, answer) = (
+  λ front m n tells ms ns h. (same (front ++ n)).1 (own front m n tells ms ns ((same (front ++ m)).0 h)),
+  λ b is. (λ t. (same b).1 ((answer b is).0 t), λ h. (answer b is).1 ((same b).0 h)),
+)
+
+pub root_of_none : (root : Option Root) → TellsByRoot root (λ b. ⊥) false
+root_of_none root = (λ front m n tells ms ns h. h, λ b is. (λ no. absurd (false≢true no), λ h. absurd h))
+
+-- so a front that tells it tells of the row
+root_told : (xs : List signature.Alternative) (b : List ℕ) (n : ℕ) (accepts : Bool) → IsBuffer b → IsOfRoot (Accepted xs) → TellsRoot (take n b)
+    → IsTrue accepts ↔ Accepted xs b → IsTold xs (take n b)
+root_told xs b n true bytes of tells answer =
+    inl (λ more ms. of (take n b) (drop n b) more tells (All-drop (λ x. x < 256) n b bytes) ms (subst (Accepted xs) (sym (take-append-drop n b)) (answer.0 refl)))
+root_told xs b n false bytes of tells answer =
+    inr (λ (more, ms, h). false≢true (answer.1 (subst (Accepted xs) (take-append-drop n b)
+    (of (take n b) more (drop n b) tells ms (All-drop (λ x. x < 256) n b bytes) h))))
+
+pub root_told_at : (i : ℕ) (r : Further) (read : RootRead) (b : List ℕ) (accepts : Bool) → slice_get further i ≡ Some r → IsBuffer b → IsRootRead read b
+    → TellsByRoot read.root (Accepted r.signature) accepts → IfSome read.front (λ n. (n ≤ length b) × IsToldAt i (take n b))
+root_told_at i r read b accepts e bytes (is, front) (of, answer) = within read.front front
+  where
+    within : (o : Option ℕ) → IfSome o (λ n. (n ≤ length b) × TellsRoot (take n b)) → IfSome o (λ n. (n ≤ length b) × IsToldAt i (take n b))
+    within None f = tt
+    within (Some n) (le, tells) =
+        (le, subst (λ o. MatchOption o (Unit {0}) (λ r. IsTold r.signature (take n b))) (sym e) (root_told r.signature b n accepts bytes of tells (answer b is)))
 
 -- with what it means that a text stands somewhere
 module _ (by_place : (place : ℕ) (t b : List ℕ) → IsTrue (stands place t b) ↔ StandsByPlace place t b) (b : List ℕ) where

@@ -1,8 +1,9 @@
 -- Which bytes of a buffer decide its wider answer.
-use Rattle.std.specs.Prelude.{◌↔◌, ◌⊎◌, ℕ, IsTrue, List, Option, MatchOption, slice_get}
+use Rattle.std.specs.Prelude.{◌↔◌, ◌≤◌, ◌⊎◌, ℕ, IfSome, IsTrue, List, Option, MatchOption, length, slice_get, take}
 use Rattle.infer_deep.specs.Signatures.{MayBecome}
 use Rattle.infer_evidence.specs.Evidence.{AgreesOn}
 use Rattle.infer_evidence.specs.declared.ranges.Evidence.{Evidence}
+use Rattle.infer_formats.specs.Markup.{IsRootOf, TellsRoot}
 use Rattle.infer_formats.specs.Open.{Stays}
 use Rattle.infer.specs.Buffer.{IsBuffer}
 use Rattle.infer_notation.specs.Alternative.{Accepted, Alternative}
@@ -15,6 +16,7 @@ use Rattle.infer_more.specs.declared.listed.Alternative as code
 use Rattle.infer_more.specs.declared.listed.Alternative.TheVariants.{BinaryBytes, Bytes, Related}
 use Rattle.infer_more.specs.declared.listed.Bytes as listed
 use Rattle.infer_more.specs.declared.listed.Piece.{Piece}
+use Rattle.infer_more.specs.declared.why.RootRead.{RootRead}
 
 -- every buffer that agrees with b on the evidence has this wider answer
 abbrev pub Decides : Evidence → List ℕ → Option ℕ → Type 0
@@ -35,6 +37,10 @@ IsTold signature b = Stays (Accepted signature) b ⊎ ¬ MayBecome (Accepted sig
 -- and so of further row i
 abbrev pub IsToldAt : ℕ → List ℕ → Type 0
 IsToldAt i b = MatchOption (slice_get further i) (Unit {0}) (λ r. IsTold r.signature b)
+
+-- the root element that was read is that of b, and the front tells it
+abbrev pub IsRootRead : RootRead → List ℕ → Type 0
+IsRootRead read b = IsRootOf read.root b × IfSome read.front (λ n. (n ≤ length b) × TellsRoot (take n b))
 
 -- the buffer has what the piece asks
 abbrev pub HasPiece : Piece → List ℕ → Type 0

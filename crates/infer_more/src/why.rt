@@ -1,16 +1,17 @@
 //! The bytes of a buffer that decide its wider answer.
-ghost use Rattle.std.specs.Prelude.{◌≡◌, ◌↔◌, ◌+◌, ◌<◌, ◌≤◌, ℕ, List, All, Any, IfSome, IsTrue, Some, false, slice_get};
+ghost use Rattle.std.specs.Prelude.{◌≡◌, ◌↔◌, ◌+◌, ◌<◌, ◌≤◌, ℕ, List, All, Any, IfSome, IsTrue, Some, false, length, slice_get, take};
 ghost use Rattle.infer.specs.First.{IsFirstOf};
 ghost use Rattle.infer.specs.declared.table.rows.TheConstants.{ROW_COUNT};
 ghost use Rattle.infer_evidence.specs.Evidence.{AgreesOn, IsOf};
-ghost use Rattle.infer_notation.specs.Alternative.{Accepted};
+ghost use Rattle.infer_formats.specs.Markup.{TellsByRoot, TellsRoot};
+ghost use Rattle.infer_notation.specs.Alternative.{Accepted, Fits};
 ghost use Rattle.infer_more.specs.Index.{FindsBelow, ascends, entry_row};
 ghost use Rattle.infer_more.specs.declared.index.Below.TheVariants as ways;
-ghost use Rattle.infer_more.specs.Listed.{row_listed, signature_listed};
+ghost use Rattle.infer_more.specs.Listed.{alternative_listed, row_listed, signature_listed};
 ghost use Rattle.infer_more.specs.Open.{is_row_sound};
 ghost use Rattle.infer_more.specs.Row.{is_row_closed};
 ghost use Rattle.infer_more.specs.Table.{further};
-ghost use Rattle.infer_more.specs.Why.{Decides, HasBytes, HasPiece, IsAlikeAt, IsTold, IsToldAt, LacksBytes, Tells};
+ghost use Rattle.infer_more.specs.Why.{Decides, HasBytes, HasPiece, IsAlikeAt, IsRootRead, IsTold, IsToldAt, LacksBytes, Tells};
 ghost use Rattle.infer_more.specs.Wider.{IsWider, IsWidest, Widens, WidensAt};
 ghost use Rattle.infer_more.specs.declared.index.generated.TheConstants.{FURTHER_COUNT};
 ghost use Rattle.infer_more.specs.declared.listed.Alternative.TheVariants as listed;
@@ -18,7 +19,7 @@ ghost use Rattle.infer_more.specs.declared.listed.Alternative.TheVariants as lis
 use crate::decided::is_stable;
 use crate::index::{Below, Entry, FURTHER_COUNT, is_parent, way_below};
 use crate::listed::{
-    Alternative, Bytes, FurtherRow, Piece, alternatives_of, asked, pieces_of, row_at,
+    Alternative, Bytes, FurtherRow, Piece, alternatives_of, asked, pieces_of, relation_at, row_at,
 };
 use crate::open::may_become_accepted;
 use crate::signature;
@@ -26,6 +27,7 @@ use infer::rows::{ROW_COUNT, numbers as law_numbers};
 use infer_evidence::{
     AsPart, Evidence, MOST_RANGES, Part, Range, Set, Told, accept, fits, refuse, shortest_front,
 };
+use infer_formats::markup::{Root, root_of, tells_root};
 
 impl AsPart for Piece {
     ghost asks = { HasPiece };
@@ -72,12 +74,62 @@ impl Told for Acceptance {
     }
 }
 
-/// Asks for the shortest front that tells if the row accepts, and for the whole buffer if none does.
-fn weigh_front(told: &Acceptance, buf: &[u8], evidence: &mut Evidence)
+/// What tells the root element of markup, whatever follows.
+struct RootTold;
+
+impl Told for RootTold {
+    ghost tells = { λ s front. TellsRoot front };
+
+    fn is_told(&self, front: &[u8]) -> bool {
+        tells_root(front)
+    }
+}
+
+/// The root element of a buffer, and the length of the shortest front that tells it. It is read once for all rows that ask
+/// for one.
+#[derive(Drop)]
+struct RootRead<'a> {
+    root: Option<Root<'a>>,
+    front: Option<usize>,
+}
+
+fn read_root<'a>(buf: &'a [u8]) -> RootRead<'a>
+    ensures { IsRootRead result buf.now }
+{
+    RootRead {
+        root: root_of(buf),
+        front: shortest_front(&RootTold, buf),
+    }
+}
+
+/// Whether a buffer with this root element, or with none, has what the alternative asks. `None` if that is not told by it.
+fn fits_root(alternative: &Alternative, root: &Option<Root<'_>>) -> Option<bool>
+    ensures { IfSome result (TellsByRoot root.now (Fits (alternative_listed alternative.now))) }
+{
+    match alternative {
+        Alternative::Related(number) => relation_at(*number).of_root(root),
+        _ => None,
+    }
+}
+
+/// Whether it has what one of the alternatives asks.
+fn accepts_root(signature: &[Alternative], root: &Option<Root<'_>>) -> Option<bool>
+    ensures { IfSome result (TellsByRoot root.now (Accepted (signature_listed signature.now))) }
+{
+    let mut accepts = false;
+    for alternative in signature {
+        accepts |= fits_root(alternative, root)?;
+    }
+    Some(accepts)
+}
+
+/// Asks for the front, of that length, which tells whether the row accepts, and for the whole buffer if there is none.
+fn ask_front(front: Option<usize>, told: &Acceptance, buf: &[u8], evidence: &mut Evidence)
+    requires { IfSome front (λ n. (n ≤ length buf.now) × IsToldAt told.now.i (take n buf.now)) }
     ensures tells { Tells evidence.old evidence.new buf.now (IsAlikeAt told.now.i buf.now) }
     ensures inside { IsOf evidence.old buf.now → IsOf evidence.new buf.now }
 {
-    match shortest_front(told, buf) {
+    match front {
         Some(len) => evidence.ask_front(Range::new(0, len, number(told.i)), told.accepts),
         None => {
             evidence.ask_front(Range::new(0, buf.len(), number(told.i)), told.accepts);
@@ -150,7 +202,14 @@ fn refuse_all(signature: &[Alternative], i: usize, buf: &[u8], evidence: &mut Ev
 
 /// Whether the row, which has this number among the further ones, accepts the buffer, and asks for what tells it.
 #[inline(never)]
-fn weigh_row(row: &FurtherRow, i: usize, buf: &[u8], evidence: &mut Evidence) -> bool
+fn weigh_row(
+    row: &FurtherRow,
+    i: usize,
+    buf: &[u8],
+    read: &RootRead<'_>,
+    evidence: &mut Evidence,
+) -> bool
+    requires rooted { IsRootRead read.now buf.now }
     requires closed { IsTrue (is_row_closed (row_listed row.now)) }
     requires listed { slice_get further i ≡ Some (row_listed row.now) }
     ensures answer { IsTrue result ↔ Accepted (row_listed row.now).signature buf.now }
@@ -167,8 +226,13 @@ fn weigh_row(row: &FurtherRow, i: usize, buf: &[u8], evidence: &mut Evidence) ->
         accept(bytes.least, pieces_of(bytes), buf, number(i), evidence);
         return true;
     }
+    if let Some(accepts) = accepts_root(signature, &read.root) {
+        ask_front(read.front, &Acceptance { i, accepts }, buf, evidence);
+        return accepts;
+    }
     let accepts = signature::accepts(signature, buf);
-    weigh_front(&Acceptance { i, accepts }, buf, evidence);
+    let told = Acceptance { i, accepts };
+    ask_front(shortest_front(&told, buf), &told, buf, evidence);
     accepts
 }
 
@@ -192,7 +256,14 @@ fn refuse_by_first(row: &FurtherRow, i: usize, buf: &[u8], evidence: &mut Eviden
 
 /// The same as [`weigh_row`]. Most rows without a parent cost no more than a look at the first byte.
 #[inline(always)]
-fn weigh_led(row: &FurtherRow, i: usize, buf: &[u8], evidence: &mut Evidence) -> bool
+fn weigh_led(
+    row: &FurtherRow,
+    i: usize,
+    buf: &[u8],
+    read: &RootRead<'_>,
+    evidence: &mut Evidence,
+) -> bool
+    requires rooted { IsRootRead read.now buf.now }
     requires closed { IsTrue (is_row_closed (row_listed row.now)) }
     requires listed { slice_get further i ≡ Some (row_listed row.now) }
     ensures answer { IsTrue result ↔ Accepted (row_listed row.now).signature buf.now }
@@ -200,12 +271,12 @@ fn weigh_led(row: &FurtherRow, i: usize, buf: &[u8], evidence: &mut Evidence) ->
     ensures inside { IsOf evidence.old buf.now → IsOf evidence.new buf.now }
 {
     if row.parent.is_some() {
-        return weigh_row(row, i, buf, evidence);
+        return weigh_row(row, i, buf, read, evidence);
     }
     if refuse_by_first(row, i, buf, evidence) {
         return false;
     }
-    weigh_row(row, i, buf, evidence)
+    weigh_row(row, i, buf, read, evidence)
 }
 
 /// Whether the row has this parent.
@@ -218,20 +289,33 @@ fn has_parent(row: &FurtherRow, parent: Option<usize>) -> bool
 
 /// Whether further row `i` widens this answer, and asks for what tells it. A row of another parent costs no call.
 #[inline(always)]
-fn weigh_at(i: usize, parent: Option<usize>, buf: &[u8], evidence: &mut Evidence) -> bool
+fn weigh_at(
+    i: usize,
+    parent: Option<usize>,
+    buf: &[u8],
+    read: &RootRead<'_>,
+    evidence: &mut Evidence,
+) -> bool
+    requires { IsRootRead read.now buf.now }
     ensures answer { IsTrue result ↔ WidensAt parent buf.now i }
     ensures tells { Tells evidence.old evidence.new buf.now
         (λ c. WidensAt parent c i ↔ WidensAt parent buf.now i) }
     ensures inside { IsOf evidence.old buf.now → IsOf evidence.new buf.now }
 {
     match row_at(i) {
-        Some(row) => has_parent(row, parent) && weigh_led(row, i, buf, evidence),
+        Some(row) => has_parent(row, parent) && weigh_led(row, i, buf, read, evidence),
         None => false,
     }
 }
 
 /// The first further row that widens this answer, and asks for what tells that it is.
-fn widen(parent: Option<usize>, buf: &[u8], evidence: &mut Evidence) -> Option<usize>
+fn widen(
+    parent: Option<usize>,
+    buf: &[u8],
+    read: &RootRead<'_>,
+    evidence: &mut Evidence,
+) -> Option<usize>
+    requires { IsRootRead read.now buf.now }
     ensures first { IsFirstOf (Widens parent buf.now) further result }
     ensures bound { IfSome result (λ i. i < FURTHER_COUNT) }
     ensures tells { Tells evidence.old evidence.new buf.now
@@ -239,7 +323,7 @@ fn widen(parent: Option<usize>, buf: &[u8], evidence: &mut Evidence) -> Option<u
     ensures inside { IsOf evidence.old buf.now → IsOf evidence.new buf.now }
 {
     for i in 0..FURTHER_COUNT {
-        if weigh_at(i, parent, buf, evidence) {
+        if weigh_at(i, parent, buf, read, evidence) {
             return Some(i);
         }
     }
@@ -251,8 +335,10 @@ fn widen_tried(
     parent: usize,
     entries: &[Entry],
     buf: &[u8],
+    read: &RootRead<'_>,
     evidence: &mut Evidence,
 ) -> Option<usize>
+    requires rooted { IsRootRead read.now buf.now }
     requires ascend { IsTrue (ascends entry_row entries.now) }
     requires finds { FindsBelow parent (ways.Entries entries) }
     ensures first { IsFirstOf (Widens (Some parent) buf.now) further result }
@@ -263,7 +349,7 @@ fn widen_tried(
 {
     for entry in entries {
         let i = entry.row as usize;
-        if weigh_at(i, Some(parent), buf, evidence) {
+        if weigh_at(i, Some(parent), buf, read, evidence) {
             return Some(i);
         }
     }
@@ -271,7 +357,13 @@ fn widen_tried(
 }
 
 /// The same of this built-in answer.
-fn widen_below(parent: usize, buf: &[u8], evidence: &mut Evidence) -> Option<usize>
+fn widen_below(
+    parent: usize,
+    buf: &[u8],
+    read: &RootRead<'_>,
+    evidence: &mut Evidence,
+) -> Option<usize>
+    requires { IsRootRead read.now buf.now }
     ensures first { IsFirstOf (Widens (Some parent) buf.now) further result }
     ensures bound { IfSome result (λ i. i < FURTHER_COUNT) }
     ensures tells { Tells evidence.old evidence.new buf.now
@@ -279,13 +371,19 @@ fn widen_below(parent: usize, buf: &[u8], evidence: &mut Evidence) -> Option<usi
     ensures inside { IsOf evidence.old buf.now → IsOf evidence.new buf.now }
 {
     match way_below(parent) {
-        Below::Entries(entries) => widen_tried(parent, entries, buf, evidence),
-        _ => widen(Some(parent), buf, evidence),
+        Below::Entries(entries) => widen_tried(parent, entries, buf, read, evidence),
+        _ => widen(Some(parent), buf, read, evidence),
     }
 }
 
 /// The same of any answer.
-fn widen_any(parent: Option<usize>, buf: &[u8], evidence: &mut Evidence) -> Option<usize>
+fn widen_any(
+    parent: Option<usize>,
+    buf: &[u8],
+    read: &RootRead<'_>,
+    evidence: &mut Evidence,
+) -> Option<usize>
+    requires { IsRootRead read.now buf.now }
     ensures first { IsFirstOf (Widens parent buf.now) further result }
     ensures bound { IfSome result (λ i. i < FURTHER_COUNT) }
     ensures tells { Tells evidence.old evidence.new buf.now
@@ -293,8 +391,8 @@ fn widen_any(parent: Option<usize>, buf: &[u8], evidence: &mut Evidence) -> Opti
     ensures inside { IsOf evidence.old buf.now → IsOf evidence.new buf.now }
 {
     match parent {
-        Some(row) => widen_below(row, buf, evidence),
-        None => widen(None, buf, evidence),
+        Some(row) => widen_below(row, buf, read, evidence),
+        None => widen(None, buf, read, evidence),
     }
 }
 
@@ -340,7 +438,7 @@ pub fn evidence(buf: &[u8], evidence: &mut Evidence) -> Option<usize>
     if !may_widen(parent) {
         return parent;
     }
-    let found = widen_any(parent, buf, evidence);
+    let found = widen_any(parent, buf, &read_root(buf), evidence);
     if evidence.wanted() > MOST_RANGES {
         ask_whole(buf, evidence);
     }

@@ -1,9 +1,11 @@
-use Rattle.infer_more.proofs.Common.{Accepted, List, false≢true, refl, signature_listed, subst}
+use Rattle.infer_more.proofs.Common.{Accepted, List, arith, false≢true, refl, signature_listed, subst}
+use Rattle.infer_more.proofs.OutlineLemmas.{buffer_of}
+use Rattle.infer_formats.specs.Markup.{TellsByRoot}
 use Rattle.infer_evidence.specs.Weighed.{HasParts}
 use Rattle.infer_more.specs.Why.{HasPiece}
 use Rattle.infer_more.specs.declared.listed.Alternative.{Alternative}
 use Rattle.infer_more.specs.declared.listed.Piece.{Piece}
-use Rattle.infer_more.proofs.WhyLemmas.{alike_at, has_some, lacks_all}
+use Rattle.infer_more.proofs.WhyLemmas.{alike_at, has_some, lacks_all, root_told_at}
 use Rattle.infer_more.proofs.why.weigh_row.Goals as goal
 
 pub returns-in-Some-clause-answer : goal.returns-in-Some-clause-answer
@@ -46,3 +48,10 @@ returns-then-lacks_bytes-clause-tells c = λ b bytes agrees.
         λ h. absurd (subst (λ (xs : List Alternative). ¬ Accepted (signature_listed xs) c.args.buf.now) c.alternatives_of-signature.ensures none h),
       ),
     )
+
+pub ask_front-requires : goal.ask_front-requires
+ask_front-requires c =
+    let told = subst (λ (xs : List Alternative). TellsByRoot c.args.read.now.root (Accepted (signature_listed xs)) c.in-Some-accepts_root.accepts)
+    c.alternatives_of-signature.ensures c.in-Some-accepts_root.ensures in
+    root_told_at c.args.i _ c.args.read.now c.args.buf.now c.in-Some-accepts_root.accepts c.requires.listed
+    (buffer_of c.args.buf.now (λ i. omega (arith, c.type_inv.buf i))) c.requires.rooted told
