@@ -44,8 +44,6 @@ TEXTS = (
     "unit usda uu vault vcf vcfg vnt vpnpcf vtt wordml wreg wsdl x3d xbel xbm xhtml xib xkbrules xliff xmcd xmi xml "
     "xmp xpm xpm2 xsd xslt xspf yaml"
 ).split()
-# How many types, and how many sets of rows, are one list of the definition.
-TYPES, SETS = 256, 128
 # How many rows are looked for at once.
 ROWS = 128
 # How many slots the rows have, and groups that are shifted together.
@@ -63,7 +61,10 @@ SUMS = (
 # How many marks there are for each length of a text, of which this one stands for all that are greater.
 MARKS, LONG = 64, 63
 KEYS_CODE = """//! Made by `tools/tables` from names.txt: the keys in the order of their slots, where the slots begin, and the readings.
-use crate::table::{{Asks, Key, Part, Reading, Span, is_loose, keys, readings, span}};
+use crate::table::Origin::{{Known, Own, Row}};
+use crate::table::{{
+    Asks, Key, NamedType, Part, Reading, Span, is_loose, keys, origin, readings, span,
+}};
 
 /// For each mark whether a whole name has it.
 pub(crate) static WHOLE_MARKS: [u8; {marks_count}] = [
@@ -81,7 +82,8 @@ pub(crate) static KEYS: [Key; {count}] = keys![
 {keys}
 ];
 
-/// The number of a reading's type, what it asks, and the numbers of its sets of rows and of its leads.
+/// Where the MIME type of a reading's type stands and how long it is, who names it, what it asks, where the ranges of its sets of
+/// rows stand and how many they are, and the number of its leads. A row names a type by the place and length of its extension.
 pub(crate) static READINGS: [Reading; {readings_count}] = readings![
 {readings}
 ];
@@ -97,19 +99,10 @@ pub(crate) static MIME_TYPES: &str =
 pub(crate) static ROW_TEXTS: &str =
     "{rows}";
 """
-TYPES_CODE = """//! Made by `tools/tables` from names.txt: the types that names have.
-use crate::table::Origin::{{Known, Own, Row}};
-use crate::table::{{NamedType, Span, origin, span, types}};
-
-/// Where the MIME type of a type stands and how long it is, and who names it: a row, with the place and length of its extension.
-pub(crate) static TYPES: [NamedType; {count}] = types![
-{types}
-];
-"""
 SETS_CODE = """//! Made by `tools/tables` from names.txt: the sets of rows that readings have, and their leads.
 ghost use Rattle.std.specs.Prelude.{{◌≡◌}};
 ghost use Rattle.infer_named.specs.Listed.{{lists_of_texts}};
-ghost use Rattle.infer_named.specs.Sets.{{lead_lists}};
+ghost use Rattle.infer_named.specs.Texts.{{lead_lists}};
 
 use crate::table::{{Span, lists, span, spans}};
 
@@ -121,11 +114,6 @@ pub(crate) static ROWS: [Span; {rows_count}] = spans![
 /// The rows of the sets, by the number of the first and how many follow each other, one set behind the other.
 pub(crate) static RANGES: [Span; {ranges_count}] = spans![
 {ranges}
-];
-
-/// Where the ranges of a set stand among these and how many they are.
-pub(crate) static SETS: [Span; {sets_count}] = spans![
-{sets}
 ];
 
 /// For each mark whether a row has it.
@@ -148,18 +136,15 @@ static LEADS: &[&[&[u8]]] = lists![
 ];
 
 /// The lists of leads.
-#[tactic(auto, unfolding(crate::specs::Sets::lead_lists))]
+#[tactic(auto, unfolding(crate::specs::Texts::lead_lists))]
 pub(crate) fn leads() -> &'static [&'static [&'static [u8]]]
     ensures {{ lists_of_texts result.now ≡ lead_lists }}
 {{
     LEADS
 }}
 """
-NUMBER_TERM = """abbrev pub {name} : ℕ
-{name} = {number}
-"""
-TEXTS_TERM = """-- Made by `tools/tables` from names.txt: sets of rows that many readings have.
-use Rattle.std.specs.Prelude.{ℕ, List, [], ◌∷◌, codes}
+TEXTS_TERM = """-- Made by `tools/tables` from names.txt: sets of rows that many readings have, and the lists of leads.
+use Rattle.std.specs.Prelude.{{ℕ, List, [], ◌∷◌, codes}}
 
 -- no rows
 abbrev pub none : List (List ℕ)
@@ -172,38 +157,12 @@ any = []
 -- the rows of texts
 abbrev pub texts : List (List ℕ)
 texts =
-"""
-TYPES_TERM = """-- Made by `tools/tables` from names.txt: the types that names have, and their numbers.
-use Rattle.std.specs.Prelude.{{ℕ, List, [], ◌∷◌, ◌++◌, codes}}
-use Rattle.infer_named.specs.Key.{{NamedType, known, own, row, named}}
+    {rows} ∷ []
 
-{numbers}
-{lists}
-unfoldable pub types : List NamedType
-types = {names}
-"""
-TYPES_LIST_TERM = """unfoldable pub types_{number} : List NamedType
-types_{number} =
-{types}
-    ∷ []
-"""
-SETS_TERM = """-- Made by `tools/tables` from names.txt: the sets of rows that readings have, and their leads, and the numbers of both.
-use Rattle.std.specs.Prelude.{{ℕ, List, [], ◌∷◌, ◌++◌, codes}}
-use Rattle.infer_named.specs.Texts.{{none, any, texts}}
-
-{numbers}
+-- with what the files of a type begin, as lists that readings have
 unfoldable pub lead_lists : List (List (List ℕ))
 lead_lists =
 {leads}
-    ∷ []
-
-{lists}
-unfoldable pub sets : List (List (List ℕ))
-sets = {names}
-"""
-SETS_LIST_TERM = """unfoldable pub sets_{number} : List (List (List ℕ))
-sets_{number} =
-{sets}
     ∷ []
 """
 TABLE = """-- Made by `tools/tables` from names.txt: all keys, in the order of their slots.
@@ -216,56 +175,41 @@ unfoldable pub keys : List Key
 keys = {keys}
 """
 # The proofs of one part of the keys, which begins behind so many.
-KEYS_PROOF = """-- Made by `tools/tables` from names.txt: code and definition have the same keys of slots {first} to {last}. Each stands in its
--- slot, and none is wrong: if one is, its text stands in the error. And each whole name has its mark.
-use Rattle.std.proofs.Common.{{◌≡◌, [], drop, length, map, refl, take}}
+KEYS_PROOF = """-- Made by `tools/tables` from names.txt: each key of slots {first} to {last} stands in its slot, and none is wrong: if one is, its
+-- text stands in the error. And each whole name has its mark.
+use Rattle.std.proofs.Common.{{◌≡◌, [], length, refl}}
 use Rattle.infer.specs.Table.{{table}}
 use Rattle.infer_more.specs.Table.{{{lists}, further}}
 use Rattle.infer_more.specs.Wider.{{shown}}
 use Rattle.infer_named.proofs.FindLemmas.{{wrong_from}}
 use Rattle.infer_named.proofs.MarkLemmas.{{AreMarked}}
 use Rattle.infer_named.specs.Keys.{name}.{{keys}}
-use Rattle.infer_named.specs.Listed.{{key_listed, key_texts, readings}}
 use Rattle.infer_named.specs.Marks.{{whole_marks}}
-use Rattle.infer_named.specs.Sets.{{lead_lists, sets, {sets}}}
 use Rattle.infer_named.specs.Slots.{{starts}}
-use Rattle.infer_named.specs.Types.{{types, {types}}}
-use Rattle.infer_named.specs.declared.table.generated.keys.TheConstants.{{KEYS}}
-
-pub listed : map key_listed (take {count} (drop {start} KEYS)) ≡ keys
-unfolding keys key_texts readings
-listed = refl
 
 pub many : length keys ≡ {count}
 unfolding keys
 many = refl
 
 pub right : wrong_from starts {end} {start} keys ≡ []
-unfolding keys starts types {types_names} lead_lists sets {sets_names} shown table further {rows_names}
+unfolding keys starts shown table further {rows_names}
 right = refl
 
 pub marked : AreMarked keys
 unfolding keys whole_marks
 marked = record {{ all = refl }}
 """
-ALL_PROOF = """-- Made by `tools/tables` from names.txt: code and definition have the same keys, types and sets, and no key is wrong.
-use Rattle.std.proofs.Common.{{◌≡◌, [], drop, map, refl, take}}
+ALL_PROOF = """-- Made by `tools/tables` from names.txt: code and definition have the same keys, and no key is wrong.
+use Rattle.std.proofs.Common.{{◌≡◌, [], map, refl, subst}}
 use Rattle.infer_named.proofs.FindLemmas.{{right_append, wrong_from}}
-use Rattle.infer_named.proofs.ListLemmas.{{listed_append, listed_last}}
+use Rattle.infer_named.proofs.ListedLemmas.{{key_is, key_near}}
 use Rattle.infer_named.proofs.MarkLemmas.{{AreMarked, marked_append}}
-use Rattle.infer_named.specs.Listed.{{key_listed, mime_types, ranges, row_spans, row_texts, set_listed, type_listed}}
-use Rattle.infer_named.specs.Sets.{{sets, {sets}}}
+use Rattle.infer_named.specs.Listed.{{key_listed, key_texts, mime_types, ranges, readings, row_spans, row_texts}}
 use Rattle.infer_named.specs.Slots.{{starts}}
 use Rattle.infer_named.specs.Table.{{keys}}
-use Rattle.infer_named.specs.Types.{{types, {types}}}
+use Rattle.infer_named.specs.Texts.{{lead_lists}}
 use Rattle.infer_named.specs.declared.table.generated.keys.TheConstants.{{KEYS}}
-use Rattle.infer_named.specs.declared.table.generated.sets.TheConstants.{{SETS}}
-use Rattle.infer_named.specs.declared.table.generated.types.TheConstants.{{TYPES}}
 {uses}
-
-pub keys_listed : map key_listed KEYS ≡ keys
-unfolding keys
-keys_listed ={keys_listed}
 
 pub right : wrong_from starts {count} 0 keys ≡ []
 unfolding keys
@@ -275,19 +219,12 @@ pub marked : AreMarked keys
 unfolding keys
 marked ={marked}
 
-{of_types}
-pub types_listed : map type_listed TYPES ≡ types
-unfolding types
-types_listed ={types_listed}
+keys_alike : map key_near KEYS ≡ keys
+unfolding keys {lists} key_texts readings mime_types ranges row_spans row_texts lead_lists
+keys_alike = refl
 
-{of_sets}
-pub sets_listed : map set_listed SETS ≡ sets
-unfolding sets
-sets_listed ={sets_listed}
-"""
-PART_PROOF = """{word}_{number}-listed : map {of}_listed (take {count} (drop {start} {constant})) ≡ {word}_{number}
-unfolding {word}_{number} {names}
-{word}_{number}-listed = refl
+pub keys_listed : map key_listed KEYS ≡ keys
+keys_listed = subst (λ listed. map listed KEYS ≡ keys) key_is keys_alike
 """
 NAMELESS_TERM = """-- Made by `tools/tables` from names.txt: the rows whose files have no name of their own.
 use Rattle.std.specs.Prelude.{{ℕ, List, [], ◌∷◌, codes}}
@@ -306,9 +243,7 @@ use Rattle.infer_more.specs.Wider.{{shown}}
 use Rattle.infer_named.proofs.NamedLemmas.{{named_last, named_part, unnamed}}
 use Rattle.infer_named.specs.Laws.{{EachRowIsNamed}}
 use Rattle.infer_named.specs.Nameless.{{nameless}}
-use Rattle.infer_named.specs.Sets.{{lead_lists, sets, {sets}}}
 use Rattle.infer_named.specs.Table.{{keys}}
-use Rattle.infer_named.specs.Types.{{types, {types}}}
 {uses}
 
 {parts}
@@ -320,16 +255,14 @@ NAMED_PART_PROOF = """takers_{number} : List ℕ
 takers_{number} = {takers}
 
 named_{number} : unnamed (take {count} (drop {start} shown)) takers_{number} ≡ []
-unfolding shown table further {lists} nameless keys {keys} lead_lists sets {set_lists} types {type_lists} takers_{number}
+unfolding shown table further {lists} nameless keys {keys} takers_{number}
 named_{number} = refl
 """
 KEYS_HEAD = "-- Made by `tools/tables` from names.txt: the keys of all slots, {} a file.\n"
 KEYS_TERM = """-- Made by `tools/tables` from names.txt: the keys of slots {} to {}.
 use Rattle.std.specs.Prelude.{{List, [], ◌∷◌, codes, false, true}}
-use Rattle.infer_named.specs.Key.{{Key, key}}
-use Rattle.infer_named.specs.Listed.{{reading}}
-use Rattle.infer_named.specs.Sets.{{{}}}
-use Rattle.infer_named.specs.Types.{{{}}}
+use Rattle.infer_named.specs.Key.{{Key, key, named, reading, {}}}
+use Rattle.infer_named.specs.Texts.{{any, none, texts}}
 use Rattle.infer_named.specs.declared.table.Asks.TheVariants.{{{}}}
 use Rattle.infer_named.specs.declared.table.Part.TheVariants.{{{}}}
 
@@ -753,33 +686,35 @@ def texts_code():
 
 def reading_text(it):
     """A reading as numbers: of its type, of its sets and of its leads."""
-    rows = " ".join(str(sets()[rows]) for rows in (it.agrees, it.begins, it.finer))
-    return f"    {types()[it.mime_type, it.origin]} {it.asks} {rows} {leads()[it.leads]};"
-
-
-def type_text(it, origin):
-    row = ROW.fullmatch(origin)
-    return f"    {mime_types().span(it)} {f'Row {row_texts().span(row[1])}' if row else origin};"
-
-
-def types_code():
-    return TYPES_CODE.format(count=len(types()), types="\n".join(type_text(*it) for it in types()))
+    row = ROW.fullmatch(it.origin)
+    origin = f"Row {row_texts().span(row[1])}" if row else it.origin
+    rows = " ".join(set_spans()[rows] for rows in (it.agrees, it.begins, it.finer))
+    return f"    {mime_types().span(it.mime_type)} {origin} {it.asks} {rows} {leads()[it.leads]};"
 
 
 def leads_text(found):
     return f"[{' '.join(f'b{lead}' for lead in found)}]"
 
 
+@kept
+def ranges_of_sets():
+    """The ranges of rows of the sets, one set behind the other."""
+    return [ranges(rows()[row] for row in it) for it in sets()]
+
+
+@kept
+def set_spans():
+    """Where the ranges of each set stand among those of all, and how many they are."""
+    counts = [len(it) for it in ranges_of_sets()]
+    return {it: f"{sum(counts[:number])} {counts[number]}" for number, it in enumerate(sets())}
+
+
 def sets_code():
-    found, spans, (_, shifts, slots) = [], [], row_slots()
-    for it in sets():
-        of_set = ranges(rows()[row] for row in it)
-        spans.append(f"    {len(found)} {len(of_set)};")
-        found += of_set
+    (_, shifts, slots), found = row_slots(), [it for of_set in ranges_of_sets() for it in of_set]
     return SETS_CODE.format(
         rows="\n".join(f"    {row_texts().span(it)};" for it in rows()), rows_count=len(rows()),
         ranges="\n".join(f"    {start} {count};" for start, count in found), ranges_count=len(found),
-        sets="\n".join(spans), sets_count=len(spans), shifts=numbers_text(shifts), shifts_count=len(shifts),
+        shifts=numbers_text(shifts), shifts_count=len(shifts),
         slots=numbers_text(slots), slots_count=len(slots), marks=numbers_text(marks(rows())), marks_count=len(marks(rows())),
         leads="\n".join(f"    {leads_text(found)}" for found in leads()),
     )
@@ -811,30 +746,9 @@ def origin_term(origin):
     return re.sub(r"Row\((.*)\)", r"(row (codes \1))", origin).replace("Known", "known").replace("Own", "own")
 
 
-def named_number(word, texts):
-    """The name that the definition gives a number."""
-    return "-".join([word, *(re.sub(r"[^0-9a-z]+", "-", it.lower()).strip("-") for it in texts)])
-
-
-@kept
-def names_of_types():
-    """The name of each type: its MIME type, and who names it where two have one."""
-    both = [it for it, _ in types()]
-    return {it: named_number("is", [it[0]] if both.count(it[0]) == 1 else [it[0], "as", it[1]]) for it in types()}
-
-
-@kept
-def names_of_sets():
-    return {it: "no-rows" if not it else "text-rows" if it == tuple(TEXTS) else named_number("rows", it) for it in sets()}
-
-
-def name_of_leads(it):
-    return f"leads-{leads()[it]}" if it else "any-lead"
-
-
 def reading_term(it):
-    rows = " ".join(names_of_sets()[rows] for rows in (it.agrees, it.begins, it.finer))
-    return f"reading {names_of_types()[it.mime_type, it.origin]} {it.asks} {rows} {name_of_leads(it.leads)}"
+    rows = " ".join(map(rows_term, (it.agrees, it.begins, it.finer)))
+    return f'reading (named (codes "{it.mime_type}") {origin_term(it.origin)}) {it.asks} {rows} {leads_term(it.leads)}'
 
 
 def key_term(it):
@@ -854,44 +768,8 @@ def of_group(number):
 def group_term(number):
     first, keys = number * GROUP, of_group(number)
     readings = [reading for it in keys for reading in it.readings]
-    of_sets = {names_of_sets()[rows] for it in readings for rows in (it.agrees, it.begins, it.finer)} | {name_of_leads(it.leads) for it in readings}
-    of_types = {names_of_types()[it.mime_type, it.origin] for it in readings}
-    used = (of_sets, of_types, {it.asks for it in readings}, {it.part for it in keys})
+    used = ({origin_term(it.origin).strip("(").split()[0] for it in readings}, {it.asks for it in readings}, {it.part for it in keys})
     return KEYS_TERM.format(first, first + GROUP - 1, *(", ".join(sorted(it)) for it in used), listed_terms(map(key_term, keys)))
-
-
-def names_of(word, count):
-    return [f"{word}_{it}" for it in range(count)]
-
-
-def numbers(names):
-    return "\n".join(NUMBER_TERM.format(name=it, number=number) for number, it in enumerate(names))
-
-
-def of_types():
-    return parts(list(types()), TYPES)
-
-
-def of_sets():
-    return parts(list(sets()), SETS)
-
-
-def types_term():
-    terms = (listed_terms(f'named (codes "{mime_type}") {origin_term(origin)}' for mime_type, origin in it) for it in of_types())
-    return TYPES_TERM.format(
-        numbers=numbers(names_of_types().values()),
-        names=joined(names_of("types", len(of_types()))),
-        lists="\n".join(TYPES_LIST_TERM.format(number=number, types=it) for number, it in enumerate(terms)),
-    )
-
-
-def sets_term():
-    terms = (listed_terms(map(rows_term, it)) for it in of_sets())
-    return SETS_TERM.format(
-        numbers=numbers([*map(name_of_leads, leads())]) + "\n" + numbers(names_of_sets().values()),
-        leads=listed_terms(map(leads_term, leads())), names=joined(names_of("sets", len(of_sets()))),
-        lists="\n".join(SETS_LIST_TERM.format(number=number, sets=it) for number, it in enumerate(terms)),
-    )
 
 
 def joined(names):
@@ -900,50 +778,24 @@ def joined(names):
 
 
 def group_proof(number):
-    lists, set_lists = names_of("types", len(of_types())), names_of("sets", len(of_sets()))
     start, end = starts()[number * GROUP], starts()[(number + 1) * GROUP]
     return KEYS_PROOF.format(
         first=number * GROUP, last=(number + 1) * GROUP - 1, name=f"K{number}", count=end - start, start=start, end=end,
-        types=", ".join(lists), types_names=" ".join(lists), sets=", ".join(set_lists), sets_names=" ".join(set_lists),
         lists=", ".join(further_lists()), rows_names=" ".join(further_lists()),
     )
 
 
-def parts_proof(word, of, names, constant, lists, size):
-    """That code and definition have the same parts, and the proof of all from theirs."""
-    each = "\n".join(
-        PART_PROOF.format(word=word, of=of, names=names, number=number, constant=constant, start=number * size, count=len(it)) for number, it in enumerate(lists)
-    )
-    numbered = [(number * size, len(it), f"{word}_{number}-listed") for number, it in enumerate(lists)]
-    return each, listed_proof(f"{of}_listed", constant, numbered)
-
-
-def listed_proof(of, constant, numbered):
-    """Each part begins at a place, has a length, and has a proof. Behind the last stands nothing."""
-    start, count, proof = numbered[-1]
-    term = f"listed_last {of} {constant} {start} {count} refl {proof}"
-    for start, count, proof in reversed(numbered[:-1]):
-        term = f"listed_append {of} {constant} {start} {count} {proof}\n    ({term})"
-    return f"\n    {term}"
-
-
 def all_proof():
     count = SLOTS // GROUP
-    uses = "\n".join(f"use Rattle.infer_named.proofs.Placed.K{it} as k{it}" for it in range(count))
-    numbered = [(starts()[it * GROUP], len(of_group(it)), f"k{it}.listed") for it in range(count)]
+    uses = [f"use Rattle.infer_named.{of}{it} as {name}{it}" for of, name in (("proofs.Placed.K", "k"), ("specs.Keys.K", "of_k")) for it in range(count)]
     right = f"k{count - 1}.right"
     for it in reversed(range(count - 1)):
         right = f"right_append starts {len(in_slots())} {starts()[it * GROUP]} {len(of_group(it))} _ _ refl k{it}.many k{it}.right\n    ({right})"
     marked = f"k{count - 1}.marked"
     for it in reversed(range(count - 1)):
         marked = f"marked_append k{it}.marked\n    ({marked})"
-    types_each, types_all = parts_proof("types", "type", "mime_types row_texts", "TYPES", of_types(), TYPES)
-    sets_each, sets_all = parts_proof("sets", "set", "ranges row_spans row_texts", "SETS", of_sets(), SETS)
     return ALL_PROOF.format(
-        uses=uses, keys_listed=listed_proof("key_listed", "KEYS", numbered), right=f"\n    {right}", count=len(in_slots()),
-        marked=f"\n    {marked}",
-        types=", ".join(names_of("types", len(of_types()))), sets=", ".join(names_of("sets", len(of_sets()))),
-        of_types=types_each, of_sets=sets_each, types_listed=types_all, sets_listed=sets_all,
+        uses="\n".join(uses), right=f"\n    {right}", count=len(in_slots()), marked=f"\n    {marked}", lists=" ".join(f"of_k{it}.keys" for it in range(count)),
     )
 
 
@@ -959,12 +811,12 @@ def further_lists():
 
 def named_proof():
     """That each row has a name, so many rows at once."""
-    lists, type_lists, set_lists = further_lists(), names_of("types", len(of_types())), names_of("sets", len(of_sets()))
+    lists = further_lists()
     numbered = parts(list(enumerate(takers())), ROWS)
     each = "\n".join(
         NAMED_PART_PROOF.format(
             number=number, takers=" ∷ ".join([*(str(it) for _, it in part), "[]"]), count=len(part), start=number * ROWS, lists=" ".join(lists),
-            keys=" ".join(f"k{it}.keys" for it in range(SLOTS // GROUP)), set_lists=" ".join(set_lists), type_lists=" ".join(type_lists),
+            keys=" ".join(f"k{it}.keys" for it in range(SLOTS // GROUP)),
         )
         for number, part in enumerate(numbered)
     )
@@ -973,16 +825,15 @@ def named_proof():
     for number in reversed(range(last)):
         term = f"named_part shown {number * ROWS} {ROWS} takers_{number} named_{number}\n    ({term})"
     return NAMED_PROOF.format(
-        lists=", ".join(lists), names=" ".join(lists), sets=", ".join(set_lists), types=", ".join(type_lists), parts=each, each_named=f"\n    {term}",
+        lists=", ".join(lists), names=" ".join(lists), parts=each, each_named=f"\n    {term}",
         uses="\n".join(f"use Rattle.infer_named.specs.Keys.K{it} as k{it}" for it in range(SLOTS // GROUP)),
     )
 
 
 def texts_term():
-    """The definition of sets with the rows of texts, eight a line."""
-    codes = [f'codes "{it}"' for it in TEXTS]
-    lines = [" ∷ ".join(codes[at : at + 8]) for at in range(0, len(codes), 8)]
-    return TEXTS_TERM + "    " + "\n    ∷ ".join(lines) + " ∷ []\n"
+    """The definition of sets with the rows of texts, eight a line, and of the leads."""
+    lines = [" ∷ ".join(f'codes "{it}"' for it in part) for part in parts(TEXTS, 8)]
+    return TEXTS_TERM.format(rows="\n    ∷ ".join(lines), leads=listed_terms(map(leads_term, leads())))
 
 
 def weighed():
@@ -991,10 +842,8 @@ def weighed():
 
 
 def made():
-    for name, code in (("keys", keys_code), ("texts", texts_code), ("types", types_code), ("sets", sets_code)):
+    for name, code in (("keys", keys_code), ("texts", texts_code), ("sets", sets_code)):
         yield f"{CRATE}/src/table/generated/{name}.rt", code()
-    yield f"{CRATE}/specs/Types.antt", types_term()
-    yield f"{CRATE}/specs/Sets.antt", sets_term()
     yield f"{CRATE}/specs/Texts.antt", texts_term()
     yield f"{CRATE}/specs/Nameless.antt", nameless_term()
     yield f"{CRATE}/proofs/NamedRows.antt", named_proof()

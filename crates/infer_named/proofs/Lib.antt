@@ -1,6 +1,7 @@
 pub mod SmallLemmas
 pub mod ListLemmas
 pub mod StretchLemmas
+pub mod ListedLemmas
 pub mod FindLemmas
 pub mod MarkLemmas
 pub mod Placed

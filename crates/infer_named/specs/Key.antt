@@ -34,5 +34,9 @@ pub record Key : Type 0 where
 abbrev pub named : List ℕ → Origin → NamedType
 named mime_type origin = record { mime_type = mime_type; origin = origin }
 
+abbrev pub reading : NamedType → Asks → List (List ℕ) → List (List ℕ) → List (List ℕ) → List (List ℕ) → Reading
+reading type asks agrees begins finer leads =
+    record { named = type; asks = asks; agrees = agrees; begins = begins; finer = finer; leads = leads }
+
 abbrev pub key : Part → List ℕ → Bool → List Reading → Key
 key part text is_loose readings = record { part = part; text = text; is_loose = is_loose; readings = readings }

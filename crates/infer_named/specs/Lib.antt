@@ -1,7 +1,5 @@
 pub mod Key
 pub mod Texts
-pub mod Types
-pub mod Sets
 pub mod Listed
 pub mod Rows
 pub mod Names

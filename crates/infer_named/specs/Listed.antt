@@ -2,10 +2,8 @@
 use Rattle.std.specs.Prelude.{ℕ, List, [], drop, get_or, map, take}
 use Rattle.std.specs.List.{flat_map}
 use denote.Ref.{Bor}
-use Rattle.infer_named.specs.Key.{Key, NamedType, Origin, Reading, key, known, named, own, row}
-use Rattle.infer_named.specs.Sets.{lead_lists, sets}
-use Rattle.infer_named.specs.Types.{types}
-use Rattle.infer_named.specs.declared.table.Asks.{Asks}
+use Rattle.infer_named.specs.Key.{Key, NamedType, Origin, Reading, key, known, own, reading, row}
+use Rattle.infer_named.specs.Texts.{lead_lists}
 use Rattle.infer_named.specs.declared.table.Key as code_key
 use Rattle.infer_named.specs.declared.table.NamedType as code_type
 use Rattle.infer_named.specs.declared.table.Origin as code_origin
@@ -77,29 +75,12 @@ range_listed range = stretch row_list range.start range.count
 abbrev pub set_listed : Span → List (List ℕ)
 set_listed span = flat_map range_listed (stretch ranges span.start span.count)
 
--- the type, the rows and the leads of a number
-abbrev pub type_at : ℕ → NamedType
-type_at n = get_or types n (named [] own)
-
-abbrev pub rows_at : ℕ → List (List ℕ)
-rows_at n = get_or sets n []
-
+-- the leads of a number
 abbrev pub leads_at : ℕ → List (List ℕ)
 leads_at n = get_or lead_lists n []
 
--- the reading of these numbers
-abbrev pub reading : ℕ → Asks → ℕ → ℕ → ℕ → ℕ → Reading
-reading type asks agrees begins finer leads = record {
-  named = type_at type;
-  asks = asks;
-  agrees = rows_at agrees;
-  begins = rows_at begins;
-  finer = rows_at finer;
-  leads = leads_at leads;
-}
-
 abbrev pub reading_listed : code_reading.Reading → Reading
-reading_listed r = reading r.named r.asks r.agrees r.begins r.finer r.leads
+reading_listed r = reading (type_listed r.named) r.asks (set_listed r.agrees) (set_listed r.begins) (set_listed r.finer) (leads_at r.leads)
 
 abbrev pub key_listed : code_key.Key → Key
 key_listed k =

@@ -1,4 +1,4 @@
--- Made by `tools/tables` from names.txt: sets of rows that many readings have.
+-- Made by `tools/tables` from names.txt: sets of rows that many readings have, and the lists of leads.
 use Rattle.std.specs.Prelude.{ℕ, List, [], ◌∷◌, codes}
 
 -- no rows
@@ -44,3 +44,21 @@ texts =
     ∷ codes "wreg" ∷ codes "wsdl" ∷ codes "x3d" ∷ codes "xbel" ∷ codes "xbm" ∷ codes "xhtml" ∷ codes "xib" ∷ codes "xkbrules"
     ∷ codes "xliff" ∷ codes "xmcd" ∷ codes "xmi" ∷ codes "xml" ∷ codes "xmp" ∷ codes "xpm" ∷ codes "xpm2" ∷ codes "xsd"
     ∷ codes "xslt" ∷ codes "xspf" ∷ codes "yaml" ∷ []
+
+-- with what the files of a type begin, as lists that readings have
+unfoldable pub lead_lists : List (List (List ℕ))
+lead_lists =
+    any
+    ∷ ((0x25 ∷ 0x20 ∷ []) ∷ codes "%%" ∷ codes "%!" ∷ (0x25 ∷ 0x09 ∷ []) ∷ (0x25 ∷ 0x0A ∷ []) ∷ codes ":-" ∷ codes "/*" ∷ [])
+    ∷ (codes "%" ∷ [])
+    ∷ (codes "%" ∷ codes "##" ∷ (0x23 ∷ 0x20 ∷ []) ∷ (0x23 ∷ 0x0A ∷ []) ∷ codes "#!" ∷ codes "fu" ∷ codes "cl" ∷ [])
+    ∷ (codes "(*" ∷ [])
+    ∷ (codes "/" ∷ codes "%{" ∷ codes "%o" ∷ codes "%%" ∷ [])
+    ∷ (codes "/*" ∷ codes "//" ∷ (0x22 ∷ []) ∷ [])
+    ∷ (codes "/*" ∷ codes "GR" ∷ codes "IN" ∷ codes "OU" ∷ [])
+    ∷ (codes "//" ∷ codes "/*" ∷ codes "@" ∷ codes "#i" ∷ codes "#d" ∷ codes "#p" ∷ [])
+    ∷ (codes ";" ∷ codes "ta" ∷ codes "so" ∷ codes "de" ∷ codes "@" ∷ [])
+    ∷ (codes "<" ∷ [])
+    ∷ (codes "<" ∷ codes "_" ∷ codes "#" ∷ [])
+    ∷ (codes "us" ∷ codes "#!" ∷ (0x23 ∷ 0x20 ∷ []) ∷ codes "my" ∷ codes "BE" ∷ codes "no" ∷ codes "pa" ∷ codes "##" ∷ (0x23 ∷ 0x0A ∷ []) ∷ codes "re" ∷ [])
+    ∷ []

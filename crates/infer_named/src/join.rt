@@ -13,7 +13,7 @@ use crate::bytes::{Kind, kind_of, lead_of};
 use crate::names::key;
 use crate::rows::Numbered;
 use crate::table::{
-    Asks, Key, NamedType, Origin, Reading, leads, mime_type, named, readings_of, row_text,
+    Asks, Key, NamedType, Origin, Reading, leads, mime_type, readings_of, row_text,
 };
 use infer::Type;
 
@@ -124,7 +124,7 @@ fn first_type(readings: &[Reading]) -> Option<Told>
     ensures { option_map told_listed result ≡ first_type (map reading_listed readings.now) }
 {
     match readings {
-        [first, ..] => Some(Told::Name(named(first.named))),
+        [first, ..] => Some(Told::Name(first.named)),
         [] => None,
     }
 }
@@ -205,11 +205,7 @@ fn keyed_alone(key: &'static Key, buf: &[u8]) -> Named
         return silent(Standing::Nothing, Some(key));
     }
     match reading_without(readings_of(key), kind_of(buf), buf) {
-        Some(reading) => telling(
-            Standing::NameAlone,
-            Told::Name(named(reading.named)),
-            Some(key),
-        ),
+        Some(reading) => telling(Standing::NameAlone, Told::Name(reading.named), Some(key)),
         None => silent(Standing::Contradicts, Some(key)),
     }
 }
@@ -254,7 +250,7 @@ fn told_by(key: &'static Key, reading: &Reading, standing: Option<Standing>, t: 
     match standing {
         Some(Standing::NameRefines) => telling(
             Standing::NameRefines,
-            Told::Name(named(reading.named)),
+            Told::Name(reading.named),
             Some(key),
         ),
         Some(Standing::Agree) => telling(Standing::Agree, Told::Bytes(t), Some(key)),

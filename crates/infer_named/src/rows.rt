@@ -3,7 +3,7 @@ ghost use Rattle.std.specs.Prelude.{◌≡◌, ◌<◌};
 ghost use Rattle.std.specs.List.{list_any};
 ghost use Rattle.infer.specs.Triple.{triple_of};
 ghost use Rattle.infer_named.specs.Join.{is_among};
-ghost use Rattle.infer_named.specs.Listed.{rows_at};
+ghost use Rattle.infer_named.specs.Listed.{set_listed};
 ghost use Rattle.infer_named.specs.Marks.{mark_of};
 ghost use Rattle.infer_named.specs.Rows.{IsRowNumber, are_in, is_in, row_slot, row_sum};
 
@@ -35,9 +35,9 @@ impl Numbered {
         }
     }
 
-    /// Whether the set of this number has one of the rows.
-    pub fn is_among(&self, set: u16) -> bool
-        ensures { result ≡ is_among (triple_of self.now.found) (rows_at set) }
+    /// Whether the set has one of the rows.
+    pub fn is_among(&self, set: Span) -> bool
+        ensures { result ≡ is_among (triple_of self.now.found) (set_listed set) }
     {
         let ranges = ranges(set);
         are_in(self.extension, ranges) || are_in(self.mime_type, ranges)

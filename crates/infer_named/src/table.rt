@@ -2,7 +2,7 @@
 //! lists of numbers, and one text of the keys, one of the types and one of the rows.
 ghost use Rattle.std.specs.Prelude.{◌≡◌, ◌<◌, IsAscii, map};
 ghost use Rattle.std.specs.List.{flat_map};
-ghost use Rattle.infer_named.specs.Listed.{key_listed, leads_at, mime_type, range_listed, reading_listed, row_at, row_text, rows_at, stretch, texts, type_at, type_listed};
+ghost use Rattle.infer_named.specs.Listed.{key_listed, leads_at, mime_type, range_listed, reading_listed, row_at, row_text, set_listed, stretch, texts};
 ghost use Rattle.infer_named.specs.Slots.{keys_of_slot};
 
 /// What of a file's name a key is.
@@ -52,17 +52,17 @@ pub enum Asks {
     Nothing,
 }
 
-/// What a name may mean: a type, what it asks of bytes that no row accepts, and which rows may accept its bytes. What many
-/// readings have stands once, and is named by its number.
+/// What a name may mean: a type, what it asks of bytes that no row accepts, and which rows may accept its bytes. The ranges of
+/// these rows stand among those of all readings, and leads have a number.
 pub struct Reading {
-    pub(crate) named: u16,
+    pub(crate) named: NamedType,
     pub(crate) asks: Asks,
     /// The rows of the type itself.
-    pub(crate) agrees: u16,
+    pub(crate) agrees: Span,
     /// The rows as which a file of the type may begin.
-    pub(crate) begins: u16,
+    pub(crate) begins: Span,
     /// The rows that are finer kinds of the type.
-    pub(crate) finer: u16,
+    pub(crate) finer: Span,
     /// The beginnings of such a file.
     pub(crate) leads: u16,
 }
@@ -105,19 +105,6 @@ macro_rules! keys {
     };
 }
 
-macro_rules! readings {
-    ($($named:literal $asks:ident $agrees:literal $begins:literal $finer:literal $leads:literal;)*) => {
-        [$(Reading {
-            named: $named,
-            asks: Asks::$asks,
-            agrees: $agrees,
-            begins: $begins,
-            finer: $finer,
-            leads: $leads,
-        }),*]
-    };
-}
-
 macro_rules! origin {
     (Row $start:literal $count:literal) => {
         Row(span!($start $count))
@@ -127,11 +114,18 @@ macro_rules! origin {
     };
 }
 
-macro_rules! types {
-    ($($start:literal $count:literal $origin:ident $($row:literal)*;)*) => {
-        [$(NamedType {
-            mime_type: span!($start $count),
-            origin: origin!($origin $($row)*),
+macro_rules! readings {
+    ($($type:literal $length:literal $origin:ident $($row:literal)* $asks:ident $agrees:literal $many:literal $begins:literal $some:literal $finer:literal $few:literal $leads:literal;)*) => {
+        [$(Reading {
+            named: NamedType {
+                mime_type: span!($type $length),
+                origin: origin!($origin $($row)*),
+            },
+            asks: Asks::$asks,
+            agrees: span!($agrees $many),
+            begins: span!($begins $some),
+            finer: span!($finer $few),
+            leads: $leads,
         }),*]
     };
 }
@@ -155,13 +149,11 @@ pub(crate) use origin;
 pub(crate) use readings;
 pub(crate) use span;
 pub(crate) use spans;
-pub(crate) use types;
 
 mod generated;
 
 use generated::{
-    all_keys, all_ranges, all_readings, all_sets, all_types, key_texts, mime_types, row_spans,
-    row_texts, starts,
+    all_keys, all_ranges, all_readings, key_texts, mime_types, row_spans, row_texts, starts,
 };
 pub(crate) use generated::{row_marks, row_shifts, row_slots, whole_marks};
 
@@ -211,20 +203,6 @@ pub(crate) fn readings_of(key: &Key) -> &'static [Reading]
     at(all_readings(), key.readings)
 }
 
-/// The type of this number.
-#[tactic(auto, using(crate::proofs::StretchLemmas::element_listed, crate::proofs::StretchLemmas::past_listed))]
-pub(crate) fn named(number: u16) -> NamedType
-    ensures { type_listed result ≡ type_at number }
-{
-    match all_types().get(usize::from(number)) {
-        Some(found) => *found,
-        None => NamedType {
-            mime_type: span!(0 0),
-            origin: Origin::Own,
-        },
-    }
-}
-
 /// What stands in an ASCII text at a span.
 fn text_at(text: &'static str, span: Span) -> &'static str
     requires { IsAscii text.now }
@@ -249,15 +227,11 @@ pub(crate) fn row_text(span: Span) -> &'static str
     text_at(row_texts(), span)
 }
 
-/// The ranges of the set of this number.
-#[tactic(auto, using(crate::proofs::StretchLemmas::element_listed, crate::proofs::StretchLemmas::past_listed))]
-pub(crate) fn ranges(number: u16) -> &'static [Span]
-    ensures { flat_map range_listed result.now ≡ rows_at number }
+/// The ranges of a set.
+pub(crate) fn ranges(set: Span) -> &'static [Span]
+    ensures { flat_map range_listed result.now ≡ set_listed set }
 {
-    match all_sets().get(usize::from(number)) {
-        Some(set) => at(all_ranges(), *set),
-        None => &[],
-    }
+    at(all_ranges(), set)
 }
 
 /// The row of this number: its extension, or its MIME type where two types have one extension.

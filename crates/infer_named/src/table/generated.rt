@@ -1,24 +1,19 @@
 //! The lists of the table, which `tools/tables` makes from names.txt, each with what it lists.
 ghost use Rattle.std.specs.Prelude.{◌≡◌, IsAscii, length, map};
-ghost use Rattle.infer_named.specs.Key.{NamedType};
-ghost use Rattle.infer_named.specs.Listed.{key_listed, key_texts, mime_types, ranges, readings, row_spans, row_texts, set_listed, type_listed};
+ghost use Rattle.infer_named.specs.Listed.{key_listed, key_texts, mime_types, ranges, readings, row_spans, row_texts};
 ghost use Rattle.infer_named.specs.Marks.{row_marks, whole_marks};
 ghost use Rattle.infer_named.specs.Rows.{row_shifts, row_slots};
-ghost use Rattle.infer_named.specs.Sets.{sets};
 ghost use Rattle.infer_named.specs.Slots.{starts};
 ghost use Rattle.infer_named.specs.Table.{keys};
-ghost use Rattle.infer_named.specs.Types.{types};
 
-use crate::table::{Key, NamedType, Reading, Span};
+use crate::table::{Key, Reading, Span};
 use keys::{KEYS, READINGS, STARTS, WHOLE_MARKS};
-use sets::{RANGES, ROW_MARKS, ROW_SHIFTS, ROW_SLOTS, ROWS, SETS};
+use sets::{RANGES, ROW_MARKS, ROW_SHIFTS, ROW_SLOTS, ROWS};
 use texts::{KEY_TEXTS, MIME_TYPES, ROW_TEXTS};
-use types::TYPES;
 
 pub(crate) mod keys;
 pub(crate) mod sets;
 pub(crate) mod texts;
-pub(crate) mod types;
 
 /// Where the keys of each slot begin.
 pub(crate) fn starts() -> &'static [u16]
@@ -56,26 +51,12 @@ pub(crate) fn all_readings() -> &'static [Reading]
     &READINGS
 }
 
-/// The types that names have.
-pub(crate) fn all_types() -> &'static [NamedType]
-    ensures { map type_listed result.now ≡ types }
-{
-    &TYPES
-}
-
-/// Their MIME types, each behind the other.
+/// The MIME types that names have, each behind the other.
 pub(crate) fn mime_types() -> &'static str
     ensures value { result.now ≡ mime_types }
     ensures ascii { IsAscii result.now }
 {
     MIME_TYPES
-}
-
-/// The sets of rows, each by where its ranges stand among those of all.
-pub(crate) fn all_sets() -> &'static [Span]
-    ensures { map set_listed result.now ≡ sets }
-{
-    &SETS
 }
 
 /// The ranges of rows of the sets, one set behind the other.
