@@ -1,25 +1,48 @@
 -- Each key is that of some name.
-use Rattle.std.proofs.Common.{◌≡◌, ◌≢◌, ◌+◌, ◌-◌, ◌<◌, ◌≤◌, ◌==◌, ◌&&◌, ◌||◌, ◌∙◌, ◌++◌, ℕ, zero, suc, Bool, true, false, IsTrue, List, [], ◌∷◌, Option, None, Some, ap, arith, codes, drop, refl, subst, sym, if◌then◌else◌, inl, inr, length, not, take, unwrap_or}
+use Rattle.std.proofs.Common.{◌≡◌, ◌+◌, ◌-◌, ◌<◌, ◌≤◌, ◌&&◌, ◌∙◌, ℕ, zero, suc, Bool, true, false, IsTrue, List, [], ◌∷◌, Option, None, Some, ap, arith, codes, drop, refl, subst, sym, inl, inr, length, not, take, unwrap_or}
 use Rattle.std.proofs.lemmas.Bool.{and_from, and_parts, cases_Bool, cases_lt, le-leb, leb-true}
 use Rattle.std.proofs.lemmas.List.{length-append, length-map, take_all}
 use Rattle.std.proofs.lemmas.List.Elements.{All-cons, All-nil}
 use Rattle.std.proofs.lemmas.List.Folds.{list_any_at}
 use Rattle.std.proofs.lemmas.Slice.Eq.{bytes_eq-Decides}
 use Rattle.std.specs.Char.{to_ascii_lowercase}
-use Rattle.std.specs.List.{All, find, list_any}
+use Rattle.std.specs.List.{All, find, list_all, list_any}
 use Rattle.std.specs.Option.{option_map_or, option_or}
 use Rattle.std.specs.Prelude.{nat_le, slice_index, slice_index_or}
 use Rattle.std.specs.Str.{bytes_eq}
 use Rattle.memchr.specs.Find.{IsLast, Nowhere, Passes, is_byte, is_byte2}
-use Rattle.infer_named.proofs.DotLemmas.{none_long}
 use Rattle.infer_named.proofs.SameLemmas.{nowhere_of}
 use Rattle.infer_named.proofs.TableLemmas.{all_right}
 use Rattle.infer_named.specs.Key.{Key}
-use Rattle.infer_named.specs.Laws.{EachKeyIsReached, are_told, edge_of, has_form, has_name, is_key_right, is_unversioned, last_below, last_dot, name_of, shows_extension, shows_key, wrong_keys}
+use Rattle.infer_named.specs.Laws.{EachKeyIsReached, are_told, edge_of, has_form, has_name, is_key_right, is_unversioned, last_below, last_dot, name_of, has_most, is_key_byte, shows_extension, shows_key, wrong_keys}
 use Rattle.infer_named.specs.Names.{IsBase, IsExtensionKey, IsKey, IsStemKey, behind, copies, copy_length, ends_in, entry, extension_at, is_key, is_version, is_version_byte, same_part, small, stem_of, up_to}
 use Rattle.infer_named.specs.Table.{keys}
 use Rattle.infer_named.specs.declared.table.Part.{Part}
 use Rattle.infer_named.specs.declared.table.Part.TheVariants.{Extension, Whole}
+
+-- a right key has at most 27 bytes
+first_right : (k : Key) (keys : List Key) → wrong_keys (k ∷ keys) ≡ [] → (length k.text ≤ 27) × (wrong_keys keys ≡ [])
+first_right k keys e = elim (cases_Bool (is_key_right k && not (list_any (is_key k.part k.text) keys))) [
+  | inl on ↦ (
+      let parts = and_parts (is_key_right k) (not (list_any (is_key k.part k.text) keys)) on in
+      let form = and_parts (has_form k) (has_name k.part k.text && are_told k) parts.0 in
+      let named = and_parts (has_most 27 k.text && list_all is_key_byte k.text && nat_le 1 (length k.readings)) (list_all (λ r. has_most 73 r.named.mime_type) k.readings) form.0 in
+      let some = and_parts (has_most 27 k.text && list_all is_key_byte k.text) (nat_le 1 (length k.readings)) named.0 in
+      let most = and_parts (has_most 27 k.text) (list_all is_key_byte k.text) some.0 in
+      let bounds = and_parts (nat_le 1 (length k.text)) (nat_le (length k.text) 27) most.0 in
+      let later : wrong_keys keys ≡ [] = rw on at e in (leb-true _ _ bounds.1, later))
+  | inr off ↦ (let some : k.text ∷ wrong_keys keys ≡ [] = rw off at e in absurd (cc))
+]
+
+none_long : (part : Part) (text : List ℕ) → 27 < length text → (keys : List Key) → wrong_keys keys ≡ [] → find (is_key part text) keys ≡ None
+none_long part text long [] e = refl
+none_long part text long (k ∷ keys) e =
+    let (short, later) = first_right k keys e in elim (cases_Bool (is_key part text k)) [
+      | inl on ↦ (
+          let parts = and_parts (same_part part k.part) (bytes_eq text k.text) on in
+          let same : length text ≡ length k.text = ap length ((bytes_eq-Decides text k.text).0 parts.1) in absurd (omega arith))
+      | inr other ↦ rw other (none_long part text long keys later)
+    ]
 
 -- the last place below n
 nowhere_more : (P : ℕ → Type 0) (i n : ℕ) → Nowhere P i n → (¬ P n) → Nowhere P i (suc n)
@@ -37,7 +60,7 @@ module _ (test : ℕ → Bool) (text : List ℕ) (i : ℕ) where
   more_last n (Some k) (there, on) not-here =
       (record { low = there.low; high = omega (arith, there.high); after = nowhere_more (Passes test text) (k + 1) n there.after not-here }, on)
 
-  below_last : (n : ℕ) → IsLast (Passes test text) i n (last_below test text i n)
+  pub below_last : (n : ℕ) → IsLast (Passes test text) i n (last_below test text i n)
   below_last zero = nowhere_past (Passes test text) i zero (omega arith)
   below_last (suc n) = elim (cases_Bool (nat_le i n)) [
     | inl low ↦ elim (cases_Bool (test (slice_index text n))) [

@@ -5,8 +5,6 @@ pub mod Rows
 pub mod Names
 pub mod Keys
 pub mod Table
-pub mod Dots
-pub mod Least
 pub mod Slots
 pub mod Marks
 pub mod Bytes

@@ -4,10 +4,9 @@
 //! is Python, a picture is none. The table of names is data, and so are the readings of each: what a name may mean, and
 //! which rows may accept the bytes of such a file.
 //!
-//! Each module uses only those before it: `table`, the keys with their readings; `least`, the least byte of a text; `names`,
-//! the key of a name; `bytes`, what is asked of the bytes beside their wider answer; `rows`, the sets that have a type; `join`,
-//! all together; `own`, types of a text beside these; `read`, the front of a file or of a reader; `odd`, what is odd about a
-//! name.
+//! Each module uses only those before it: `table`, the keys with their readings; `names`, the key of a name; `bytes`, what is
+//! asked of the bytes beside their wider answer; `rows`, the sets that have a type; `join`, all together; `own`, types of a
+//! text beside these; `read`, the front of a file or of a reader; `odd`, what is odd about a name.
 #![tactic(auto)]
 
 ghost use Rattle.std.specs.Prelude.{◌≡◌, ◌≤◌, IfOk, None, option_map};
@@ -25,7 +24,6 @@ ghost use Rattle.infer_named.specs.Table.{keys};
 mod bytes;
 mod join;
 pub mod laws;
-mod least;
 mod marks;
 mod names;
 mod odd;

@@ -1,206 +1,27 @@
 //! The key of a name.
-ghost use Rattle.std.specs.Prelude.{◌≡◌, ◌+◌, ◌-◌, ◌<◌, ◌≤◌, ◌==◌, ℕ, IfSome, Option, IsTrue, None, Some, codes, drop, false, if◌then◌else◌, length, map, not, option_map, take, true};
-ghost use Rattle.std.specs.Bool.{OnTrue};
+ghost use Rattle.std.specs.Prelude.{◌≡◌, ◌<◌, ◌≤◌, IfSome, IsTrue, None, codes, false, if◌then◌else◌, length, map, option_map};
 ghost use Rattle.std.specs.Char.{to_ascii_lowercase};
 ghost use Rattle.std.specs.List.{find, list_any};
 ghost use Rattle.std.specs.Str.{bytes_eq};
-ghost use Rattle.memchr.specs.Find.{IsFirstByte, IsLastByte, Nowhere, Passes, is_byte, is_byte3};
-ghost use Rattle.infer_named.specs.Dots.{HasEdge, IsNear, IsSettled};
-ghost use Rattle.infer_named.specs.Least.{IsLeast};
 ghost use Rattle.infer_named.specs.Listed.{key_listed};
 ghost use Rattle.infer_named.specs.Marks.{mark_of};
-ghost use Rattle.infer_named.specs.Parts.{ArePartsAmong, are_parts_from};
-ghost use Rattle.infer_named.specs.Names.{IsBase, IsDottedKey, IsExtensionKey, IsKey, IsLastDot, IsMakerKey, IsStemKey, IsVersioned, are_parts, copy_length, ends_copy, ends_in, entry, extension_at, is_digit, is_key, is_version, is_version_byte, makers, same_part, slot_of, small, stem_of};
+ghost use Rattle.infer_named.specs.Parts.{are_parts_from};
+ghost use Rattle.infer_named.specs.Names.{IsBase, IsDottedKey, IsExtensionKey, IsKey, IsLastDot, IsMakerKey, IsStemKey, IsVersioned, copy_length, ends_copy, ends_in, entry, extension_at, is_digit, is_key, is_version, makers, same_part, slot_of, small, stem_of};
 ghost use Rattle.infer_named.specs.Table.{keys};
-ghost use Rattle.infer_named.specs.declared.names.TheConstants.{FAR};
-ghost use Rattle.infer_named.specs.declared.least.TheConstants.{LANES};
 ghost use Rattle.infer_named.specs.declared.table.Part.TheVariants.{Extension, Whole};
 
-use crate::least::{LANES, least};
 use crate::marks::{is_marked, mark};
 use crate::table::{Key, Part, key_text, slot, whole_marks};
 use memchr::{memchr, memrchr, memrchr2};
 
-/// How many bytes at the end of a name are searched first: so many that those before each dot of a key fill a vector.
-const NEAR: usize = 64;
-
-/// How many bytes before a place are searched for a dot: as many as a vector has, and more than a key.
-const WINDOW: usize = 32;
-
-/// A dot so far from the end has more behind it than a key has.
-const FAR: usize = 28;
-
-/// A first dot that does not stand among so many bytes has more before it than a maker has.
-const MAKER_FRONT: usize = 14;
-
-/// So many bytes of a long version are read at once.
-const BLOCK: usize = 64;
-
-/// The key of the name, and `None` exactly if it has none. Most bases are short, so its last bytes are searched by themselves.
+/// The key of the name, and `None` exactly if it has none.
 pub fn key(name: &[u8]) -> Option<&'static Key>
     ensures { IsKey keys name.now (option_map (λ k. key_listed k.now) result) }
 {
-    let near = name.len().saturating_sub(NEAR);
-    match last_edge(&name[near..]) {
-        Some(place) => key_behind(name, near + place),
-        None => key_without_edge(name, near),
+    match memchr(0, name) {
+        Some(_) => None,
+        None => key_of_stem(stem(base(name))),
     }
-}
-
-/// Where the last byte 00, "/" or "\" stands.
-fn last_edge(end: &[u8]) -> Option<usize>
-    ensures { IsLastByte (is_byte3 0 0x2F 0x5C) end.now result }
-{
-    let mut place = before_plain(end);
-    while place > 0 {
-        place -= 1;
-        if is_edge(end[place]) {
-            return Some(place);
-        }
-    }
-    None
-}
-
-/// What stands before whole vectors without such a byte at the end.
-fn before_plain(end: &[u8]) -> usize
-    ensures within { result ≤ length end.now }
-    ensures plain { Nowhere (Passes (is_byte3 0 0x2F 0x5C) end.now) result (length end.now) }
-{
-    let mut place = end.len();
-    while LANES <= place && is_plain(end, place - LANES) {
-        place -= LANES;
-    }
-    place
-}
-
-/// Whether a vector from this place on has no such byte.
-#[inline(always)]
-fn is_plain(end: &[u8], from: usize) -> bool
-    requires { from + LANES ≤ length end.now }
-    ensures { OnTrue result (Nowhere (Passes (is_byte3 0 0x2F 0x5C) end.now) from (from + LANES)) }
-{
-    let mut all = true;
-    for i in 0..LANES {
-        all &= !is_any_edge(end[from + i]);
-    }
-    all
-}
-
-/// Whether the byte is 00, "/" or "\". Small letters, which most are, are none by one comparison.
-fn is_edge(byte: u8) -> bool
-    ensures { result ≡ is_byte3 0 0x2F 0x5C byte }
-{
-    byte <= b'\\' && (byte == 0 || byte == b'/' || byte == b'\\')
-}
-
-/// The same without a branch, as vectors want it.
-fn is_any_edge(byte: u8) -> bool
-    ensures { result ≡ is_byte3 0 0x2F 0x5C byte }
-{
-    (byte == 0) | (byte == b'/') | (byte == b'\\')
-}
-
-/// The key of a name none of whose bytes from this place on is 00, "/" or "\".
-fn key_without_edge(name: &[u8], near: usize) -> Option<&'static Key>
-    requires place { near ≤ length name.now }
-    requires none { IsLastByte (is_byte3 0 0x2F 0x5C) (drop near name.now) None }
-    ensures { IsKey keys name.now (option_map (λ k. key_listed k.now) result) }
-{
-    if near == 0 {
-        return key_of_stem(stem(name));
-    }
-    long_key(name, near)
-}
-
-/// The same of a long name, all of whose bytes are read once. It is not inlined, so that short names, which most are, pay
-/// nothing for it.
-#[inline(never)]
-fn long_key(name: &[u8], near: usize) -> Option<&'static Key>
-    requires place { near ≤ length name.now }
-    requires none { IsLastByte (is_byte3 0 0x2F 0x5C) (drop near name.now) None }
-    ensures { IsKey keys name.now (option_map (λ k. key_listed k.now) result) }
-{
-    let least = least(&name[..near]);
-    if least == 0 {
-        return None;
-    }
-    if is_settled(&name[near..]) {
-        settled_key(name, near, least)
-    } else {
-        far_key(name)
-    }
-}
-
-/// Whether these bytes settle the extension of each base that ends in them: there are more of them than a key has, they are
-/// no copy's, and before the version that they may end in stands as much as ".so".
-fn is_settled(end: &[u8]) -> bool
-    ensures { IsTrue result → IsSettled end.now }
-{
-    FAR < end.len() && copy_length(end) == 0 && has_edge(end)
-}
-
-fn has_edge(end: &[u8]) -> bool
-    ensures { IsTrue result → HasEdge end.now }
-{
-    match version_edge(end) {
-        Some(edge) => b".so".len() <= edge,
-        None => false,
-    }
-}
-
-/// The key of a long name whose end settles its extension, so that it does not matter where its base begins. If that is none
-/// of the table, the name has a key only by a maker, and none stands before a dot so late.
-fn settled_key(name: &[u8], near: usize, least: u8) -> Option<&'static Key>
-    requires place { near ≤ length name.now }
-    requires none { IsLastByte (is_byte3 0 0x2F 0x5C) (drop near name.now) None }
-    requires settled { IsSettled (drop near name.now) }
-    requires least { IsLeast (take near name.now) least }
-    requires no_zero { 0 < least }
-    ensures { IsKey keys name.now (option_map (λ k. key_listed k.now) result) }
-{
-    let end = &name[near..];
-    match extension_key(end) {
-        Some(found) => Some(found),
-        None => {
-            if b'.' < least && has_late_dots(end) {
-                None
-            } else {
-                far_key(name)
-            }
-        },
-    }
-}
-
-/// Whether its first bytes have no dot, so that what stands before one is longer than a maker.
-fn has_late_dots(end: &[u8]) -> bool
-    requires { FAR < length end.now }
-    ensures { OnTrue result (IsFirstByte (is_byte 0x2E) (take LANES end.now) None) }
-{
-    // No early exit: of a loop whose length is known the compiler makes vectors.
-    let mut late = true;
-    for i in 0..LANES {
-        late &= end[i] != b'.';
-    }
-    late
-}
-
-/// The key of a name without a byte 00.
-fn far_key(name: &[u8]) -> Option<&'static Key>
-    requires { IsFirstByte (is_byte 0) name.now None }
-    ensures { IsKey keys name.now (option_map (λ k. key_listed k.now) result) }
-{
-    key_of_stem(stem(base(name)))
-}
-
-/// The key of a name of which the last byte 00, "/" or "\" stands here.
-fn key_behind(name: &[u8], place: usize) -> Option<&'static Key>
-    requires { IsLastByte (is_byte3 0 0x2F 0x5C) name.now (Some place) }
-    ensures { IsKey keys name.now (option_map (λ k. key_listed k.now) result) }
-{
-    if least(&name[..place + 1]) == 0 {
-        return None;
-    }
-    key_of_stem(stem(&name[place + 1..]))
 }
 
 /// What stands behind the last "/" or "\".
@@ -331,65 +152,26 @@ fn dotted_key(stem: &[u8]) -> Option<&'static Key>
 fn extension_key(stem: &[u8]) -> Option<&'static Key>
     ensures { IsExtensionKey keys stem.now (option_map (λ k. key_listed k.now) result) }
 {
+    let last = last_dot(stem, stem.len());
+    let second = last_dot(stem, last.unwrap_or(0));
     if is_versioned(stem) {
-        return versioned_key();
+        return entry(Part::Extension, b"so");
     }
-    let last = near_dot(stem, stem.len());
-    let second = second_dot(stem, last);
     match extension_at(stem, second) {
         Some(found) => Some(found),
         None => extension_at(stem, last),
     }
 }
 
-/// The key of a versioned name. Its search is inlined with the text, so that the compiler does it.
-fn versioned_key() -> Option<&'static Key>
-    ensures { option_map (λ k. key_listed k.now) result ≡ entry keys Extension (codes "so") }
-{
-    entry_here(Part::Extension, b"so")
-}
-
 /// The last dot before the place, but for one that is the first byte.
 pub fn last_dot(stem: &[u8], before: usize) -> Option<usize>
     requires { before ≤ length stem.now }
     ensures dot { IsLastDot stem.now before result }
+    ensures inside { IfSome result (λ dot. dot < length stem.now) }
 {
     match memrchr(b'.', &stem[..before]) {
         Some(0) => None,
         found => found,
-    }
-}
-
-/// The last such dot before the place, or none if more stands behind it than a key has.
-fn near_dot(stem: &[u8], before: usize) -> Option<usize>
-    requires { before ≤ length stem.now }
-    ensures near { (dot : Option ℕ) → IsLastDot stem.now before dot → IsNear stem.now dot result }
-    ensures inside { IfSome result (λ dot. dot < length stem.now) }
-{
-    let start = before.saturating_sub(WINDOW);
-    match memrchr(b'.', &stem[start..before]) {
-        Some(place) => not_first(start + place),
-        None => None,
-    }
-}
-
-/// The place, if it is not the first.
-fn not_first(place: usize) -> Option<usize>
-    ensures { result ≡ (if place == 0 then None else Some place) }
-{
-    if place == 0 { None } else { Some(place) }
-}
-
-/// The last such dot before this one.
-fn second_dot(stem: &[u8], last: Option<usize>) -> Option<usize>
-    requires { IfSome last (λ dot. dot < length stem.now) }
-    ensures near { (dot : Option ℕ) → IfSome last (λ l. IsLastDot stem.now l dot) → IfSome last (λ _. IsNear stem.now dot result) }
-    ensures none { last ≡ None → result ≡ None }
-    ensures inside { IfSome result (λ dot. dot < length stem.now) }
-{
-    match last {
-        Some(dot) => near_dot(stem, dot),
-        None => None,
     }
 }
 
@@ -404,73 +186,14 @@ pub fn extension_at(stem: &[u8], dot: Option<usize>) -> Option<&'static Key>
     }
 }
 
-/// Whether digits and dots at the end are a version behind ".so".
+/// Whether digits and dots at the end are a version behind ".so". Its "o" is the last one.
 fn is_versioned(stem: &[u8]) -> bool
     ensures { IsVersioned stem.now result }
 {
-    match version_edge(stem) {
-        Some(edge) => is_version(&stem[edge + 1..]) && ends_in(&stem[..edge + 1], b".so"),
+    match memrchr2(b'o', b'O', stem) {
+        Some(end) => ends_in(&stem[..end + 1], b".so") && is_version(&stem[end + 1..]),
         None => false,
     }
-}
-
-/// Where the last byte stands that is neither a digit nor a dot.
-fn version_edge(stem: &[u8]) -> Option<usize>
-    ensures { IsLastByte (λ x. not (is_version_byte x)) stem.now result }
-{
-    if ends_otherwise(stem) {
-        return Some(stem.len() - 1);
-    }
-    let mut edge = before_blocks(stem);
-    while edge > 0 {
-        edge -= 1;
-        if !is_version_byte(stem[edge]) {
-            return Some(edge);
-        }
-    }
-    None
-}
-
-/// Whether the last byte is one that is neither, as that of most names.
-fn ends_otherwise(stem: &[u8]) -> bool
-    ensures { IsTrue result → IsLastByte (λ x. not (is_version_byte x)) stem.now (Some (length stem.now - 1)) }
-{
-    match stem {
-        [.., last] => !is_version_byte(*last),
-        [] => false,
-    }
-}
-
-/// What stands before whole blocks of digits and dots at the end, as none but a name that is to cost much has them.
-fn before_blocks(stem: &[u8]) -> usize
-    ensures within { result ≤ length stem.now }
-    ensures digits { Nowhere (Passes (λ x. not (is_version_byte x)) stem.now) result (length stem.now) }
-{
-    let mut edge = stem.len();
-    while BLOCK <= edge && is_block(stem, edge - BLOCK) {
-        edge -= BLOCK;
-    }
-    edge
-}
-
-/// Whether a block from this place on is digits and dots.
-#[inline(always)]
-fn is_block(stem: &[u8], from: usize) -> bool
-    requires { from + 64 ≤ length stem.now }
-    ensures { OnTrue result (Nowhere (Passes (λ x. not (is_version_byte x)) stem.now) from (from + 64)) }
-{
-    // No early exit: of a loop whose length is known the compiler makes vectors.
-    let mut all = true;
-    for i in 0..BLOCK {
-        all &= is_version_byte(stem[from + i]);
-    }
-    all
-}
-
-fn is_version_byte(byte: u8) -> bool
-    ensures { result ≡ is_version_byte byte }
-{
-    is_digit(byte) || byte == b'.'
 }
 
 fn is_digit(byte: u8) -> bool
@@ -480,76 +203,35 @@ fn is_digit(byte: u8) -> bool
 }
 
 /// Whether the text is parts of digits only, each behind a dot.
-#[tactic(auto, using(crate::proofs::PartLemmas::version_by_parts))]
+#[tactic(auto, using(crate::proofs::VersionLemmas::version_by_parts))]
 fn is_version(text: &[u8]) -> bool
     ensures { result ≡ is_version text.now }
 {
     match text {
-        [first, ..] => *first == b'.' && are_parts_behind(text),
-        [] => false,
+        [b'.', ..] => are_parts(text),
+        _ => false,
     }
 }
 
 /// Whether these are such parts behind the first byte, in which a digit is due if it is none.
-fn are_parts_behind(text: &[u8]) -> bool
+#[tactic(auto, using(crate::proofs::VersionLemmas::passed_by, crate::proofs::VersionLemmas::parts_ended))]
+fn are_parts(text: &[u8]) -> bool
     requires { 0 < length text.now }
     ensures { result ≡ are_parts_from text.now 1 }
 {
-    let start = after_blocks(text);
-    are_parts(!is_digit(text[start - 1]), &text[start..])
-}
-
-/// A place up to which the first byte has whole blocks of such parts behind it. Few names have one.
-#[tactic(auto, using(crate::proofs::PartLemmas::parts_past))]
-fn after_blocks(text: &[u8]) -> usize
-    requires { 0 < length text.now }
-    ensures some { 0 < result }
-    ensures within { result ≤ length text.now }
-    ensures same { are_parts_from text.now result ≡ are_parts_from text.now 1 }
-{
-    let mut at = 1;
-    while BLOCK <= text.len() - at && has_parts(text, at) {
-        at += BLOCK;
-    }
-    at
-}
-
-/// Whether each byte of the block from this place on is a digit, or a dot behind one.
-#[inline(always)]
-fn has_parts(text: &[u8], from: usize) -> bool
-    requires some { 0 < from }
-    requires within { from + 64 ≤ length text.now }
-    ensures { OnTrue result (ArePartsAmong text.now from (from + 64)) }
-{
+    // No early exit: of such a loop the compiler makes vectors.
     let mut all = true;
-    for i in 0..BLOCK {
-        all &= is_digit(text[from + i]) | ((text[from + i] == b'.') & is_digit(text[from + i - 1]));
+    for i in 1..text.len() {
+        all &= is_digit(text[i]) | ((text[i] == b'.') & is_digit(text[i - 1]));
     }
-    all
-}
-
-/// Whether these are digits and dots with a digit behind each dot, and first if one is due.
-fn are_parts(mut due: bool, text: &[u8]) -> bool
-    ensures { result ≡ are_parts due text.now }
-{
-    for byte in text {
-        if is_digit(*byte) {
-            due = false;
-        } else if due || *byte != b'.' {
-            return false;
-        } else {
-            due = true;
-        }
-    }
-    !due
+    all & is_digit(text[text.len() - 1])
 }
 
 /// The whole name before the first dot, if it is one of the four that may have anything behind them.
 fn maker_key(stem: &[u8]) -> Option<&'static Key>
     ensures { IsMakerKey keys stem.now (option_map (λ k. key_listed k.now) result) }
 {
-    let end = stem.len().min(MAKER_FRONT);
-    match memchr(b'.', &stem[..end]) {
+    match memchr(b'.', stem) {
         Some(place) => maker(&stem[..place]),
         None => None,
     }
@@ -576,16 +258,8 @@ fn is_maker(text: &[u8]) -> bool
 }
 
 /// The key of the table that is this part of a name, with this text in small letters.
-pub fn entry(part: Part, text: &[u8]) -> Option<&'static Key>
-    ensures { option_map (λ k. key_listed k.now) result ≡ entry keys part text.now }
-{
-    entry_here(part, text)
-}
-
-/// The same, where it is called.
-#[inline(always)]
 #[tactic(auto, using(crate::proofs::TableLemmas::found_in_slot))]
-fn entry_here(part: Part, text: &[u8]) -> Option<&'static Key>
+pub fn entry(part: Part, text: &[u8]) -> Option<&'static Key>
     ensures { option_map (λ k. key_listed k.now) result ≡ entry keys part text.now }
 {
     find_in(slot(slot_of(text)), part, text)

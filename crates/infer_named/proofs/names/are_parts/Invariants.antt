@@ -1,7 +1,7 @@
-use Rattle.std.proofs.Common.{◌≡◌, drop}
-use Rattle.infer_named.specs.Names.{are_parts}
+-- the bytes so far are passed, and what is left decides
+use Rattle.std.proofs.Common.{◌≡◌, ◌<◌, ◌≤◌, ◌&&◌, length}
+use Rattle.infer_named.specs.Parts.{are_parts_from}
 use Rattle.infer_named.proofs.names.are_parts.Given as goal
 
--- what is left decides
-abbrev pub invariant-loop-byte : goal.invariant-loop-byte
-invariant-loop-byte l = are_parts l.due (drop l.byte-index l.text) ≡ are_parts l.fn.due l.text
+abbrev pub invariant-loop-i : goal.invariant-loop-i
+invariant-loop-i l = (0 < l.i) × (l.i ≤ length l.text) × ((l.all && are_parts_from l.text l.i) ≡ are_parts_from l.text 1)

@@ -1,19 +1,36 @@
-use Rattle.std.proofs.Common.{◌≡◌, rules, subst, true}
-use Rattle.infer_named.proofs.DotLemmas.{near_key, versioned_key}
-use Rattle.infer_named.specs.Names.{IsVersioned}
+use Rattle.std.proofs.Common.{rules, subst}
+use Rattle.infer_named.specs.Names.{IsLastDot}
 use Rattle.infer_named.proofs.names.extension_key.Goals as goal
 
 pub returns-then-is_versioned : goal.returns-then-is_versioned
-returns-then-is_versioned c =
-    let is : c.is_versioned.result ≡ true = search rules in
-    versioned_key c.args.stem.now _ (subst (λ v. IsVersioned c.args.stem.now v) is c.is_versioned.ensures) (search rules)
+returns-then-is_versioned c = record {
+  versioned = c.is_versioned.result;
+  last = c.last_dot-last.result;
+  second = c.last_dot-second.result;
+  is_versioned = c.is_versioned.ensures;
+  is_last = c.last_dot-last.ensures.dot;
+  is_second = subst (λ before. IsLastDot c.args.stem.now before c.last_dot-second.result) c.unwrap_or.ensures c.last_dot-second.ensures.dot;
+  is = search rules;
+}
 
 pub returns-in-Some : goal.returns-in-Some
-returns-in-Some c =
-    near_key c.args.stem.now c.is_versioned.result c.near_dot-last.result c.second_dot-second.result _ c.is_versioned.ensures c.near_dot-last.ensures.near
-    c.second_dot-second.ensures.near c.second_dot-second.ensures.none (search rules)
+returns-in-Some c = record {
+  versioned = c.is_versioned.result;
+  last = c.last_dot-last.result;
+  second = c.last_dot-second.result;
+  is_versioned = c.is_versioned.ensures;
+  is_last = c.last_dot-last.ensures.dot;
+  is_second = subst (λ before. IsLastDot c.args.stem.now before c.last_dot-second.result) c.unwrap_or.ensures c.last_dot-second.ensures.dot;
+  is = search rules;
+}
 
 pub returns-in-None : goal.returns-in-None
-returns-in-None c =
-    near_key c.args.stem.now c.is_versioned.result c.near_dot-last.result c.second_dot-second.result _ c.is_versioned.ensures c.near_dot-last.ensures.near
-    c.second_dot-second.ensures.near c.second_dot-second.ensures.none (search rules)
+returns-in-None c = record {
+  versioned = c.is_versioned.result;
+  last = c.last_dot-last.result;
+  second = c.last_dot-second.result;
+  is_versioned = c.is_versioned.ensures;
+  is_last = c.last_dot-last.ensures.dot;
+  is_second = subst (λ before. IsLastDot c.args.stem.now before c.last_dot-second.result) c.unwrap_or.ensures c.last_dot-second.ensures.dot;
+  is = search rules;
+}

@@ -1,13 +1,13 @@
-use Rattle.std.proofs.Common.{◌≤◌, Some, arith, length, subst}
-use Rattle.std.proofs.lemmas.List.{take_rest}
-use Rattle.memchr.specs.Find.{IsLastByte, is_byte3}
-use Rattle.infer_named.proofs.EdgeLemmas.{last_near}
+use Rattle.std.proofs.Common.{None, Some, option_map, refl, subst}
+use Rattle.infer_named.specs.Listed.{key_listed}
+use Rattle.infer_named.specs.Names.{IsStemKey}
+use Rattle.infer_named.specs.Table.{keys}
 use Rattle.infer_named.proofs.names.key.Goals as goal
 
-pub key_behind-requires : goal.key_behind-requires
-key_behind-requires c =
-    let name = c.args.name.now in
-    let near = c.saturating_sub-near.result in
-    let test = is_byte3 0 0x2F 0x5C in
-    let within : near ≤ length name = omega (arith, c.saturating_sub-near.ensures) in
-    last_near test name near within c.in-Some.place (subst (λ l. IsLastByte test l (Some c.in-Some.place)) (take_rest name near) c.in-Some.ensures)
+pub returns-in-Some : goal.returns-in-Some
+returns-in-Some c = (Some _, c.in-Some.ensures, refl)
+
+pub returns-in-None : goal.returns-in-None
+returns-in-None c =
+    let found = option_map (λ k. key_listed k.now) c.key_of_stem.result in
+    (None, c.in-None.ensures, (c.base.result.now, c.base.ensures, subst (λ s. IsStemKey keys s found) c.stem.ensures c.key_of_stem.ensures))
