@@ -73,9 +73,12 @@ def long():
     ]
 
 
-def prolog():
-    """What the evidence of the wider answer takes most for, as each row that asks for a root reads it."""
-    return "8192 bytes of an XML prolog and comments", (b'<?xml version="1.0"?>' + b"<!-- -->" * 1100)[:8192]
+def asked_by_many():
+    """What the evidence of the wider answer takes most for: many rows ask for a program, or for a root element."""
+    return [
+        ('8192 bytes of a first line "#!" that has no end', (b"#! /bin/" + b"a/" * 4096)[:8192]),
+        ("8192 bytes of an XML prolog and comments", (b'<?xml version="1.0"?>' + b"<!-- -->" * 1100)[:8192]),
+    ]
 
 
 def headers():

@@ -35,7 +35,7 @@ REPEATED = [
     ("docs/HOSTILE_INPUT.md", r"byte\s+order\s+marks\s+([\d.]+),", "dearest", "byte order marks", "a byte of 8 KB", at_most),
     ("docs/HOSTILE_INPUT.md", r"skippable\s+frames\s+([\d.]+)\.\s", "dearest", "skippable frames", "a byte of 8 KB", at_most),
     ("docs/HOSTILE_INPUT.md", r"(\d+)\s+million\s+instructions\s+for\s+a\s+ZIP", "bytewise", "an archive of Office, with near misses of its headers", "instructions", in_millions),
-    ("docs/HOSTILE_INPUT.md", r"(\d+)\s+million\s+instructions\s+for\s+8192", "evidence", "8192 bytes of an XML prolog and comments", "`more_evidence`", in_millions),
+    ("docs/HOSTILE_INPUT.md", r"(\d+)\s+million\s+instructions\s+for\s+8192", "evidence", '8192 bytes of a first line "#!" that has no end', "`more_evidence`", in_millions),
 ]
 
 
