@@ -1,5 +1,5 @@
 -- Objects by their first key: what the readers tell, what more bytes keep and may bring, and what a computation says.
-use Rattle.infer_formats.proofs.Common.{[], ◌≡◌, ◌⊎◌, inl, inr, ℕ, ◌==◌, ◌||◌, ◌↔◌, ◌∙◌, Bool, true, false, IsTrue, MatchOption, Option, None, Some, List, ◌∷◌, ◌++◌, append_assoc, is_some, if◌then◌else◌, length, drop, take, take_all, ◌-◌, ◌≤◌, slice_index, refl, sym, subst, ap, arith, nat_tests, MayBecome, IsBlank, IsPast, IsPastMark, UpToMark, StandsByPlace, accepts, allows, any_of, at_least, OccursAt-begins, stands, utf8_mark}
+use Rattle.infer_formats.proofs.Common.{[], ◌≡◌, ◌⊎◌, inl, inr, ℕ, ◌==◌, ◌||◌, ◌↔◌, ◌∙◌, Bool, true, false, IsTrue, MatchOption, Option, None, Some, List, ◌∷◌, ◌++◌, append_assoc, is_some, if◌then◌else◌, length, drop, take, take_all, ◌-◌, ◌≤◌, slice_index, refl, sym, subst, ap, arith, nat_tests, MayBecome, IsBlank, IsPast, IsPastMark, UpToMark, StandsByPlace, accepts, any_of, at_least, OccursAt-begins, stands, utf8_mark}
 use Rattle.std.proofs.lemmas.List.{append_cancel_left}
 use denote.Ref.{Bor}
 use Rattle.infer_formats.specs.FirstKey.{BeginsByKey, BeginsByValue, HasFirstKey, HasFirstKeyWith, StandsNext, in_quotes}

@@ -1,5 +1,5 @@
 -- The first key of an object, read once for all that ask for one, and the first byte behind white space.
-use Rattle.infer_formats.proofs.Common.{[], ◌≡◌, ◌⊎◌, inl, inr, ℕ, zero, suc, ◌+◌, ◌<◌, ◌≤◌, ◌==◌, ◌&&◌, ◌↔◌, ◌∙◌, Bool, true, false, IsTrue, List, ◌∷◌, ◌++◌, append_assoc, length, length-append, drop, take, not, slice_index, refl, sym, subst, ap, arith, and_from, and_parts, eq-eqb, IsBlank, IsPast, IsPastMark, IsXmlSpace, Nowhere, Passes, is_byte}
+use Rattle.infer_formats.proofs.Common.{[], ◌≡◌, ◌⊎◌, inl, inr, ℕ, zero, suc, ◌+◌, ◌<◌, ◌≤◌, ◌==◌, ◌↔◌, ◌∙◌, Bool, true, false, IsTrue, List, ◌∷◌, ◌++◌, append_assoc, length, length-append, drop, take, not, slice_index, refl, sym, subst, ap, arith, and_from, and_parts, eq-eqb, IsBlank, IsPast, IsPastMark, IsXmlSpace, Nowhere, Passes, is_byte}
 use Rattle.std.specs.Prelude.{slice_index_or}
 use Rattle.infer_formats.specs.FirstKey.{BeginsByKey, EndsInQuote, IsFirstKey, StandsFirst, StandsNext, has_no_quote, in_quotes}
 use Rattle.infer_formats.specs.Laws.{BeginsMarkup}

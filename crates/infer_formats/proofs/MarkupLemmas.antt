@@ -1,6 +1,6 @@
 -- The parts of a prolog, the tag that they lead to, the name of the document type, and what more bytes may make of them.
 use Rattle.infer_formats.proofs.Common.{◌≡◌, ◌↔◌, ℕ, ◌+◌, ◌-◌, ◌<◌, ◌≤◌, ◌⊎◌, inl, inr, List, ◌++◌, Option, None, Some, length, codes, get_or, add-zero, refl, sym, subst, ap, ◌∙◌, arith, cases_lt, slice_range, OccursAt, Lasts, AgreesWithDoctype, BeginsAt, BeginsElement, ClosesDeclaration, HasRoot, HasRootWith, IsDoctype, IsEnclosed, IsMisc, IsPart, IsRootElement, IsSpaceRun, EndsType, IsXmlSpace, ReachesTag, StartsTag, utf8_mark, IsAfterLast, IsRun, zero, suc, drop, get_or_append_left, AgreesAt, MayBecome, grown_agrees, OccursAt-front, HasInTag, drop-append-le, IsNameByte, MayReachTag}
-use Rattle.infer_formats.specs.Markup.{StartsElement, TellsRoot, here, later}
+use Rattle.infer_formats.specs.Markup.{HasClosing, StartsElement, TellsRoot, here, later}
 use Rattle.infer_formats.proofs.FrontLemmas.{SharesFront, after_last_shared, byte_shared, byte_shared_back, front_grows, front_swaps, range_shared, run_shared, text_shared}
 use Rattle.infer_formats.proofs.RunLemmas.{one_after_last, one_run_end}
 use Rattle.infer_formats.proofs.SubsetLemmas.{close_lasts, close_within, comment_first, enclosed_lasts, instruction_first, one_close, one_enclosed}
@@ -376,9 +376,6 @@ pub root_stays : (b n rest name : List ℕ) → IsRootElement n rest b → MayBe
 root_stays b n rest name is (more, bytes, (other, root)) = (one_root (b ++ more) n (rest ++ more) name other (root_lasts n rest b more is) root).0
 
 -- ---- with a text in the tag
-
-abbrev pub HasClosing : List ℕ → Type 0
-HasClosing text = (k : ℕ) × (k < length text) × (get_or text k 0 ≡ 0x3E)
 
 -- a tag that has ended keeps what it has
 pub in_tag_ended : (text rest : List ℕ) → HasClosing rest → MayBecome (HasInTag text) rest → HasInTag text rest

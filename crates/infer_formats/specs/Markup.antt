@@ -159,6 +159,10 @@ HasRoot name b = (rest : List ℕ) × IsRootElement name rest b
 abbrev pub HasRootWith : List ℕ → List ℕ → List ℕ → Type 0
 HasRootWith name text b = (rest : List ℕ) × IsRootElement name rest b × HasInTag text rest
 
+-- a tag has ended, of which `rest` follows on the name
+abbrev pub HasClosing : List ℕ → Type 0
+HasClosing rest = (k : ℕ) × (k < length rest) × (slice_index rest k ≡ 0x3E)
+
 -- whatever bytes follow b, its root element has the same name, and the same texts in its tag
 abbrev pub TellsRoot : List ℕ → Type 0
 TellsRoot b = (m n : List ℕ) → All (λ x. x < 256) m → All (λ x. x < 256) n → (name text : List ℕ)

@@ -203,6 +203,12 @@ lines json_lines = json_outline
 lines json_text = json_outline
 lines plain_text = at_least 1 (byte 0 (between 0x09 0xFF) ∷ []) ∷ []
 
+-- the relation asks for the root element alone
+abbrev pub is_of_root : Relation → Bool
+is_of_root (root name) = true
+is_of_root (root_with name t) = true
+is_of_root other = false
+
 -- the relation asks for plain text
 abbrev pub is_plain : Relation → Bool
 is_plain plain_text = true

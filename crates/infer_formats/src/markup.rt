@@ -35,7 +35,7 @@ impl Root<'_> {
 }
 
 /// Whether a buffer with this root element, or with none, has one of this local name.
-pub fn has_name(root: &Option<Root<'_>>, name: &[u8]) -> bool
+pub(crate) fn has_name(root: &Option<Root<'_>>, name: &[u8]) -> bool
     ensures { (b : List ℕ) → IsRootOf root.now b → (IsTrue result ↔ HasRoot name.now b) }
 {
     match root {
@@ -45,7 +45,7 @@ pub fn has_name(root: &Option<Root<'_>>, name: &[u8]) -> bool
 }
 
 /// Whether it has one of this local name, and the text in its tag behind the name.
-pub fn has_name_and_text(root: &Option<Root<'_>>, name: &[u8], text: &[u8]) -> bool
+pub(crate) fn has_name_and_text(root: &Option<Root<'_>>, name: &[u8], text: &[u8]) -> bool
     ensures { (b : List ℕ) → IsRootOf root.now b
         → (IsTrue result ↔ HasRootWith name.now text.now b) }
 {

@@ -1,10 +1,10 @@
 //! Relations: what each takes, whether a buffer has it, what bytes after the buffer can bring or take, and a short buffer that
 //! has it.
-ghost use Rattle.std.specs.Prelude.{◌≡◌, ◌≤◌, ◌↔◌, [], IfSome, IsTrue, length, map};
+ghost use Rattle.std.specs.Prelude.{◌≡◌, ◌≤◌, ◌↔◌, [], IfSome, IsTrue, is_some, length, map};
 ghost use Rattle.infer_deep.specs.Signatures.{MayBecome};
 ghost use Rattle.infer_formats.specs.Open.{Stays};
 ghost use Rattle.infer_formats.specs.Markup.{TellsByRoot};
-ghost use Rattle.infer_formats.specs.Relation.{Fits, IsSound, class_id, dbase, directory_tag, directory_tag_and_make, has_entry, header, least_of, model, model_listed, name_listed, names, of_text, package_with, program, relation_listed, root, root_with, shared_object};
+ghost use Rattle.infer_formats.specs.Relation.{Fits, IsSound, class_id, dbase, directory_tag, directory_tag_and_make, has_entry, header, is_of_root, least_of, model, model_listed, name_listed, names, of_text, package_with, program, relation_listed, root, root_with, shared_object};
 
 use crate::begins::{begins, begins_and_has, begins_and_has_all, may_begin};
 use crate::dbase::{is_dbase, may_become_dbase};
@@ -244,7 +244,8 @@ impl<'a> Relation<'a> {
 
     /// Whether a buffer with this root element, or with none, has it. `None` if it asks for something else.
     pub fn of_root(&self, root: &Option<Root<'_>>) -> Option<bool>
-        ensures { IfSome result (TellsByRoot root.now (Fits (relation_listed self.now))) }
+        ensures asks { is_some result ≡ is_of_root (relation_listed self.now) }
+        ensures tells { IfSome result (TellsByRoot root.now (Fits (relation_listed self.now))) }
     {
         match self {
             Relation::Root(name) => Some(has_name(root, name)),

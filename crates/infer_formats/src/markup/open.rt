@@ -1,7 +1,7 @@
 //! What more bytes may make the root element.
 ghost use Rattle.std.specs.Prelude.{◌≡◌, ◌↔◌, ◌<◌, ◌≤◌, ℕ, List, length, slice_index, IsTrue};
 ghost use Rattle.infer_deep.specs.Signatures.{MayBecome};
-ghost use Rattle.infer_formats.specs.Markup.{HasInTag, HasRoot, HasRootWith, IsXmlSpace, MayReachTag, TellsRoot};
+ghost use Rattle.infer_formats.specs.Markup.{HasClosing, HasInTag, HasRoot, HasRootWith, IsRootElement, IsXmlSpace, MayReachTag, TellsRoot};
 
 use super::names::is_xml_space;
 use super::prolog::{prolog_end, prolog_start};
@@ -31,7 +31,9 @@ pub fn may_have_root_with(buf: &[u8], name: &[u8], text: &[u8]) -> bool
 
 /// Whether the front tells the root element of every buffer that begins so: its tag has ended, or there will be none.
 pub fn tells_root(front: &[u8]) -> bool
-    ensures { IsTrue result → TellsRoot front.now }
+    ensures tells { IsTrue result → TellsRoot front.now }
+    ensures ended { (name rest : List ℕ) → IsRootElement name rest front.now → HasClosing rest
+        → IsTrue result }
 {
     match root_apart(front) {
         Some(root) => has_closing(root.rest),
@@ -51,7 +53,7 @@ fn may_have_in_tag(root: &Root<'_>, text: &[u8]) -> bool
 }
 
 fn has_closing(text: &[u8]) -> bool
-    ensures { IsTrue result ↔ ((k : ℕ) × (k < length text.now) × (slice_index text.now k ≡ 0x3E)) }
+    ensures { IsTrue result ↔ HasClosing text.now }
 {
     for at in 0..text.len() {
         if text[at] == b'>' {

@@ -1,4 +1,4 @@
-use Rattle.infer_formats.proofs.Common.{subst, sym, Decides-eqb, slice_eq-Decides, IsRootElement}
+use Rattle.infer_formats.proofs.Common.{subst, Decides-eqb, slice_eq-Decides, IsRootElement}
 use Rattle.infer_formats.specs.Markup.{IsRootOf}
 use Rattle.infer_formats.proofs.MarkupLemmas.{one_root}
 use Rattle.infer_formats.proofs.markup.has_name.Goals as goal

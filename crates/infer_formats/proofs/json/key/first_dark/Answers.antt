@@ -1,4 +1,4 @@
-use Rattle.infer_formats.proofs.Common.{[], ◌≡◌, ℕ, ◌∷◌, length, ap, arith}
+use Rattle.infer_formats.proofs.Common.{[], ◌≡◌, ◌∷◌, length, ap, arith}
 use Rattle.infer_formats.proofs.FirstKeyLemmas.{next_past}
 use Rattle.infer_formats.proofs.KeyLemmas.{dark_past}
 use Rattle.infer_formats.proofs.json.key.first_dark.Goals as goal

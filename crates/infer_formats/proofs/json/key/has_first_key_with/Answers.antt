@@ -1,5 +1,5 @@
 use Rattle.infer_formats.proofs.Common.{◌↔◌, IsTrue, subst, sym}
-use Rattle.infer_formats.specs.FirstKey.{BeginsByKey, BeginsByValue, HasFirstKeyWith, StandsNext, in_quotes}
+use Rattle.infer_formats.specs.FirstKey.{BeginsByValue, HasFirstKeyWith, StandsNext, in_quotes}
 use Rattle.infer_formats.proofs.FirstKeyLemmas.{no_mark_value, some_left, up_to_mark, value_read}
 use Rattle.infer_formats.proofs.json.key.has_first_key_with.Goals as goal
 
