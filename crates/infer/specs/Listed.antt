@@ -28,7 +28,7 @@ with_piece (Some p) buf = put p.place p.text.now buf
 
 -- the sample as it is written over as many zeros as the longest sample has bytes
 abbrev pub buffer_listed : Pieces → List ℕ
-buffer_listed s = with_piece s.behind (put 0 s.front.now (zeros SAMPLE_SIZE))
+buffer_listed s = with_piece s.later (put 0 s.front.now (zeros SAMPLE_SIZE))
 
 -- the piece, if there is one, is in these bytes
 abbrev pub is_piece_inside : Option Piece → Bool
@@ -37,4 +37,4 @@ is_piece_inside (Some p) = nat_le (p.place + length p.text.now) SAMPLE_SIZE
 
 -- all of the sample is
 abbrev pub is_inside : Pieces → Bool
-is_inside s = nat_le (length s.front.now) SAMPLE_SIZE && is_piece_inside s.behind && nat_le s.len SAMPLE_SIZE
+is_inside s = nat_le (length s.front.now) SAMPLE_SIZE && is_piece_inside s.later && nat_le s.len SAMPLE_SIZE

@@ -39,7 +39,7 @@ fn write(pieces: &Pieces, out: &mut [u8; SAMPLE_SIZE])
 {
     *out = [0; SAMPLE_SIZE];
     put(0, pieces.front, out);
-    if let Some(piece) = &pieces.behind {
+    if let Some(piece) = &pieces.later {
         put(piece.place, piece.text, out);
     }
 }

@@ -159,7 +159,7 @@ macro_rules! samples {
         [$(Pieces {
             len: $len,
             front: $front,
-            behind: piece!($($place $text)?),
+            later: piece!($($place $text)?),
         }),*]
     };
 }
@@ -183,11 +183,11 @@ pub(crate) struct BuiltInRow {
     pub row: RowName,
 }
 
-/// A buffer of `len` bytes: zeros, but for the text at 0, and maybe a piece behind it.
+/// A buffer of `len` bytes: zeros, but for the text at 0, and perhaps a later piece.
 pub(crate) struct Pieces {
     pub len: usize,
     pub front: &'static [u8],
-    pub behind: Option<Piece>,
+    pub later: Option<Piece>,
 }
 
 /// A text at a place.
