@@ -135,9 +135,7 @@ returns c =
     subst (λ t. IsTrue t ↔ IsTrue (has_row_below c.args.row)) (sym c.is_marked.ensures)
     (marks_tell ({marks}) refl refl c.args.row)
 """
-# What is computed of each row, sixteen rows a step, with room for 1024: a refusal shows the rows that fail.
-EACH_ROW = "(\n" + 4 * f"      {16 * '(refl, '}tt{16 * ')'},\n" + "    )"
-# The answers of the functions of lists, which compute that each row is found.
+# The answers of the functions of lists, which compute that each row is found: a refusal shows the numbers of those that are not.
 COMPUTED = """-- Made by `tools/tables` from the further rows: computed of each.
 use Rattle.infer_more.proofs.Common.{{{words}refl}}
 use Rattle.infer_more.proofs.Common.{{{names}}}
@@ -146,9 +144,7 @@ use Rattle.infer_more.proofs.index.generated.{function}.Goals as goal
 
 pub returns : goal.returns
 unfolding {unfolded}
-returns c =
-    {lemma} {parent}_ {each_row}
-    refl
+returns c = {lemma} {parent}_ refl refl
 """
 TOLD_BELOW = """-- Made by `tools/tables` from the further rows: the other ways stand in one list.
 use Rattle.infer_more.proofs.Common.{{◌∷◌, [], arith, subst, sym}}
@@ -1040,9 +1036,9 @@ def computed(rows, parents):
     names = lists_of_rows()
     said = {"names": ", ".join(names), "unfolded": " ".join(names)}
     for k in apart(ways):
-        yield f"below_{k}", COMPUTED.format(function=f"below_{k}", lemma="way_below", words="", parent=f"{k} ", each_row=EACH_ROW, **said)
+        yield f"below_{k}", COMPUTED.format(function=f"below_{k}", lemma="way_below", words="", parent=f"{k} ", **said)
     others = in_list_of(apart(ways))
-    yield "below_others", COMPUTED.format(function="below_others", lemma="ways_below", words="◌∷◌, [], ", parent=f"({others}) ", each_row=EACH_ROW, **said)
+    yield "below_others", COMPUTED.format(function="below_others", lemma="ways_below", words="◌∷◌, [], ", parent=f"({others}) ", **said)
     yield "told_below", TOLD_BELOW.format(parents=others, differ=differing(apart(ways)))
 
 

@@ -2,7 +2,6 @@
 use Rattle.std.proofs.lemmas.Bool.{ltb-true, or_cases}
 use Rattle.infer_more.proofs.Common.{◌≡◌, ◌↔◌, ℕ, zero, suc, ◌+◌, ◌<◌, ◌≤◌, ◌==◌, inl, inr, ◌⊎◌, Bool, true, false, IsTrue, List, [], ◌∷◌, Option, None, Some, length, get_or, ap, sym, ◌∙◌, subst, arith, refl, ◌&&◌, ◌||◌, ◌++◌, slice_index, nat_le, nat_lt, list_all, list_any, option_map_or, cases_lt, eqb-true, leb-true, get_or_default, slice_get_cases, Bor, IsJson, IsJsonLines, BeginsElement, IsRootElement, IsXmlSpace, there, IsProgram, IsOneOf, IsPackageWith, applications, accepts, fits, stands, StandsByPlace, IsBuffer, is_listed, HasTagText, IsFoundBelow, IsLeast, IsNamed, IsOfProgram, IsRootedBy, IsRooted, IsRowOf, IsTried, ascends, candidates, excepted, is_covered, is_excepted, is_plain, is_tried_parentless, is_true_below, named_row, rooted_row, tried_parentless, lines, Further, Accepted, Fits, related, json_lines, json_text, package_with, plain_text, program, root, root_with, further, Widens, WidensAt, Nothing, Except, Named, Parentless, Rooted, FURTHER_COUNT, and_from, bucket_of, class_id, if◌then◌else◌, not, eq-eqb}
 use Rattle.std.specs.Prelude.{slice_get}
-use Rattle.std.proofs.Math.Path.{fun_ext}
 use Rattle.std.proofs.lemmas.List.Sums.{AllPass-from_list_all}
 use Rattle.infer_deep.specs.ClassId.{HasClassId}
 use Rattle.infer_formats.proofs.MarkupLemmas.{not_space}
@@ -16,7 +15,6 @@ use Rattle.infer_formats.specs.Markup.{HasInTag, MayBeRooted}
 use Rattle.infer_sig.specs.Signature as fixed
 use Rattle.infer_sig.proofs.OccurrenceLemmas.{not_both}
 use Rattle.infer_more.specs.Index.{AllApplications, AreClassIds, AreWaysBelow, EachIsTold, EachParentlessIsFound, FindsBelow, FindsParentless, IsFoundParentless, IsKeyed, IsKeyedBy, IsTold, IsWayBelow, IsTextRow, HasKeyValue, MayBeTold, all_ascend, has_mark, are_keyed, are_rooted, are_roots_of, are_spans, are_spots, are_texts, are_told, are_true, asks_class_id, asks_folder, asks_key, asks_program, asks_root, below_at, bucket_by, has_byte, has_named, has_rooted, keyed_row, roots_of, is_application, is_child, is_found_below, is_found_parentless, is_in_class_ids, is_in_folders, is_in_keys, is_in_programs, is_in_roots, is_json, is_lines, is_of_name, is_of_tag, is_row_below, is_row_parentless, is_row_parentless_found, is_row_with, is_text_row, is_told, is_tried_below, is_tried_in, bucket_at, same, same_text}
-use Rattle.infer_more.specs.Listed.{stretch}
 use Rattle.infer_notation.specs.Alternative.{Alternative}
 use Rattle.infer_more.specs.declared.index.Below as below
 use Rattle.infer_more.specs.declared.index.Below.TheVariants.{ClassIds, Entries, Packages, Programs, Roots, Tagged}
@@ -26,7 +24,6 @@ use Rattle.infer_more.specs.declared.index.Texts.{Texts}
 use Rattle.infer_more.specs.declared.index.Told.{Told}
 use Rattle.infer_more.proofs.IndexLemmas.{all_of_listed, both_left, both_right, covered_here, excepted_here, listed_left, listed_right, parentless_here}
 use Rattle.infer_more.proofs.LeastLemmas.{least_both, least_late, least_same}
-use Rattle.infer_more.proofs.NearLemmas.{Stretches, near, near_is}
 use Rattle.infer_more.proofs.OutlineLemmas.{has_lines, small_bytes}
 use Rattle.infer_more.proofs.TableLemmas.{NoRowFails, each_row}
 
@@ -534,44 +531,22 @@ module _ (index : Parentless) (told : Told) (all : FindsParentless index told) (
         | inr (inr (e, p)) ↦ omega arith
       ]))
 
--- a test of the row with that number, which is near in the list
-abbrev row_by : Stretches Further → ℕ → Option Further
-row_by rows i = slice_get (rows i 1) 0
-
-abbrev passes_at : (ℕ → Option Further) → (ℕ → Further → Bool) → ℕ → Bool
-passes_at row test i = option_map_or (test i) (row i) true
-
-abbrev pub at_row : (ℕ → Further → Bool) → ℕ → Bool
-at_row test = passes_at (row_by (near further)) test
-
-only_row : (i : ℕ) (rows : List Further) → slice_get (stretch rows i 1) 0 ≡ slice_get rows i
-only_row zero [] = refl
-only_row zero (r ∷ rows) = refl
-only_row (suc i) [] = refl
-only_row (suc i) (r ∷ rows) = only_row i rows
-
-row_is : row_by (near further) ≡ slice_get further
-row_is = ap row_by (near_is further) ∙ fun_ext (λ i. only_row i further)
-
-each_at : (test : ℕ → Further → Bool) → NoRowFails (at_row test) → (i : ℕ) → i < length further → IsTrue (passes_at (slice_get further) test i)
-each_at test none = each_row _ (subst (λ row. NoRowFails (passes_at row test)) row_is none)
-
 -- as computed of each row: a refusal shows the numbers of the rows that are not found
-pub way_below : (parent : ℕ) (way : below.Below) → NoRowFails (at_row (λ i r. is_row_below (λ p. p == parent) (λ p. way) i r.parent r))
+pub way_below : (parent : ℕ) (way : below.Below) → NoRowFails (λ i r. is_row_below (λ p. p == parent) (λ p. way) i r.parent r)
     → IsTrue (is_true_below parent way) → IsWayBelow parent way
-way_below parent way none told = record { found = each_at _ none; told = told }
+way_below parent way none told = record { found = λ i lt. each_row _ none i; told = told }
 
 pub ways_below : (apart : List ℕ) (ways : List below.Below)
-    → NoRowFails (at_row (λ i r. is_row_below (λ p. not (is_listed apart p)) (below_at ways) i r.parent r)) → IsTrue (are_true 0 ways) → AreWaysBelow apart ways
-ways_below apart ways none told = record { found = each_at _ none; told = told }
+    → NoRowFails (λ i r. is_row_below (λ p. not (is_listed apart p)) (below_at ways) i r.parent r) → IsTrue (are_true 0 ways) → AreWaysBelow apart ways
+ways_below apart ways none told = record { found = λ i lt. each_row _ none i; told = told }
 
-pub each_parentless : (index : Parentless) → NoRowFails (at_row (λ i r. is_row_parentless (is_found_parentless index i) r.parent r)) → IsTrue (are_texts index.texts)
+pub each_parentless : (index : Parentless) → NoRowFails (λ i r. is_row_parentless (is_found_parentless index i) r.parent r) → IsTrue (are_texts index.texts)
     → IsTrue (are_spans index.first) → IsTrue (are_spots index.spots) → IsTrue (are_told index) → EachParentlessIsFound index
-each_parentless index none texts spans spots begins = record { found = each_at _ none; texts = texts; spans = spans; spots = spots; begins = begins }
+each_parentless index none texts spans spots begins = record { found = λ i lt. each_row _ none i; texts = texts; spans = spans; spots = spots; begins = begins }
 
-pub each_told : (told : Told) → NoRowFails (at_row (λ i r. is_row_parentless (is_told told i) r.parent r)) → IsTrue (are_rooted told.roots.now)
+pub each_told : (told : Told) → NoRowFails (λ i r. is_row_parentless (is_told told i) r.parent r) → IsTrue (are_rooted told.roots.now)
     → IsTrue (are_keyed told.keys.now) → EachIsTold told
-each_told told none roots keys = record { found = each_at _ none; roots = roots; keys = keys }
+each_told told none roots keys = record { found = λ i lt. each_row _ none i; roots = roots; keys = keys }
 
 blank_space : (x : ℕ) → IsBlank x → IsXmlSpace x
 blank_space x (inl e) = inr (inr (inr e))

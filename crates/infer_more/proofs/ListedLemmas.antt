@@ -1,11 +1,12 @@
 -- The rows that the code lists, some at a time, beside those of the definitions.
 use Rattle.infer_more.proofs.Common.{◌≡◌, ◌+◌, ◌==◌, ◌∙◌, ℕ, zero, suc, List, ◌++◌, [], ◌∷◌, Option, None, Some, get_or, get_or_from_slice_get, if◌then◌else◌, refl, ap, arith, drop, map, option_map, subst, sym, Further, FurtherRow, ended_shown, row_listed, slice_get-map}
-use Rattle.std.proofs.Common.{ap₂, slice_get}
+use Rattle.std.proofs.Common.{ap₂, slice_get, unwrap_or}
 use Rattle.std.proofs.Math.Path.{fun_ext}
 use Rattle.std.proofs.lemmas.List.{drop-drop, map-append, take-append-drop}
+use Rattle.std.proofs.lemmas.Option.{unwrap_or-slice_get}
 use Rattle.infer.specs.Triple.{triple}
 use Rattle.infer_formats.specs.Relation.{Relation, plain_text}
-use Rattle.infer_more.proofs.NearLemmas.{Stretches, near, near_is}
+use Rattle.infer_more.proofs.NearLemmas.{Stretches, element_by, element_is, near, near_is}
 use Rattle.infer_more.specs.Ended.{Ended}
 use Rattle.infer_more.specs.Listed.{alternative_listed, alternatives, asked_texts, ended_of, extensions, mime_types, pieces, relation_at, relations, stretch}
 use Rattle.infer_more.specs.declared.listed.Alternative.{Alternative}
@@ -34,9 +35,9 @@ part_by asked (Between place low high) = if low == high then text place (low ∷
 abbrev bytes_by : Stretches ℕ → Stretches Piece → code.Bytes → fixed.Alternative
 bytes_by asked pieces a = at_least a.least (map (part_by asked) (pieces a.pieces.start a.pieces.count))
 
--- a relation, which is the only element of a stretch
+-- a relation
 abbrev relation_by : Stretches Relation → ℕ → Relation
-relation_by relations number = get_or (relations number 1) 0 plain_text
+relation_by relations number = unwrap_or (element_by relations number) plain_text
 
 abbrev alternative_by : (code.Bytes → fixed.Alternative) → (ℕ → Relation) → Alternative → signature.Alternative
 alternative_by asked relation (Bytes a) = bytes (asked a)
@@ -63,14 +64,10 @@ asked_near = alternative_by (bytes_by (near asked_texts) (near pieces)) (relatio
 abbrev pub listed_near : FurtherRow → Further × Ended
 listed_near = row_by asked_near (near alternatives) (near mime_types) (near extensions)
 
-first_left : (n : ℕ) (list : List Relation) → get_or (stretch list n 1) 0 plain_text ≡ get_or list n plain_text
-first_left zero [] = refl
-first_left zero (r ∷ list) = refl
-first_left (suc n) [] = refl
-first_left (suc n) (r ∷ list) = first_left n list
-
 relation_is : relation_by (near relations) ≡ relation_at
-relation_is = ap relation_by (near_is relations) ∙ fun_ext (λ n. first_left n relations)
+relation_is =
+    ap (λ element number. unwrap_or (element number) plain_text) (element_is relations)
+    ∙ fun_ext (λ number. unwrap_or-slice_get relations number plain_text)
 
 asked_is : asked_near ≡ alternative_listed
 asked_is = ap₂ alternative_by (ap₂ bytes_by (near_is asked_texts) (near_is pieces)) relation_is

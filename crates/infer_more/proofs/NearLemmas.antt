@@ -1,6 +1,6 @@
 -- Stretches of a long list that are found in few steps: by what is left of the list behind each 64 elements, which is told once
 -- for all of them. The prover drops what stands before a stretch element by element, and anew for each.
-use Rattle.std.proofs.Common.{◌≡◌, ◌+◌, ◌*◌, ◌/◌, ◌%◌, ◌∙◌, ℕ, zero, suc, List, [], ◌∷◌, ap, arith, drop, refl, take}
+use Rattle.std.proofs.Common.{◌≡◌, ◌+◌, ◌*◌, ◌/◌, ◌%◌, ◌∙◌, ℕ, zero, suc, List, [], ◌∷◌, Option, ap, arith, drop, refl, slice_get, take}
 use Rattle.std.proofs.Math.Path.{fun_ext}
 use Rattle.std.proofs.lemmas.List.{drop-drop}
 use Rattle.infer_more.specs.Listed.{stretch}
@@ -27,6 +27,10 @@ near_by list rests start count = stretch (rest_at list rests (start / 64)) (star
 abbrev pub near : {A : Type 0} → List A → Stretches A
 near list = near_by list (rests 1024 list)
 
+-- the element at a place, if there is one: the first of a stretch
+abbrev pub element_by : {A : Type 0} → Stretches A → ℕ → Option A
+element_by stretches i = slice_get (stretches i 1) 0
+
 module _ {A : Type 0} where
   rest_is : (list : List A) (m n : ℕ) → rest_at list (rests m list) n ≡ drop (64 * n) list
   rest_is list zero n = refl
@@ -41,3 +45,12 @@ module _ {A : Type 0} where
 
   pub near_is : (list : List A) → near list ≡ stretch list
   near_is list = fun_ext (λ start. fun_ext (λ count. near_at list start count))
+
+  first_left : (list : List A) (i : ℕ) → slice_get (stretch list i 1) 0 ≡ slice_get list i
+  first_left [] zero = refl
+  first_left (x ∷ list) zero = refl
+  first_left [] (suc i) = refl
+  first_left (x ∷ list) (suc i) = first_left list i
+
+  pub element_is : (list : List A) → element_by (near list) ≡ slice_get list
+  element_is list = ap element_by (near_is list) ∙ fun_ext (first_left list)

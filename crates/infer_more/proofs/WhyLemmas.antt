@@ -14,7 +14,7 @@ use Rattle.infer_notation.specs.Alternative as signature
 use Rattle.infer_evidence.proofs.ListedLemmas.{all_told}
 use Rattle.infer_sig.specs.Places.{StandsByPlace}
 use Rattle.infer_sig.specs.Signature as fixed
-use Rattle.infer_sig.specs.Signature.{any_of, byte, fits, stands, text}
+use Rattle.infer_sig.specs.Signature.{byte, fits, stands, text}
 use Rattle.infer_more.specs.Listed.{bytes_listed, pieces_of}
 use Rattle.infer_more.specs.Why.{IsAlikeAt, IsRootRead, IsTold, IsToldAt, HasBytes, HasPiece, LacksBytes}
 use Rattle.infer_more.specs.declared.listed.Alternative.{Alternative}
