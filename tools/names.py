@@ -3,8 +3,6 @@ Code has them as numbers and as one text, since the prover reads those at once; 
 import ast
 import bisect
 import collections
-import operator
-import random
 import re
 from typing import NamedTuple
 
@@ -46,18 +44,8 @@ TEXTS = (
 ).split()
 # How many rows are looked for at once.
 ROWS = 128
-# How many slots the rows have, and groups that are shifted together.
-ROW_SLOTS, ROW_GROUPS = 2048, 64
-# The weights of four bytes of a text that are tried first, and how many others of at most so many bits. No sum overflows: the
-# length of a text leaves half of a word free.
-ROW_WEIGHTS, MOST_WEIGHTS, WEIGHT_BITS = (551, 2332, 259, 1045), 20000, 11
-# Where code and definition have the weights.
-SUMS = (
-    (f"{CRATE}/src/rows.rt", "    text.len() + {} * first + {} * second + {} * later + {} * last\n"),
-    (f"{CRATE}/specs/Rows.antt", """    length text + {} * get_or text 0 0 + {} * get_or text (length text / 4) 0 + {} * get_or text (length text / 2 + length text / 4) 0
-    + {} * get_or text (length text - 1) 0
-"""),
-)
+# How many rows a range has at most.
+MOST_OF_RUN = 255
 # How many marks there are for each length of a text, of which this one stands for all that are greater.
 MARKS, LONG = 64, 63
 KEYS_CODE = """//! Made by `tools/tables` from names.txt: the keys in the order of their slots, where the slots begin, and the readings.
@@ -114,21 +102,6 @@ pub(crate) static ROWS: [Span; {rows_count}] = spans![
 /// The rows of the sets, by the number of the first and how many follow each other, one set behind the other.
 pub(crate) static RANGES: [Span; {ranges_count}] = spans![
 {ranges}
-];
-
-/// For each mark whether a row has it.
-pub(crate) static ROW_MARKS: [u8; {marks_count}] = [
-{marks}
-];
-
-/// By how many slots each group of texts is shifted, so that each row has a slot of its own.
-pub(crate) static ROW_SHIFTS: [u16; {shifts_count}] = [
-{shifts}
-];
-
-/// The number of the row of each slot. A slot without one has the first row.
-pub(crate) static ROW_SLOTS: [u16; {slots_count}] = [
-{slots}
 ];
 
 static LEADS: &[&[&[u8]]] = lists![
@@ -429,13 +402,12 @@ def place_of_row(number):
 
 
 def check():
-    """Ends with the first line of names.txt that is wrong, and with a row that has no name or no slot."""
+    """Ends with the first line of names.txt that is wrong, and with a row that has no name."""
     listed()
     for it in TEXTS:
         if it not in known_rows():
             refuse("tools/names.py", line_of("tools/names.py", f" {it} "), f"TEXTS has {it}, and no row has the extension or the MIME type")
     takers()
-    row_slots()
 
 
 @kept
@@ -566,86 +538,14 @@ def rows():
 
 
 def ranges(numbers):
-    """Where runs of numbers that follow each other begin, and how long they are."""
+    """Where runs of numbers that follow each other begin, and how long they are, at most as a byte can say."""
     found = []
     for it in numbers:
-        if found and it == sum(found[-1]):
+        if found and it == sum(found[-1]) and found[-1][1] < MOST_OF_RUN:
             found[-1] = (found[-1][0], found[-1][1] + 1)
         else:
             found.append((it, 1))
     return found
-
-
-def bytes_of_row(text):
-    """What the sum of a row's text depends on, as crates/infer_named/specs/Rows.antt defines it: its length, and four of its bytes."""
-    return len(text), *(ord(text[place]) for place in (0, len(text) // 4, len(text) // 2 + len(text) // 4, len(text) - 1))
-
-
-def weights():
-    """The weights that are tried, always the same ones in the same order."""
-    drawn = random.Random(0)
-    yield ROW_WEIGHTS
-    yield from (tuple(2 + drawn.getrandbits(WEIGHT_BITS) for _ in ROW_WEIGHTS) for _ in range(MOST_WEIGHTS))
-
-
-def free_shift(taken, group):
-    """By how many slots a group is shifted so that it takes none that is taken, as bits, and what it takes then."""
-    every = (1 << ROW_SLOTS) - 1
-    for shift in range(ROW_SLOTS):
-        places = (group << shift | group >> ROW_SLOTS - shift) & every
-        if not places & taken:
-            return shift, places
-    return None
-
-
-def shifts_of(sums):
-    """By how many slots each group of these sums is shifted, or None if some have no slot: the largest groups are placed first."""
-    if len({it % (ROW_GROUPS * ROW_SLOTS) for it in sums}) < len(sums):
-        return None
-    groups, shifts, taken = [set() for _ in range(ROW_GROUPS)], [0] * ROW_GROUPS, 0
-    for it in sums:
-        groups[it % ROW_GROUPS].add(it // ROW_GROUPS % ROW_SLOTS)
-    for number in sorted(range(ROW_GROUPS), key=lambda it: -len(groups[it])):
-        found = free_shift(taken, sum(1 << place for place in groups[number]))
-        if found is None:
-            return None
-        shifts[number], places = found
-        taken |= places
-    return shifts
-
-
-def refuse_slots(of_rows):
-    """Ends with the rows that no weights tell apart, or with how many slots are too few."""
-    alike = {its: [text for text, other in zip(rows(), of_rows) if other == its] for its in of_rows if of_rows.count(its) > 1}
-    for one, other, *_ in alike.values():
-        number = max(number for number, texts in enumerate(all_rows()) if {one, other}.intersection(texts))
-        extension, mime_type = all_rows()[number]
-        line = f"extension {extension}: {mime_type} (row {mime_type}), signature; agrees {mime_type}"
-        refuse(*place_of_row(number), f"{one} and {other} have one sum in crates/infer_named/src/rows.rt, whatever its weights: add the line `{line}` to {NAMES}")
-    slots = f"ROW_SLOTS in tools/names.py, and {ROW_SLOTS} in src/rows.rt, specs/Rows.antt, proofs/RowLemmas.antt and proofs/rows/number_of/Answers.antt of {CRATE}"
-    return refuse(NAMES, 1, f"no weights of {MOST_WEIGHTS} give each of {len(of_rows)} rows a slot of its own: double {slots}")
-
-
-@kept
-def row_slots():
-    """The first weights by which each row has a slot of its own, by how many slots each group is shifted, and the row of each slot."""
-    of_rows = [bytes_of_row(it) for it in rows()]
-    for found in weights():
-        sums = [length + sum(map(operator.mul, found, its)) for length, *its in of_rows]
-        if shifts := shifts_of(sums):
-            slots = [0] * ROW_SLOTS
-            for number, it in enumerate(sums):
-                slots[(it // ROW_GROUPS + shifts[it % ROW_GROUPS]) % ROW_SLOTS] = number
-            return found, shifts, slots
-    return refuse_slots(of_rows)
-
-
-def with_weights(path, line):
-    """The text of a file of the sum of a row's text, with the weights in its line."""
-    text, found = re.subn(re.escape(line).replace(r"\{\}", r"\d+"), lambda it: line.format(*row_slots()[0]), text_of(path))
-    if found != 1:
-        refuse(path, line_of(path, "row_sum"), f"the weights of the sum of a row's text have no line here: {line.strip()}")
-    return text
 
 
 @kept
@@ -710,12 +610,10 @@ def set_spans():
 
 
 def sets_code():
-    (_, shifts, slots), found = row_slots(), [it for of_set in ranges_of_sets() for it in of_set]
+    found = [it for of_set in ranges_of_sets() for it in of_set]
     return SETS_CODE.format(
         rows="\n".join(f"    {row_texts().span(it)};" for it in rows()), rows_count=len(rows()),
         ranges="\n".join(f"    {start} {count};" for start, count in found), ranges_count=len(found),
-        shifts=numbers_text(shifts), shifts_count=len(shifts),
-        slots=numbers_text(slots), slots_count=len(slots), marks=numbers_text(marks(rows())), marks_count=len(marks(rows())),
         leads="\n".join(f"    {leads_text(found)}" for found in leads()),
     )
 
@@ -834,11 +732,6 @@ def texts_term():
     """The definition of sets with the rows of texts, eight a line, and of the leads."""
     lines = [" ∷ ".join(f'codes "{it}"' for it in part) for part in parts(TEXTS, 8)]
     return TEXTS_TERM.format(rows="\n    ∷ ".join(lines), leads=listed_terms(map(leads_term, leads())))
-
-
-def weighed():
-    """The files of which only the weights are made."""
-    return ((path, with_weights(path, line)) for path, line in SUMS)
 
 
 def made():

@@ -1,4 +1,4 @@
--- A text whose mark no whole name has is none, and one whose mark no row has is no row.
+-- A text whose mark no whole name has is none.
 use Rattle.std.proofs.Common.{◌≡◌, ◌-◌, ◌<◌, ◌∙◌, ◌&&◌, ◌||◌, ℕ, Bool, true, false, List, [], ◌∷◌, ◌++◌, None, ap, ap₂, arith, get_or, inl, inr, length, not, refl, subst, sym}
 use Rattle.std.proofs.lemmas.Bool.{and_parts, cases_Bool}
 use Rattle.std.proofs.lemmas.List.{get_or-map, length-map}

@@ -1,7 +1,6 @@
 pub mod Key
 pub mod Texts
 pub mod Listed
-pub mod Rows
 pub mod Names
 pub mod Keys
 pub mod Table

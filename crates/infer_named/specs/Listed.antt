@@ -61,12 +61,9 @@ texts list = map (λ text. text.now) list
 abbrev pub lists_of_texts : List (Bor (List (Bor (List ℕ)))) → List (List (List ℕ))
 lists_of_texts lists = map (λ list. texts list.now) lists
 
--- the texts of the rows, that of a number, and no text for a number too great
+-- the texts of the rows
 abbrev pub row_list : List (List ℕ)
 row_list = map row_text row_spans
-
-abbrev pub row_at : ℕ → List ℕ
-row_at n = get_or row_list n []
 
 -- the rows of a range, and those of the ranges at a span
 abbrev pub range_listed : Span → List (List ℕ)

@@ -1,14 +1,10 @@
 -- Marks of texts: a text without a mark that some text of a list has is none of the list.
 use Rattle.std.specs.Prelude.{◌+◌, ◌-◌, ◌*◌, ◌%◌, ◌==◌, ℕ, Bool, List, get_or, length, min}
 use Rattle.infer_named.specs.declared.table.generated.keys.TheConstants.{WHOLE_MARKS}
-use Rattle.infer_named.specs.declared.table.generated.sets.TheConstants.{ROW_MARKS}
 
--- for each mark whether a whole name has it, and whether a row has it
+-- for each mark whether a whole name has it
 unfoldable pub whole_marks : List ℕ
 whole_marks = WHOLE_MARKS
-
-unfoldable pub row_marks : List ℕ
-row_marks = ROW_MARKS
 
 -- the mark of a text of this length, with these bytes first and last; lengths from 63 on are alike
 abbrev pub mark : ℕ → ℕ → ℕ → ℕ

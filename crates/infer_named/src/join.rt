@@ -11,7 +11,7 @@ ghost use Rattle.infer_named.specs.Named.{IsNamed, answer_of, key_of, told_liste
 
 use crate::bytes::{Kind, kind_of, lead_of};
 use crate::names::key;
-use crate::rows::Numbered;
+use crate::rows::is_among;
 use crate::table::{
     Asks, Key, NamedType, Origin, Reading, leads, mime_type, readings_of, row_text,
 };
@@ -218,9 +218,8 @@ fn joined(key: &'static Key, t: Type, buf: &[u8]) -> Named
     ensures key { key_of result ≡ Some (key_listed key.now) }
 {
     let readings = readings_of(key);
-    let numbered = Numbered::new(t);
     for reading in readings {
-        let standing = standing_in(reading, &numbered);
+        let standing = standing_in(reading, t);
         if standing.is_some() && fits(reading, buf) {
             return told_by(key, reading, standing, t);
         }
@@ -259,16 +258,16 @@ fn told_by(key: &'static Key, reading: &Reading, standing: Option<Standing>, t: 
 }
 
 /// What the first of the reading's sets that has the type makes of the name, if one has it.
-fn standing_in(reading: &Reading, numbered: &Numbered) -> Option<Standing>
-    ensures { result ≡ standing_in (triple_of numbered.now.found) (reading_listed reading.now) }
+fn standing_in(reading: &Reading, t: Type) -> Option<Standing>
+    ensures { result ≡ standing_in (triple_of t) (reading_listed reading.now) }
 {
-    if numbered.is_among(reading.agrees) {
+    if is_among(&t, reading.agrees) {
         return Some(Standing::Agree);
     }
-    if numbered.is_among(reading.begins) {
+    if is_among(&t, reading.begins) {
         return Some(Standing::NameRefines);
     }
-    if numbered.is_among(reading.finer) {
+    if is_among(&t, reading.finer) {
         return Some(Standing::BytesRefine);
     }
     None

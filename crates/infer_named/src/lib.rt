@@ -4,9 +4,10 @@
 //! is Python, a picture is none. The table of names is data, and so are the readings of each: what a name may mean, and
 //! which rows may accept the bytes of such a file.
 //!
-//! Each module uses only those before it: `table`, the keys with their readings; `names`, the key of a name; `bytes`, what is
-//! asked of the bytes beside their wider answer; `rows`, the sets that have a type; `join`, all together; `own`, types of a
-//! text beside these; `read`, the front of a file or of a reader; `odd`, what is odd about a name.
+//! Each module uses only those before it: `table`, the keys with their readings; `marks`, which texts are no whole name;
+//! `names`, the key of a name; `bytes`, what is asked of the bytes beside their wider answer; `rows`, whether a set of rows
+//! has a type; `join`, all together; `own`, types of a text beside these; `read`, the front of a file or of a reader; `odd`,
+//! what is odd about a name.
 #![tactic(auto)]
 
 ghost use Rattle.std.specs.Prelude.{◌≡◌, ◌≤◌, IfOk, None, option_map};

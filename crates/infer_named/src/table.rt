@@ -2,7 +2,7 @@
 //! lists of numbers, and one text of the keys, one of the types and one of the rows.
 ghost use Rattle.std.specs.Prelude.{◌≡◌, ◌<◌, IsAscii, map};
 ghost use Rattle.std.specs.List.{flat_map};
-ghost use Rattle.infer_named.specs.Listed.{key_listed, leads_at, mime_type, range_listed, reading_listed, row_at, row_text, set_listed, stretch, texts};
+ghost use Rattle.infer_named.specs.Listed.{key_listed, leads_at, mime_type, range_listed, reading_listed, row_text, set_listed, stretch, texts};
 ghost use Rattle.infer_named.specs.Slots.{keys_of_slot};
 
 /// What of a file's name a key is.
@@ -152,10 +152,10 @@ pub(crate) use spans;
 
 mod generated;
 
+pub(crate) use generated::whole_marks;
 use generated::{
     all_keys, all_ranges, all_readings, key_texts, mime_types, row_spans, row_texts, starts,
 };
-pub(crate) use generated::{row_marks, row_shifts, row_slots, whole_marks};
 
 /// So many elements from a place on, or those that there are.
 fn stretch<T>(list: &[T], start: usize, count: usize) -> &[T]
@@ -227,6 +227,13 @@ pub(crate) fn row_text(span: Span) -> &'static str
     text_at(row_texts(), span)
 }
 
+/// The same as bytes, which takes less.
+pub(crate) fn row_bytes(span: Span) -> &'static [u8]
+    ensures { result.now ≡ row_text span }
+{
+    at(row_texts().as_bytes(), span)
+}
+
 /// The ranges of a set.
 pub(crate) fn ranges(set: Span) -> &'static [Span]
     ensures { flat_map range_listed result.now ≡ set_listed set }
@@ -234,15 +241,13 @@ pub(crate) fn ranges(set: Span) -> &'static [Span]
     at(all_ranges(), set)
 }
 
-/// The row of this number: its extension, or its MIME type where two types have one extension.
-#[tactic(auto, using(crate::proofs::StretchLemmas::element_listed, crate::proofs::StretchLemmas::past_listed))]
-pub(crate) fn row(number: u16) -> &'static [u8]
-    ensures { result.now ≡ row_at number }
+/// Where the texts of the rows of a range stand. A row has its extension there, or its MIME type where two types have one
+/// extension.
+#[tactic(auto, using(crate::proofs::StretchLemmas::stretch_listed))]
+pub(crate) fn rows(range: Span) -> &'static [Span]
+    ensures { map row_text result.now ≡ range_listed range }
 {
-    match row_spans().get(usize::from(number)) {
-        Some(span) => at(row_texts().as_bytes(), *span),
-        None => &[],
-    }
+    at(row_spans(), range)
 }
 
 /// The leads of this number, each of one or two bytes. Any is one if there are none.

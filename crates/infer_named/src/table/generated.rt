@@ -1,14 +1,13 @@
 //! The lists of the table, which `tools/tables` makes from names.txt, each with what it lists.
 ghost use Rattle.std.specs.Prelude.{◌≡◌, IsAscii, length, map};
 ghost use Rattle.infer_named.specs.Listed.{key_listed, key_texts, mime_types, ranges, readings, row_spans, row_texts};
-ghost use Rattle.infer_named.specs.Marks.{row_marks, whole_marks};
-ghost use Rattle.infer_named.specs.Rows.{row_shifts, row_slots};
+ghost use Rattle.infer_named.specs.Marks.{whole_marks};
 ghost use Rattle.infer_named.specs.Slots.{starts};
 ghost use Rattle.infer_named.specs.Table.{keys};
 
 use crate::table::{Key, Reading, Span};
 use keys::{KEYS, READINGS, STARTS, WHOLE_MARKS};
-use sets::{RANGES, ROW_MARKS, ROW_SHIFTS, ROW_SLOTS, ROWS};
+use sets::{RANGES, ROWS};
 use texts::{KEY_TEXTS, MIME_TYPES, ROW_TEXTS};
 
 pub(crate) mod keys;
@@ -64,29 +63,6 @@ pub(crate) fn all_ranges() -> &'static [Span]
     ensures { result.now ≡ ranges }
 {
     &RANGES
-}
-
-/// For each mark whether a row has it.
-pub(crate) fn row_marks() -> &'static [u8]
-    ensures { result.now ≡ row_marks }
-{
-    &ROW_MARKS
-}
-
-/// By how many slots each group of texts is shifted.
-pub(crate) fn row_shifts() -> &'static [u16]
-    ensures value { result.now ≡ row_shifts }
-    ensures many { length result.now ≡ 64 }
-{
-    &ROW_SHIFTS
-}
-
-/// The number of the row of each slot.
-pub(crate) fn row_slots() -> &'static [u16]
-    ensures value { result.now ≡ row_slots }
-    ensures many { length result.now ≡ 2048 }
-{
-    &ROW_SLOTS
 }
 
 /// Where the texts of the rows stand.
