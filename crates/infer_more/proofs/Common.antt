@@ -78,10 +78,9 @@ pub use Rattle.infer_more.specs.Decided.{MayWiden}
 pub use Rattle.infer_more.specs.Ended.{ended_shown}
 pub use Rattle.infer_more.specs.Entries.{left_lines, row_lines}
 pub use Rattle.infer_more.specs.Index.{HasTagText, IsFoundBelow, IsLeast, IsNamed, IsOfProgram, IsRooted, IsRootedBy}
-pub use Rattle.infer_more.specs.Index.{IsRowOf, IsTried, ascends, candidate, candidates, excepted, guarded, has_byte}
-pub use Rattle.infer_more.specs.Index.{is_covered, is_excepted, is_plain, is_settled, is_tried_parentless}
-pub use Rattle.infer_more.specs.Index.{is_true_below, named_row, bucket_of, ranged, rooted_row, tried_parentless}
-pub use Rattle.infer_more.specs.Index.{unless, within}
+pub use Rattle.infer_more.specs.Index.{IsRowOf, IsTried, ascends, candidate, candidates, has_byte}
+pub use Rattle.infer_more.specs.Index.{is_covered, is_plain, is_settled, is_tried_parentless}
+pub use Rattle.infer_more.specs.Index.{is_true_below, named_row, bucket_of, rooted_row, tried_parentless}
 pub use Rattle.infer_more.specs.Laws.{AllLast, IsLost, is_dark, is_filled, is_lasting}
 unfoldable pub use Rattle.infer_more.specs.Line.{class_of, is_built_in, is_mime_type, row_of}
 pub use Rattle.infer_more.specs.Line.{Fields, fields_listed, fields_of, is_alphanumeric, is_name, is_name_byte}
@@ -103,7 +102,6 @@ unfoldable pub use Rattle.infer_more.specs.Wider.{shown}
 pub use Rattle.infer_more.specs.Wider.{IsWider, Widens, WidensAt, wider}
 pub use Rattle.infer_more.specs.declared.index.Below.{Below}
 pub use Rattle.infer_more.specs.declared.index.Below.TheVariants.{Nothing}
-pub use Rattle.infer_more.specs.declared.index.Except.{Except}
 pub use Rattle.infer_more.specs.declared.index.Named.{Named}
 pub use Rattle.infer_more.specs.declared.index.Parentless.{Parentless}
 pub use Rattle.infer_more.specs.declared.index.Rooted.{Rooted}

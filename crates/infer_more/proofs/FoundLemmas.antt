@@ -1,6 +1,6 @@
 -- By the index just those rows are found that widen an answer.
 use Rattle.std.proofs.lemmas.Bool.{ltb-true, or_cases}
-use Rattle.infer_more.proofs.Common.{◌≡◌, ◌↔◌, ℕ, zero, suc, ◌+◌, ◌<◌, ◌≤◌, ◌==◌, inl, inr, ◌⊎◌, Bool, true, false, IsTrue, List, [], ◌∷◌, Option, None, Some, length, get_or, ap, sym, ◌∙◌, subst, arith, refl, ◌&&◌, ◌||◌, ◌++◌, slice_index, nat_le, nat_lt, list_all, list_any, option_map_or, cases_lt, eqb-true, leb-true, get_or_default, slice_get_cases, Bor, IsJson, IsJsonLines, BeginsElement, IsRootElement, IsXmlSpace, there, IsProgram, IsOneOf, IsPackageWith, applications, accepts, fits, stands, StandsByPlace, IsBuffer, is_listed, HasTagText, IsFoundBelow, IsLeast, IsNamed, IsOfProgram, IsRootedBy, IsRooted, IsRowOf, IsTried, ascends, candidates, excepted, is_covered, is_excepted, is_plain, is_tried_parentless, is_true_below, named_row, rooted_row, tried_parentless, lines, Further, Accepted, Fits, related, json_lines, json_text, package_with, plain_text, program, root, root_with, further, Widens, WidensAt, Nothing, Except, Named, Parentless, Rooted, FURTHER_COUNT, and_from, bucket_of, class_id, if◌then◌else◌, not, eq-eqb}
+use Rattle.infer_more.proofs.Common.{◌≡◌, ◌↔◌, ℕ, zero, suc, ◌+◌, ◌<◌, ◌≤◌, ◌==◌, inl, inr, ◌⊎◌, Bool, true, false, IsTrue, List, [], ◌∷◌, Option, None, Some, length, get_or, ap, sym, ◌∙◌, subst, arith, refl, ◌&&◌, ◌||◌, slice_index, nat_le, nat_lt, list_all, list_any, option_map_or, cases_lt, eqb-true, leb-true, get_or_default, slice_get_cases, Bor, IsJson, IsJsonLines, BeginsElement, IsRootElement, IsXmlSpace, there, IsProgram, IsOneOf, IsPackageWith, applications, accepts, fits, stands, StandsByPlace, IsBuffer, is_listed, HasTagText, IsFoundBelow, IsLeast, IsNamed, IsOfProgram, IsRootedBy, IsRooted, IsRowOf, IsTried, ascends, candidates, is_covered, is_plain, is_tried_parentless, is_true_below, named_row, rooted_row, tried_parentless, lines, Further, Accepted, Fits, related, json_lines, json_text, package_with, plain_text, program, root, root_with, further, Widens, WidensAt, Nothing, Named, Parentless, Rooted, FURTHER_COUNT, and_from, bucket_of, class_id, if◌then◌else◌, not, eq-eqb}
 use Rattle.std.specs.Prelude.{slice_get}
 use Rattle.std.proofs.lemmas.List.Sums.{AllPass-from_list_all}
 use Rattle.infer_deep.specs.ClassId.{HasClassId}
@@ -14,7 +14,7 @@ use Rattle.infer_formats.specs.Tiff.{HasTag}
 use Rattle.infer_formats.specs.Markup.{HasInTag, MayBeRooted}
 use Rattle.infer_sig.specs.Signature as fixed
 use Rattle.infer_sig.proofs.OccurrenceLemmas.{not_both}
-use Rattle.infer_more.specs.Index.{AllApplications, AreClassIds, AreWaysBelow, EachIsTold, EachParentlessIsFound, FindsBelow, FindsParentless, IsFoundParentless, IsKeyed, IsKeyedBy, IsTold, IsWayBelow, IsTextRow, HasKeyValue, MayBeTold, all_ascend, has_mark, are_keyed, are_rooted, are_roots_of, are_spans, are_spots, are_texts, are_told, are_true, asks_class_id, asks_folder, asks_key, asks_program, asks_root, below_at, bucket_by, has_byte, has_named, has_rooted, keyed_row, roots_of, is_application, is_child, is_found_below, is_found_parentless, is_in_class_ids, is_in_folders, is_in_keys, is_in_programs, is_in_roots, is_json, is_lines, is_of_name, is_of_tag, is_row_below, is_row_parentless, is_row_parentless_found, is_row_with, is_text_row, is_told, is_tried_below, is_tried_in, bucket_at, same, same_text}
+use Rattle.infer_more.specs.Index.{AllApplications, AreClassIds, AreWaysBelow, EachIsTold, EachParentlessIsFound, FindsBelow, FindsParentless, IsFoundParentless, IsKeyed, IsKeyedBy, IsTold, IsWayBelow, IsTextRow, HasKeyValue, MayBeTold, all_ascend, are_keyed, are_rooted, are_roots_of, are_texts, are_true, asks_class_id, asks_folder, asks_key, asks_program, asks_root, below_at, bucket_by, has_byte, has_named, has_rooted, keyed_row, roots_of, is_application, is_child, is_found_below, is_found_parentless, is_in_class_ids, is_in_folders, is_in_keys, is_in_programs, is_in_roots, is_json, is_lines, is_of_name, is_of_tag, is_row_below, is_row_parentless, is_row_parentless_found, is_row_with, is_text_row, is_told, is_tried_below, bucket_at, same, same_text}
 use Rattle.infer_notation.specs.Alternative.{Alternative}
 use Rattle.infer_more.specs.declared.index.Below as below
 use Rattle.infer_more.specs.declared.index.Below.TheVariants.{ClassIds, Entries, Packages, Programs, Roots, Tagged}
@@ -22,10 +22,14 @@ use Rattle.infer_more.specs.declared.index.Entry.{Entry}
 use Rattle.infer_more.specs.declared.index.Keyed.{Keyed}
 use Rattle.infer_more.specs.declared.index.Texts.{Texts}
 use Rattle.infer_more.specs.declared.index.Told.{Told}
-use Rattle.infer_more.proofs.IndexLemmas.{all_of_listed, both_left, both_right, covered_here, excepted_here, listed_left, listed_right, parentless_here}
-use Rattle.infer_more.proofs.LeastLemmas.{least_both, least_late, least_same}
+use Rattle.infer_more.proofs.IndexLemmas.{both_left, both_right, covered_here, parentless_here}
+use Rattle.infer_more.proofs.LeastLemmas.{least_both, least_late, least_same, read_at}
 use Rattle.infer_more.proofs.OutlineLemmas.{has_lines, small_bytes}
+use Rattle.infer_more.proofs.NearLemmas.{element_by, element_is, near, near_is}
 use Rattle.infer_more.proofs.TableLemmas.{NoRowFails, each_row}
+use Rattle.infer_more.specs.Index.{entries_at, entries_by}
+use Rattle.infer_more.specs.Wider.{IsWidest}
+use Rattle.std.proofs.Common.{ap₂}
 
 -- what is computed to be the same is the same
 same_true : (xs ys : List ℕ) → IsTrue (same xs ys) → xs ≡ ys
@@ -117,32 +121,16 @@ module _ (by_place : (place : ℕ) (t buf : List ℕ) → IsTrue (stands place t
     | inr e ↦ line_tried entries some (both_right (is_covered i l entries) _ h) e
   ]
 
-  line_tried_parentless : (index : Parentless) (some : List fixed.Alternative) → IsTrue (list_all (is_tried_parentless index i) some) → IsTrue (accepts some b)
+  line_tried_parentless : (index : Parentless) (some : List fixed.Alternative) → IsTrue (list_all (is_tried_parentless (entries_at index) index.spots.now i) some) → IsTrue (accepts some b)
       → IsTrue (is_listed (tried_parentless index b) i)
   line_tried_parentless index [] h k = absurd (cc)
   line_tried_parentless index (l ∷ some) h k = elim (or_cases (fits b l) _ k) [
-    | inl e ↦ parentless_here by_place index b i l (both_left (is_tried_parentless index i l) _ h) e
-    | inr e ↦ line_tried_parentless index some (both_right (is_tried_parentless index i l) _ h) e
+    | inl e ↦ parentless_here by_place index b i l (both_left (is_tried_parentless (entries_at index) index.spots.now i l) _ h) e
+    | inr e ↦ line_tried_parentless index some (both_right (is_tried_parentless (entries_at index) index.spots.now i l) _ h) e
   ]
 
   tried : (entries : List Entry) (a : Alternative) → IsTrue (is_tried_below i entries a) → Fits a b → IsTrue (is_listed (candidates b entries) i)
   tried entries a h k = line_tried entries (lines a) h (has_lines leads b a (λ plain. small) k)
-
-  line_excepted : (entries : List Entry) (excepts : List Except) (some : List fixed.Alternative)
-      → IsTrue (list_all (λ l. is_covered i l entries || is_excepted i l excepts) some) → IsTrue (accepts some b)
-      → IsTrue (is_listed (candidates b entries ++ excepted b excepts) i)
-  line_excepted entries excepts [] h k = absurd (cc)
-  line_excepted entries excepts (l ∷ some) h k = elim (or_cases (fits b l) _ k) [
-    | inl e ↦ elim (or_cases (is_covered i l entries) _ (both_left (is_covered i l entries || is_excepted i l excepts) _ h)) [
-      | inl covered ↦ listed_left (candidates b entries) _ i (covered_here by_place b i l entries covered e)
-      | inr but ↦ listed_right (candidates b entries) _ i (excepted_here b i l excepts but e)
-    ]
-    | inr e ↦ line_excepted entries excepts some (both_right (is_covered i l entries || is_excepted i l excepts) _ h) e
-  ]
-
-  tried_in : (entries : List Entry) (excepts : List Except) (a : Alternative) → IsTrue (is_tried_in i entries excepts a) → Fits a b
-      → IsTrue (is_listed (candidates b entries ++ excepted b excepts) i)
-  tried_in entries excepts a h k = line_excepted entries excepts (lines a) h (has_lines leads b a (λ plain. small) k)
 
   in_class_ids : (ids : List Named) (a : Alternative) → IsTrue (is_in_class_ids i ids a) → Fits a b → IsNamed (λ id. HasClassId id b) ids i
   in_class_ids ids (related (class_id id)) h k = listed_name (λ n. HasClassId n b) i ids id h k
@@ -200,9 +188,9 @@ module _ (by_place : (place : ℕ) (t buf : List ℕ) → IsTrue (stands place t
       | inr e ↦ inl (tried entries.now a e k, w)
     ]
     found_by (Roots roots) a h k = in_roots roots.now a h k
-    found_by (Packages entries excepts folders) a h k = elim (or_cases (is_in_folders i folders.now a) _ h) [
+    found_by (Packages entries folders) a h k = elim (or_cases (is_in_folders i folders.now a) _ h) [
       | inl e ↦ inr (in_folders folders.now a e k)
-      | inr e ↦ inl (tried_in entries.now excepts.now a e k, w)
+      | inr e ↦ inl (tried entries.now a e k, w)
     ]
     found_by (Tagged entries tag other tagged) a h k = elim (or_cases (is_of_tag tag other a && is_tried_below i tagged.now a) _ h) [
       | inl e ↦ inr (of_tag tag other a (both_left (is_of_tag tag other a) _ e) k, (tried tagged.now a (both_right (is_of_tag tag other a) _ e) k, w))
@@ -225,22 +213,22 @@ module _ (by_place : (place : ℕ) (t buf : List ℕ) → IsTrue (stands place t
       ]
     ]
 
-    found_otherwise : WidensAt None b i → (a : Alternative) → IsTrue (is_text_row index.texts i a || list_all (is_tried_parentless index i) (lines a)) → Fits a b
+    found_otherwise : WidensAt None b i → (a : Alternative) → IsTrue (is_text_row index.texts i a || list_all (is_tried_parentless (entries_at index) index.spots.now i) (lines a)) → Fits a b
         → IsFoundParentless index told b i
     found_otherwise w a h k = elim (or_cases (is_text_row index.texts i a) _ h) [
       | inl text ↦ inr (inr (in_texts index.texts a text k))
       | inr rows ↦ inl (line_tried_parentless index (lines a) rows (has_lines leads b a (λ plain. small) k), w)
     ]
 
-    found_parentless : WidensAt None b i → (signature : List Alternative) → IsTrue (list_all (is_found_parentless index i) signature)
+    found_parentless : WidensAt None b i → (signature : List Alternative) → IsTrue (list_all (is_found_parentless (entries_at index) index.spots.now index.texts i) signature)
         → IsTrue (list_all (is_told told i) signature) → Accepted signature b → IsFoundParentless index told b i
     found_parentless w [] h t k = absurd (k)
-    found_parentless w (a ∷ signature) h t (inl k) = elim (or_cases (is_of_name a) _ (both_left (is_found_parentless index i a) _ h)) [
+    found_parentless w (a ∷ signature) h t (inl k) = elim (or_cases (is_of_name a) _ (both_left (is_found_parentless (entries_at index) index.spots.now index.texts i a) _ h)) [
       | inl named ↦ inr (inl (found_by_name a named (both_left (is_told told i a) _ t) k))
       | inr other ↦ found_otherwise w a other k
     ]
     found_parentless w (a ∷ signature) h t (inr k) =
-        found_parentless w signature (both_right (is_found_parentless index i a) _ h) (both_right (is_told told i a) _ t) k
+        found_parentless w signature (both_right (is_found_parentless (entries_at index) index.spots.now index.texts i a) _ h) (both_right (is_told told i a) _ t) k
 
 -- a row that is told by a name widens the answer
 any_of : (test : Alternative → Bool) (b : List ℕ) → ((a : Alternative) → IsTrue (test a) → Fits a b) → (signature : List Alternative) → IsTrue (list_any test signature)
@@ -359,19 +347,19 @@ module _ (b : List ℕ) where
   widens_below parent (ClassIds entries ids) i h (inr is) =
       rows_widen named_row (λ e. HasClassId e.name.now b) (λ e. asks_class_id e.name.now) (Some parent) b (λ e p. fits_class_id e.name.now p) ids.now i
       (second_of_each (λ e. length e.name.now == 16) (λ e. is_row_with (Some parent) (asks_class_id e.name.now) e.row) ids.now
-      (both_left (list_all (λ e. length e.name.now == 16 && is_row_with (Some parent) (asks_class_id e.name.now) e.row) ids.now) _ (both_right (ascends named_row ids.now) _ h))) is
+      (both_right (ascends named_row ids.now) _ h)) is
   widens_below parent (Programs entries lists) i h (inl is) = is.1
   widens_below parent (Programs entries lists) i h (inr (name, p, is)) =
       rows_widen named_row (λ e. e.name.now ≡ name) (λ e. asks_program e.name.now) (Some parent) b
       (λ e same. fits_program e.name.now (subst (λ n. IsProgram n b) (sym same) p)) (bucket_of lists.now name) i
       (listed_in_bucket (list_all (λ e. is_row_with (Some parent) (asks_program e.name.now) e.row)) refl _ lists.now name
-      (both_left (list_all (λ names. list_all (λ e. is_row_with (Some parent) (asks_program e.name.now) e.row) names.now) lists.now) _ (both_right (all_ascend named_row lists.now) _ h))) is
+      (both_right (all_ascend named_row lists.now) _ h)) is
   widens_below parent (Roots roots) i h is = widens_root (Some parent) roots.now i (both_right (all_ascend rooted_row roots.now) _ h) is
-  widens_below parent (Packages entries excepts folders) i h (inl is) = is.1
-  widens_below parent (Packages entries excepts folders) i h (inr is) =
+  widens_below parent (Packages entries folders) i h (inl is) = is.1
+  widens_below parent (Packages entries folders) i h (inr is) =
       rows_widen named_row (λ e. IsPackageWith e.name.now b) (λ e. asks_folder e.name.now) (Some parent) b (λ e p. fits_folder e.name.now p) folders.now i
       (second_of_each (λ e. is_application e.name.now) (λ e. is_row_with (Some parent) (asks_folder e.name.now) e.row) folders.now
-      (both_left (list_all (λ e. is_application e.name.now && is_row_with (Some parent) (asks_folder e.name.now) e.row) folders.now) _ (both_right (ascends named_row folders.now) _ h))) is
+      (both_right (ascends named_row folders.now) _ h)) is
   widens_below parent (Tagged entries tag other tagged) i h (inl is) = is.1
   widens_below parent (Tagged entries tag other tagged) i h (inr (has, is)) = is.1
 
@@ -436,10 +424,10 @@ module _ (parent : ℕ) where
   abbrev is_folder : Named → Bool
   is_folder e = is_application e.name.now && is_row_with (Some parent) (asks_folder e.name.now) e.row
 
-  pub all_applications : (entries : Bor (List Entry)) (excepts : Bor (List Except)) (folders : Bor (List Named)) → IsTrue (is_true_below parent (Packages entries excepts folders)) → AllApplications folders.now
-  all_applications entries excepts folders h = λ k d lt.
+  pub all_applications : (entries : Bor (List Entry)) (folders : Bor (List Named)) → IsTrue (is_true_below parent (Packages entries folders)) → AllApplications folders.now
+  all_applications entries folders h = λ k d lt.
       let name = (get_or folders.now k d).name.now in
-      one_of name applications (both_left (is_application name) _ (AllPass-from_list_all is_folder folders.now (both_left (list_all is_folder folders.now) _ (both_right (ascends named_row folders.now) _ h)) k d lt))
+      one_of name applications (both_left (is_application name) _ (AllPass-from_list_all is_folder folders.now (both_right (ascends named_row folders.now) _ h) k d lt))
 
 -- each class id has its bytes
 module _ (parent : ℕ) where
@@ -449,7 +437,7 @@ module _ (parent : ℕ) where
   pub are_class_ids : (entries : Bor (List Entry)) (ids : Bor (List Named)) → IsTrue (is_true_below parent (ClassIds entries ids)) → AreClassIds ids.now
   are_class_ids entries ids h = λ k d lt.
       let long = length (get_or ids.now k d).name.now in
-      eqb-true long 16 (both_left (long == 16) _ (AllPass-from_list_all is_class_id ids.now (both_left (list_all is_class_id ids.now) _ (both_right (ascends named_row ids.now) _ h)) k d lt))
+      eqb-true long 16 (both_left (long == 16) _ (AllPass-from_list_all is_class_id ids.now (both_right (ascends named_row ids.now) _ h) k d lt))
 
 -- a row is found by its parent, or without one
 module _ (i : ℕ) (r : Further) (found : slice_get further i ≡ Some r) (lt : i < length further) where
@@ -483,7 +471,7 @@ module _ (by_place : (place : ℕ) (t buf : List ℕ) → IsTrue (stands place t
   finds_parentless index told each named b all i w = elim (slice_get_cases further i).1 [
     | inl (r, within, found, same_row) ↦
         let holds : Widens None b r = subst (Widens None b) same_row (w.1 r) in
-        let own = parentless_by i r found within (is_found_parentless index) each.found holds.0 in
+        let own = parentless_by i r found within (is_found_parentless (entries_at index) index.spots.now index.texts) each.found holds.0 in
         found_parentless by_place leads b (small_bytes b all) i index told w r.signature own (parentless_by i r found within (is_told told) named.found holds.0) holds.1
     | inr (past, none) ↦ absurd (let lt = w.0 in omega arith)
   ]
@@ -540,9 +528,24 @@ pub ways_below : (apart : List ℕ) (ways : List below.Below)
     → NoRowFails (λ i r. is_row_below (λ p. not (is_listed apart p)) (below_at ways) i r.parent r) → IsTrue (are_true 0 ways) → AreWaysBelow apart ways
 ways_below apart ways none told = record { found = λ i lt. each_row _ none i; told = told }
 
-pub each_parentless : (index : Parentless) → NoRowFails (λ i r. is_row_parentless (is_found_parentless index i) r.parent r) → IsTrue (are_texts index.texts)
-    → IsTrue (are_spans index.first) → IsTrue (are_spots index.spots) → IsTrue (are_told index) → EachParentlessIsFound index
-each_parentless index none texts spans spots begins = record { found = λ i lt. each_row _ none i; texts = texts; spans = spans; spots = spots; begins = begins }
+-- below a row without a further one no answer is wider
+pub none_below : (parent : ℕ) (way : below.Below) → FindsBelow parent way → way ≡ Nothing → IsWidest (Some parent)
+none_below parent way finds is b bytes k d low lt w =
+    let all : FindsBelow parent Nothing = subst (FindsBelow parent) is finds in (all b bytes k).1 (read_at (Some parent) b k d lt w)
+
+-- the entries of a span, which stand near in the lists
+abbrev pub entries_near : List Entry → List ℕ → ℕ → List Entry
+entries_near entries starts = entries_by (near entries) (element_by (near starts))
+
+pub each_parentless : (index : Parentless)
+    → NoRowFails (λ i r. is_row_parentless (is_found_parentless (entries_near index.entries.now index.starts.now) index.spots.now index.texts i) r.parent r)
+    → IsTrue (are_texts index.texts) → EachParentlessIsFound index
+each_parentless index none texts =
+    let same : entries_near index.entries.now index.starts.now ≡ entries_at index = ap₂ entries_by (near_is index.entries.now) (element_is index.starts.now) in
+    record {
+      found = λ i lt. each_row _ (subst (λ entries. NoRowFails (λ i r. is_row_parentless (is_found_parentless entries index.spots.now index.texts i) r.parent r)) same none) i;
+      texts = texts;
+    }
 
 pub each_told : (told : Told) → NoRowFails (λ i r. is_row_parentless (is_told told i) r.parent r) → IsTrue (are_rooted told.roots.now)
     → IsTrue (are_keyed told.keys.now) → EachIsTold told
@@ -575,23 +578,6 @@ key_starts b key rest is = elim (key_first key rest b is) [
   | inl first ↦ let (some, begins) = dark_starts 0x7B b first in (some, elim begins [ inl space ↦ inl space | inr e ↦ inr (inr (inl e)) ])
   | inr first ↦ let (some, begins) = dark_starts 0xEF b first in (some, elim begins [ inl space ↦ inl space | inr e ↦ inr (inr (inr e)) ])
 ]
-
--- a byte with which one begins has the mark of these
-pub told_marked : (index : Parentless) (b : List ℕ) → IsTrue (are_told index) → MayBeTold b → IsTrue (has_mark index.spots.marks.now index.told (slice_index b 0))
-told_marked index b h (some, starts) = elim starts [
-  | inl (inl e) ↦ marked 0x09 e refl
-  | inl (inr (inl e)) ↦ marked 0x0A e refl
-  | inl (inr (inr (inl e))) ↦ marked 0x0D e refl
-  | inl (inr (inr (inr e))) ↦ marked 0x20 e refl
-  | inr (inl e) ↦ marked 0x3C e refl
-  | inr (inr (inl e)) ↦ marked 0x7B e refl
-  | inr (inr (inr e)) ↦ marked 0xEF e refl
-]
-  where
-    marked : (x : ℕ) → slice_index b 0 ≡ x → IsTrue (list_any (λ y. x == y) (0x09 ∷ 0x0A ∷ 0x0D ∷ 0x20 ∷ 0x3C ∷ 0x7B ∷ 0xEF ∷ [])) → IsTrue (has_mark index.spots.marks.now index.told (slice_index b 0))
-    marked x e listed =
-        subst (λ y. IsTrue (has_mark index.spots.marks.now index.told y)) (sym e)
-        (all_of_listed (has_mark index.spots.marks.now index.told) x (0x09 ∷ 0x0A ∷ 0x0D ∷ 0x20 ∷ 0x3C ∷ 0x7B ∷ 0xEF ∷ []) h listed)
 
 -- what none begins has none
 pub none_told : (told : Told) (b : List ℕ) → Leads → (¬ MayBeTold b) → (i : ℕ) → ¬ IsTold told b i

@@ -1,13 +1,10 @@
 -- The least of the rows that are found.
-use Rattle.std.proofs.lemmas.Bool.{le-leb, ltb-true, or_cases, or_left, or_right}
-use Rattle.infer_more.proofs.Common.{◌≡◌, ℕ, zero, suc, ◌+◌, ◌<◌, ◌≤◌, Bool, true, false, IsTrue, List, [], ◌∷◌, ◌++◌, Option, None, Some, length, take, drop, get_or, and_from, eq-eqb, ◌⊎◌, inl, inr, ap, sym, ◌∙◌, subst, arith, refl, append_assoc, ◌==◌, if◌then◌else◌, min, cases_lt, eqb-true, leb-true, get_or_default, list_all, nat_le, nat_lt, ◌&&◌, IsFirstOf, is_listed, IsLeast, IsRowOf, IsTried, ascends, candidate, candidates, has_byte, Further, further, Widens, WidensAt, FURTHER_COUNT}
-use Rattle.std.specs.Prelude.{slice_get}
+use Rattle.std.proofs.lemmas.Bool.{or_cases, or_left, or_right}
+use Rattle.infer_more.proofs.Common.{◌≡◌, ℕ, zero, suc, ◌+◌, ◌<◌, ◌≤◌, Bool, true, false, IsTrue, List, [], ◌∷◌, ◌++◌, Option, None, Some, length, take, drop, take-append-drop, get_or, ◌⊎◌, inl, inr, ap, sym, ◌∙◌, subst, arith, refl, append_assoc, ◌==◌, if◌then◌else◌, min, cases_lt, eqb-true, leb-true, get_or_default, list_all, nat_le, IsFirstOf, is_listed, IsLeast, IsRowOf, IsTried, ascends, Further, further, Widens, WidensAt, FURTHER_COUNT, candidate, candidates, has_byte}
 use Rattle.std.proofs.Math.Nat.{min-le_left, min-le_right}
 use Rattle.std.proofs.lemmas.List.{append-nil, take_all}
-use Rattle.infer_more.specs.Index.{all_of, all_seen, are_spots, entry_row, has_marked, is_far, is_late, seen, spotted}
+use Rattle.infer_more.specs.Index.{all_of}
 use Rattle.infer_more.specs.declared.index.Entry.{Entry}
-use Rattle.infer_more.specs.declared.index.Spot.{Spot}
-use Rattle.infer_more.specs.declared.index.Spots.{Spots}
 use Rattle.infer_more.proofs.IndexLemmas.{both_left, both_right, listed_left, listed_right}
 use Rattle.infer_more.proofs.TableLemmas.{length-further}
 
@@ -69,125 +66,9 @@ module _ (parent : Option ℕ) (b : List ℕ) where
   ]
   only_row false row i (listed, w) = absurd (cc)
 
-  -- of rows that stand behind what some buffers lack
-  only_behind : (on : Bool) (rows : List ℕ) (i : ℕ) → IsTried parent b (if on then rows else []) i → IsTrue on × IsTried parent b rows i
-  only_behind true rows i is = (refl, is)
-  only_behind false rows i (listed, w) = absurd (cc)
-
-  -- of entries whose rows are none before that number
-  late_entries : (from : ℕ) (entries : List Entry) → IsTrue (list_all (λ e. nat_le from e.row) entries) → (i : ℕ) → IsTried parent b (candidates b entries) i → from ≤ i
-  late_entries from [] all i (listed, w) = absurd (cc)
-  late_entries from (x ∷ xs) all i (listed, w) = elim (in_either (candidate b x) (candidates b xs) i listed) [
-    | inl l ↦
-        let (on, e) = only_row (has_byte b x.place x.byte) x.row i (l, w) in
-        let le : from ≤ x.row = leb-true from x.row (both_left (nat_le from x.row) _ all) in
-        omega arith
-    | inr r ↦ late_entries from xs (both_right (nat_le from x.row) _ all) i (r, w)
-  ]
-
-  pub tried_late : (entries : List Entry) (before : ℕ) → IsTrue (list_all (λ e. nat_le before e.row) entries) → IsLeast (IsTried parent b (candidates b entries)) before before
-  tried_late entries before all = least_late _ before (late_entries before entries all)
-
-  -- of entries whose rows ascend, by the first
-  later_all : (before row : ℕ) (xs : List Entry) → before ≤ row → IsTrue (list_all (λ f. nat_le row (entry_row f)) xs) → IsTrue (list_all (λ e. nat_le before e.row) xs)
-  later_all before row [] le h = refl
-  later_all before row (x ∷ xs) le h =
-      let after : row ≤ x.row = leb-true row x.row (both_left (nat_le row x.row) _ h) in
-      and_from (nat_le before x.row) _ (le-leb before x.row (omega arith)) (later_all before row xs le (both_right (nat_le row x.row) _ h))
-
-  all_late : (before : ℕ) (x : Entry) (xs : List Entry) → IsTrue (nat_le before x.row) → IsTrue (ascends entry_row (x ∷ xs))
-      → IsTrue (list_all (λ e. nat_le before e.row) (x ∷ xs))
-  all_late before x xs first h =
-      and_from (nat_le before x.row) _ first
-      (later_all before x.row xs (leb-true before x.row first) (both_left (list_all (λ f. nat_le (entry_row x) (entry_row f)) xs) _ h))
-
-  pub first_late : (before : ℕ) (entries : List Entry) (first : Entry) → Some first ≡ slice_get entries 0 → IsTrue (nat_le before first.row)
-      → IsTrue (ascends entry_row entries) → IsTrue (list_all (λ e. nat_le before e.row) entries)
-  first_late before [] first e late h = refl
-  first_late before (x ∷ xs) first e late h =
-      let same : first ≡ x = cc in all_late before x xs (subst (λ (y : Entry). IsTrue (nat_le before y.row)) same late) h
-
-  -- of spots with such entries
-  pub late_spots : (marks : List ℕ) (from : ℕ) (spots : List Spot) → IsTrue (list_all (is_late from) spots) → (i : ℕ) → IsTried parent b (all_seen marks b spots) i → from ≤ i
-  late_spots marks from [] all i (listed, w) = absurd (cc)
-  late_spots marks from (s ∷ spots) all i (listed, w) = elim (in_either (seen marks b s) (all_seen marks b spots) i listed) [
-    | inl l ↦ late_entries from s.entries.now (both_left (is_late from s) _ all) i (only_behind (has_marked marks b s) (candidates b s.entries.now) i (l, w)).1
-    | inr r ↦ late_spots marks from spots (both_right (is_late from s) _ all) i (r, w)
-  ]
-
-  pub spots_late : (s : Spots) (before : ℕ) → IsTrue (are_spots s) → before ≤ s.from → IsLeast (IsTried parent b (spotted b s)) before before
-  spots_late s before are le =
-      let late = both_left (list_all (is_late s.from) s.near.now && list_all (is_late s.from) s.far.now) _ are in
-      least_late _ before (λ i (listed, w). elim (in_either (all_seen s.marks.now b s.near.now) (all_seen s.marks.now b s.far.now) i listed) [
-        | inl l ↦
-            let least : s.from ≤ i = late_spots s.marks.now s.from s.near.now (both_left (list_all (is_late s.from) s.near.now) _ late) i (l, w) in
-            omega arith
-        | inr r ↦
-            let least : s.from ≤ i = late_spots s.marks.now s.from s.far.now (both_right (list_all (is_late s.from) s.near.now) _ late) i (r, w) in
-            omega arith
-      ])
-
-  -- of spots that the buffer is too short for
-  none_far : (marks : List ℕ) (beyond : ℕ) (spots : List Spot) → length b ≤ beyond → IsTrue (list_all (is_far beyond) spots) → (i : ℕ) → ¬ IsTried parent b (all_seen marks b spots) i
-  none_far marks beyond [] short all i (listed, w) = absurd (cc)
-  none_far marks beyond (s ∷ spots) short all i (listed, w) = elim (in_either (seen marks b s) (all_seen marks b spots) i listed) [
-    | inl l ↦
-        let on = (only_behind (has_marked marks b s) (candidates b s.entries.now) i (l, w)).0 in
-        let within : s.place < length b = ltb-true s.place (length b) (both_left (nat_lt s.place (length b)) _ on) in
-        let far : beyond ≤ s.place = leb-true beyond s.place (both_left (is_far beyond s) _ all) in
-        omega arith
-    | inr r ↦ none_far marks beyond spots short (both_right (is_far beyond s) _ all) i (r, w)
-  ]
-
-  pub tried_short : (marks : List ℕ) (beyond : ℕ) (spots : List Spot) (before : ℕ) → length b ≤ beyond → IsTrue (list_all (is_far beyond) spots)
-      → IsLeast (IsTried parent b (all_seen marks b spots)) before before
-  tried_short marks beyond spots before short all = least_none _ before (none_far marks beyond spots short all)
-
-  -- behind a byte that the buffer has or lacks
-  pub tried_behind : (on : Bool) (rows : List ℕ) (before after : ℕ) → on ≡ true → IsLeast (IsTried parent b rows) before after
-      → IsLeast (IsTried parent b (if on then rows else [])) before after
-  tried_behind on rows before after holds h = subst (λ t. IsLeast (IsTried parent b (if t then rows else [])) before after) (sym holds) h
-
-  pub tried_shut : (on : Bool) (rows : List ℕ) (before : ℕ) → on ≡ false → IsLeast (IsTried parent b (if on then rows else [])) before before
-  tried_shut on rows before off = subst (λ t. IsLeast (IsTried parent b (if t then rows else [])) before before) (sym off) (tried_none before)
-
-  -- of the rows of entries that hit
-  abbrev pub Hits : Entry → Type 0
-  Hits e = IsTrue (has_byte b e.place e.byte) × WidensAt parent b e.row
-
-  to_rows : (entries : List Entry) (i : ℕ) → IsTried parent b (candidates b entries) i → IsRowOf entry_row Hits entries i
-  to_rows [] i (listed, w) = absurd (cc)
-  to_rows (x ∷ xs) i (listed, w) = elim (in_either (candidate b x) (candidates b xs) i listed) [
-    | inl l ↦ let (on, e) = only_row (has_byte b x.place x.byte) x.row i (l, w) in inl (e, (on, subst (WidensAt parent b) (sym e) w))
-    | inr r ↦ inr (to_rows xs i (r, w))
-  ]
-
-  from_rows : (entries : List Entry) (i : ℕ) → IsRowOf entry_row Hits entries i → IsTried parent b (candidates b entries) i
-  from_rows [] i h = absurd (h)
-  from_rows (x ∷ xs) i (inl (e, (on, w))) =
-      let here : IsTrue (is_listed (candidate b x) i) = subst (λ t. IsTrue (is_listed (if t then x.row ∷ [] else []) i)) (sym on) (or_left (x.row == i) false (eq-eqb x.row i e)) in
-      (listed_left (candidate b x) (candidates b xs) i here, subst (WidensAt parent b) e w)
-  from_rows (x ∷ xs) i (inr h) = let (listed, w) = from_rows xs i h in (listed_right (candidate b x) (candidates b xs) i listed, w)
-
-  pub tried_rows : (entries : List Entry) (o p : ℕ) → IsLeast (IsRowOf entry_row Hits entries) o p → IsLeast (IsTried parent b (candidates b entries)) o p
-  tried_rows entries o p h = least_same _ _ o p (from_rows entries) (to_rows entries) h
-
-  pub rows_tried : (entries : List Entry) (o p : ℕ) → IsLeast (IsTried parent b (candidates b entries)) o p → IsLeast (IsRowOf entry_row Hits entries) o p
-  rows_tried entries o p h = least_same _ _ o p (to_rows entries) (from_rows entries) h
-
-  pub missed : (x : Entry) (on : Bool) → on ≡ has_byte b x.place x.byte → on ≡ false → ¬ Hits x
-  missed x on same off hit = absurd (let no : false ≡ true = sym off ∙ (same ∙ hit.0) in cc)
-
-  pub unwidened : (x : Entry) (row : ℕ) (is : Bool) → row ≡ x.row → (WidensAt parent b row → IsTrue is) → is ≡ false → ¬ Hits x
-  unwidened x row is same tells off hit = absurd (let no : false ≡ true = sym off ∙ tells (subst (WidensAt parent b) (sym same) hit.1) in cc)
-
-  -- of the first half none is less
-  pub none_less : (rows : List ℕ) (before after : ℕ) → before ≤ after → IsLeast (IsTried parent b rows) before after → IsLeast (IsTried parent b rows) before before
-  none_less rows before after le h = let low : after ≤ before = h.below in least_late _ before (λ i is. let least : after ≤ i = h.least i is in omega arith)
-
   -- one more element
   module _ {A : Type 0} (f : A → List ℕ) where
-    all_more : (xs : List A) (k : ℕ) (d : A) → k < length xs → all_of f (take k xs) ++ f (get_or xs k d) ≡ all_of f (take (k + 1) xs)
+    pub all_more : (xs : List A) (k : ℕ) (d : A) → k < length xs → all_of f (take k xs) ++ f (get_or xs k d) ≡ all_of f (take (k + 1) xs)
     all_more [] k d lt = absurd (omega arith)
     all_more (x ∷ xs) zero d lt = sym (append-nil (f x))
     all_more (x ∷ xs) (suc k) d lt =
@@ -201,8 +82,27 @@ module _ (parent : Option ℕ) (b : List ℕ) where
     pub tried_all : (xs : List A) (n o p : ℕ) → length xs ≤ n → IsLeast (IsTried parent b (all_of f (take n xs))) o p → IsLeast (IsTried parent b (all_of f xs)) o p
     tried_all xs n o p le h = subst (λ l. IsLeast (IsTried parent b (all_of f l)) o p) (take_all n xs le) h
 
+    all_joined : (xs ys : List A) → all_of f (xs ++ ys) ≡ all_of f xs ++ all_of f ys
+    all_joined [] ys = refl
+    all_joined (x ∷ xs) ys = ap (λ l. f x ++ l) (all_joined xs ys) ∙ sym (append_assoc (f x) (all_of f xs) (all_of f ys))
+
+    -- of a list in two parts
+    pub tried_parts : (xs : List A) (n o p q : ℕ) → IsLeast (IsTried parent b (all_of f (take n xs))) o p
+        → IsLeast (IsTried parent b (all_of f (drop n xs))) p q → IsLeast (IsTried parent b (all_of f xs)) o q
+    tried_parts xs n o p q h k =
+        let whole : all_of f (take n xs) ++ all_of f (drop n xs) ≡ all_of f xs = sym (all_joined (take n xs) (drop n xs)) ∙ ap (all_of f) (take-append-drop n xs) in
+        subst (λ l. IsLeast (IsTried parent b l) o q) whole (tried_more _ _ o p q h k)
+
+  -- an entry whose byte the buffer lacks adds none
+  pub none_tried_more : (entries : List Entry) (k : ℕ) (d : Entry) → k < length entries → candidates b (take k entries) ≡ []
+      → has_byte b (get_or entries k d).place (get_or entries k d).byte ≡ false → candidates b (take (k + 1) entries) ≡ []
+  none_tried_more entries k d lt none off =
+      let e = get_or entries k d in
+      let here : candidate b e ≡ [] = ap (λ t. if t then e.row ∷ [] else []) off in
+      sym (all_more (candidate b) entries k d lt) ∙ (ap (λ l. l ++ candidate b e) none ∙ here)
+
   -- the first row is found, or there is none
-  read_at : (k : ℕ) (d : Further) → k < length further → Widens parent b (get_or further k d) → WidensAt parent b k
+  pub read_at : (k : ℕ) (d : Further) → k < length further → Widens parent b (get_or further k d) → WidensAt parent b k
   read_at k d lt w = (lt, λ e. subst (Widens parent b) (get_or_default further k d e lt) w)
 
   pub first_found : (i : ℕ) → IsLeast (WidensAt parent b) FURTHER_COUNT i → i < FURTHER_COUNT → IsFirstOf (Widens parent b) further (Some i)
@@ -220,34 +120,6 @@ module _ (parent : Option ℕ) (b : List ℕ) where
       let many = length-further in
       let le : i ≤ k = h.least k (read_at k d lt w) in
       omega arith
-
-module _ {A : Type 0} (row : A → ℕ) where
-  -- of one half of a list whose rows ascend, and of the other
-  front_all : (P : A → Bool) (xs : List A) (n : ℕ) → IsTrue (list_all P xs) → IsTrue (list_all P (take n xs))
-  front_all P [] zero h = refl
-  front_all P [] (suc n) h = refl
-  front_all P (x ∷ xs) zero h = refl
-  front_all P (x ∷ xs) (suc n) h = and_from (P x) _ (both_left (P x) _ h) (front_all P xs n (both_right (P x) _ h))
-
-  back_all : (P : A → Bool) (xs : List A) (n : ℕ) → IsTrue (list_all P xs) → IsTrue (list_all P (drop n xs))
-  back_all P [] zero h = refl
-  back_all P [] (suc n) h = refl
-  back_all P (x ∷ xs) zero h = h
-  back_all P (x ∷ xs) (suc n) h = back_all P xs n (both_right (P x) _ h)
-
-  pub front_ascends : (xs : List A) (n : ℕ) → IsTrue (ascends row xs) → IsTrue (ascends row (take n xs))
-  front_ascends [] zero h = refl
-  front_ascends [] (suc n) h = refl
-  front_ascends (x ∷ xs) zero h = refl
-  front_ascends (x ∷ xs) (suc n) h =
-      let test = λ (f : A). nat_le (row x) (row f) in
-      and_from (list_all test (take n xs)) _ (front_all test xs n (both_left (list_all test xs) _ h)) (front_ascends xs n (both_right (list_all test xs) _ h))
-
-  pub back_ascends : (xs : List A) (n : ℕ) → IsTrue (ascends row xs) → IsTrue (ascends row (drop n xs))
-  back_ascends [] zero h = refl
-  back_ascends [] (suc n) h = refl
-  back_ascends (x ∷ xs) zero h = h
-  back_ascends (x ∷ xs) (suc n) h = back_ascends xs n (both_right (list_all (λ f. nat_le (row x) (row f)) xs) _ h)
 
 -- the first of entries whose rows ascend that has Q
 module _ {A : Type 0} (row : A → ℕ) (Q : A → Type 0) where
@@ -270,19 +142,6 @@ module _ {A : Type 0} (row : A → ℕ) (Q : A → Type 0) where
   least_listed (y ∷ ys) (suc j) e i l all no_earlier (inr is) =
       least_listed ys j e i (omega arith) (both_right (list_all (λ f. nat_le (row y) (row f)) ys) _ all) (λ m less. no_earlier (suc m) (omega arith)) is
 
-  -- none of the first k has Q, and the next stands late, or has it
-  pub rows_late : (xs : List A) (k : ℕ) (d : A) (before : ℕ) → k < length xs → IsTrue (ascends row xs) → ((j : ℕ) → j < k → ¬ Q (get_or xs j d)) → before ≤ row (get_or xs k d)
-      → IsLeast (IsRowOf row Q xs) before before
-  rows_late xs k d before lt up none late = least_late (IsRowOf row Q xs) before (λ i is. let le = least_listed xs k d i lt up none is in omega arith)
-
-  pub rows_here : (xs : List A) (k : ℕ) (d : A) (before : ℕ) → k < length xs → IsTrue (ascends row xs) → ((j : ℕ) → j < k → ¬ Q (get_or xs j d)) → row (get_or xs k d) < before
-      → Q (get_or xs k d) → IsLeast (IsRowOf row Q xs) before (row (get_or xs k d))
-  rows_here xs k d before lt up none less here = record {
-    below = omega arith;
-    is = λ l. is_listed_at xs k d lt here;
-    least = λ i is. least_listed xs k d i lt up none is;
-  }
-
   pub rows_first : (xs : List A) (k : ℕ) (d : A) (before : ℕ) → k < length xs → IsTrue (ascends row xs) → ((j : ℕ) → j < k → ¬ Q (get_or xs j d)) → Q (get_or xs k d)
       → IsLeast (IsRowOf row Q xs) before (min before (row (get_or xs k d)))
   rows_first xs k d before lt up none here =
@@ -295,19 +154,6 @@ module _ {A : Type 0} (row : A → ℕ) (Q : A → Type 0) where
     where
       by_min : (m n : ℕ) → min m n < m → n ≡ min m n
       by_min m n less = grind arith
-
-  back_later : (xs : List A) (n l i : ℕ) → IsTrue (ascends row xs) → IsRowOf row Q (take n xs) l → IsRowOf row Q (drop n xs) i → l ≤ i
-  back_later [] zero l i h first last = absurd (first)
-  back_later [] (suc n) l i h first last = absurd (first)
-  back_later (x ∷ xs) zero l i h first last = absurd (first)
-  back_later (x ∷ xs) (suc n) l i h (inl is) last =
-      let le : row x ≤ i = not_earlier (row x) i (drop n xs) (back_all row (λ f. nat_le (row x) (row f)) xs n (both_left (list_all (λ f. nat_le (row x) (row f)) xs) _ h)) last in
-      omega (arith, is.0)
-  back_later (x ∷ xs) (suc n) l i h (inr is) last = back_later xs n l i (both_right (list_all (λ f. nat_le (row x) (row f)) xs) _ h) is last
-
-  -- what one half has, none of the other comes before
-  pub back_late : (xs : List A) (n o p : ℕ) → IsTrue (ascends row xs) → p < o → IsLeast (IsRowOf row Q (take n xs)) o p → IsLeast (IsRowOf row Q (drop n xs)) p p
-  back_late xs n o p h less least = least_late (IsRowOf row Q (drop n xs)) p (λ i is. back_later xs n p i h (least.is less) is)
 
   pub none_more : (xs : List A) (k : ℕ) (e : A) → k < length xs → ((j : ℕ) (d : A) → j < k → ¬ Q (get_or xs j d)) → ¬ Q (get_or xs k e)
       → (j : ℕ) (d : A) → j < k + 1 → ¬ Q (get_or xs j d)

@@ -9,9 +9,9 @@ pub mod NamedLemmas
 pub mod IndexLemmas
 pub mod FitLemmas
 pub mod OutlineLemmas
+pub mod ParentlessLemmas
 pub mod PieceLemmas
 pub mod LeastLemmas
-pub mod HalvesLemmas
 pub mod FoundLemmas
 pub mod TableLemmas
 pub mod ShownLemmas

@@ -1,8 +1,7 @@
 -- Which further rows are tried or told, and that these are all that can widen an answer.
 use Rattle.std.specs.Prelude.{◌≡◌, ◌⊎◌, ◌↔◌, ◌+◌, ◌-◌, ◌/◌, ◌%◌, ◌<◌, ◌≤◌, ◌==◌, ◌&&◌, ◌||◌, ℕ, suc, Bool, not, true, false, All, IsTrue, List, [], ◌∷◌, ◌++◌, Option, None, Some, if◌then◌else◌, length, nat_le, nat_lt, slice_get, slice_index}
-use Rattle.std.specs.List.{list_all, list_any, range_with_len, slice_range}
+use Rattle.std.specs.List.{list_all, list_any, range_with_len}
 use Rattle.std.specs.Option.{option_map_or}
-use Rattle.std.specs.Int.Bits.{bit_and}
 use denote.Ref.{Bor}
 use Rattle.infer_deep.specs.ClassId.{HasClassId}
 use Rattle.infer_formats.specs.FirstKey.{HasValue, IsFirstKey, has_no_quote}
@@ -17,6 +16,7 @@ use Rattle.infer_sig.specs.Signature.{at_least, any_of, between, all_but, Part, 
 use Rattle.infer.specs.Buffer.{IsBuffer}
 use Rattle.infer.specs.Walks.{is_listed}
 use Rattle.infer_more.specs.Outline.{lines}
+use Rattle.infer_more.specs.Listed.{stretch}
 use Rattle.infer_more.specs.Row.{Further}
 use Rattle.infer_formats.specs.Relation as relation
 use Rattle.infer_formats.specs.Relation.{class_id, directory_tag, directory_tag_and_make, first_key, first_key_with, json_lines, json_text, package_with, plain_text, program, root, root_with}
@@ -24,36 +24,19 @@ use Rattle.infer_notation.specs.Alternative.{Alternative, related}
 use Rattle.infer_more.specs.Table.{further}
 use Rattle.infer_more.specs.Wider.{WidensAt}
 use Rattle.infer_more.specs.declared.index.Below as below
-use Rattle.infer_more.specs.declared.index.Begun.{Begun}
 use Rattle.infer_more.specs.declared.index.Below.TheVariants.{ClassIds, Entries, Nothing, Packages, Programs, Roots, Tagged}
 use Rattle.infer_more.specs.declared.index.Entry.{Entry}
-use Rattle.infer_more.specs.declared.index.Except.{Except}
-use Rattle.infer_more.specs.declared.index.Gate.{Gate}
-use Rattle.infer_more.specs.declared.index.Guard.{Guard}
 use Rattle.infer_more.specs.declared.index.Keyed.{Keyed}
 use Rattle.infer_more.specs.declared.index.Named.{Named}
 use Rattle.infer_more.specs.declared.index.Parentless.{Parentless}
-use Rattle.infer_more.specs.declared.index.Range.{Range}
 use Rattle.infer_more.specs.declared.index.Rooted.{Rooted}
-use Rattle.infer_more.specs.declared.index.Second.{Second}
-use Rattle.infer_more.specs.declared.index.Span.{Span}
 use Rattle.infer_more.specs.declared.index.Spot.{Spot}
-use Rattle.infer_more.specs.declared.index.Spots.{Spots}
 use Rattle.infer_more.specs.declared.index.Texts.{Texts}
-use Rattle.infer_more.specs.declared.index.Third.{Third}
 use Rattle.infer_more.specs.declared.index.Told.{Told}
 
 -- the buffer has the byte at the place
 abbrev pub has_byte : List ℕ → ℕ → ℕ → Bool
 has_byte b place x = nat_lt place (length b) && slice_index b place == x
-
--- or one from the first to the second
-abbrev pub has_between : List ℕ → ℕ → ℕ → ℕ → Bool
-has_between b place low high = nat_lt place (length b) && allows (between low high) (slice_index b place)
-
--- or another byte
-abbrev pub has_other : List ℕ → ℕ → ℕ → Bool
-has_other b place x = nat_lt place (length b) && allows (all_but x) (slice_index b place)
 
 -- what a function gives for each element, one after the other
 abbrev pub all_of : {A : Type 0} → (A → List ℕ) → List A → List ℕ
@@ -63,7 +46,7 @@ all_of f (x ∷ xs) = f x ++ all_of f xs
 abbrev pub entry_row : Entry → ℕ
 entry_row e = e.row
 
--- the rows of the entries ascend
+-- the rows ascend
 abbrev pub ascends : {A : Type 0} → (A → ℕ) → List A → Bool
 ascends row [] = true
 ascends row (e ∷ entries) = list_all (λ f. nat_le (row e) (row f)) entries && ascends row entries
@@ -75,118 +58,32 @@ candidate b e = if has_byte b e.place e.byte then e.row ∷ [] else []
 abbrev pub candidates : List ℕ → List Entry → List ℕ
 candidates b entries = all_of (candidate b) entries
 
--- the rows of a guard's entries, if the buffer has its byte
-abbrev pub behind : List ℕ → Guard → List ℕ
-behind b g = if has_byte b g.place g.byte then candidates b g.entries.now else []
+-- the entries that stand in span i: from where it begins up to where the next one does
+abbrev pub entries_from : (ℕ → ℕ → List Entry) → Option ℕ → Option ℕ → List Entry
+entries_from entries (Some start) (Some end) = entries start (end - start)
+entries_from entries None end = []
+entries_from entries (Some start) None = []
 
-abbrev pub guarded : List ℕ → List Guard → List ℕ
-guarded b guards = all_of (behind b) guards
+abbrev pub entries_by : (ℕ → ℕ → List Entry) → (ℕ → Option ℕ) → ℕ → List Entry
+entries_by entries start i = entries_from entries (start i) (start (i + 1))
 
--- the rows of a gate's guards, if the buffer has its byte
-abbrev pub gated : List ℕ → Gate → List ℕ
-gated b g = if has_byte b g.place g.byte then guarded b g.guards.now else []
+abbrev pub entries_at : Parentless → ℕ → List Entry
+entries_at index = entries_by (stretch index.entries.now) (slice_get index.starts.now)
 
--- a range's row, if the buffer has one of its bytes
-abbrev pub within : List ℕ → Range → List ℕ
-within b r = if has_between b r.place r.low r.high then r.row ∷ [] else []
+-- those that the buffer's own byte picks at a spot
+abbrev pub picked : Parentless → List ℕ → Spot → List Entry
+picked index b s = if nat_lt s.place (length b) then entries_at index (s.first + slice_index b s.place) else []
 
-abbrev pub ranged : List ℕ → List Range → List ℕ
-ranged b ranges = all_of (within b) ranges
+-- the rows of these that are tried of the buffer, and those of all spots
+abbrev pub tried_at : Parentless → List ℕ → Spot → List ℕ
+tried_at index b s = candidates b (picked index b s)
 
--- the marks of a byte, and that it has some of these
-abbrev pub mark_at : List ℕ → ℕ → ℕ
-mark_at marks x = option_map_or (λ own. own) (slice_get marks x) 0
-
-abbrev pub has_mark : List ℕ → ℕ → ℕ → Bool
-has_mark marks mark x = not (bit_and (mark_at marks x) mark == 0)
-
--- the buffer has a byte at the spot's place that has its mark
-abbrev pub has_marked : List ℕ → List ℕ → Spot → Bool
-has_marked marks b s = nat_lt s.place (length b) && has_mark marks s.mark (slice_index b s.place)
-
--- the rows of a spot's entries, if the buffer has such a byte
-abbrev pub seen : List ℕ → List ℕ → Spot → List ℕ
-seen marks b s = if has_marked marks b s then candidates b s.entries.now else []
-
-abbrev pub all_seen : List ℕ → List ℕ → List Spot → List ℕ
-all_seen marks b spots = all_of (seen marks b) spots
-
--- those of the near spots and of the far ones
-abbrev pub spotted : List ℕ → Spots → List ℕ
-spotted b s = all_seen s.marks.now b s.near.now ++ all_seen s.marks.now b s.far.now
-
--- those of the spots of a zero, if the buffer begins with one
-abbrev pub zeroed : List ℕ → Spots → List ℕ
-zeroed b s = if has_byte b 0 0 then all_seen s.marks.now b s.zeros.now else []
-
--- no entry of the spot has a row before that number
-abbrev pub is_late : ℕ → Spot → Bool
-is_late from s = list_all (λ e. nat_le from e.row) s.entries.now
-
--- the spot is no nearer
-abbrev pub is_far : ℕ → Spot → Bool
-is_far beyond s = nat_le beyond s.place
-
--- no spot has a row before the first, and the far ones are no nearer than said
-abbrev pub are_spots : Spots → Bool
-are_spots s = (list_all (is_late s.from) s.near.now && list_all (is_late s.from) s.far.now) && list_all (is_far s.beyond) s.far.now
-
--- the row of an exception, if the buffer has another byte
-abbrev pub unless : List ℕ → Except → List ℕ
-unless b e = if has_other b e.place e.byte then e.row ∷ [] else []
-
-abbrev pub excepted : List ℕ → List Except → List ℕ
-excepted b excepts = all_of (unless b) excepts
-
--- the entries that stand in span i
-abbrev pub entries_at : Begun → ℕ → List Entry
-entries_at lists i = option_map_or (λ s. slice_range lists.entries.now s.start s.end) (slice_get lists.spans.now i) []
-
--- a span of the entries, whose rows ascend there, and all spans of the lists
-abbrev pub is_span : List Entry → Span → Bool
-is_span entries s = (nat_le s.start s.end && nat_le s.end (length entries)) && ascends entry_row (slice_range entries s.start s.end)
-
-abbrev pub are_spans : Begun → Bool
-are_spans lists = list_all (is_span lists.entries.now) lists.spans.now
-
--- the entries of the bucket of byte y: by its low four bits
-abbrev pub bucket : Begun → Second → ℕ → List Entry
-bucket lists s y = entries_at lists (s.first + y % 16)
-
--- those of the bucket that the buffer's own byte picks
-abbrev pub picked : Begun → Second → List ℕ → List Entry
-picked lists s b = if nat_lt s.place (length b) then bucket lists s (slice_index b s.place) else []
-
--- the rows of those that a third byte picks, if the buffer begins with the first
-abbrev pub third : Begun → List ℕ → Third → List ℕ
-third lists b t = if has_byte b 0 t.byte then candidates b (picked lists t.second b) else []
-
-abbrev pub thirded : Begun → List ℕ → List ℕ
-thirded lists b = all_of (third lists b) lists.thirds.now
+abbrev pub tried_parentless : Parentless → List ℕ → List ℕ
+tried_parentless index b = all_of (tried_at index b) index.spots.now
 
 -- how the rows below built-in row i are told
 abbrev pub below_at : List below.Below → ℕ → below.Below
 below_at ways i = option_map_or (λ way. way) (slice_get ways i) Nothing
-
-module _ (index : Parentless) where
-  -- the entries that are listed by the first byte
-  abbrev pub begun : List ℕ → List Entry
-  begun [] = []
-  begun (x ∷ rest) = entries_at index.first x
-
-  -- the entries that a second byte picks, which the first byte names
-  abbrev pub seconded : List ℕ → List Entry
-  seconded [] = []
-  seconded (x ∷ rest) = option_map_or (λ s. picked index.first s (x ∷ rest)) (slice_get index.first.seconds.now x) []
-
-  -- the rows that bytes elsewhere tell
-  abbrev pub tried_elsewhere : List ℕ → List ℕ
-  tried_elsewhere b =
-      zeroed b index.spots ++ (guarded b index.guards.now ++ (gated b index.gate ++ (ranged b index.ranges.now ++ spotted b index.spots)))
-
-  -- the rows that are tried of a buffer without a built-in answer
-  abbrev pub tried_parentless : List ℕ → List ℕ
-  tried_parentless b = thirded index.first b ++ (candidates b (seconded b) ++ (candidates b (begun b) ++ tried_elsewhere b))
 
 -- `after` is the least of `before` and of the numbers that have P
 pub record IsLeast (P : ℕ → Type 0) (before after : ℕ) : Type 0 where
@@ -277,8 +174,8 @@ IsFoundBelow (Entries entries) parent b i = IsTried (Some parent) b (candidates 
 IsFoundBelow (ClassIds entries ids) parent b i = IsTried (Some parent) b (candidates b entries.now) i ⊎ IsNamed (λ id. HasClassId id b) ids.now i
 IsFoundBelow (Programs entries lists) parent b i = IsTried (Some parent) b (candidates b entries.now) i ⊎ IsOfProgram b lists.now i
 IsFoundBelow (Roots roots) parent b i = IsRooted b roots.now i
-IsFoundBelow (Packages entries excepts folders) parent b i =
-    IsTried (Some parent) b (candidates b entries.now ++ excepted b excepts.now) i ⊎ IsNamed (λ folder. IsPackageWith folder b) folders.now i
+IsFoundBelow (Packages entries folders) parent b i =
+    IsTried (Some parent) b (candidates b entries.now) i ⊎ IsNamed (λ folder. IsPackageWith folder b) folders.now i
 IsFoundBelow (Tagged entries tag other tagged) parent b i =
     IsTried (Some parent) b (candidates b entries.now) i ⊎ ((HasTag tag b ⊎ HasTag other b) × IsTried (Some parent) b (candidates b tagged.now) i)
 
@@ -289,10 +186,6 @@ IsTextRow t b i = ((t.lines ≡ i) × IsJsonLines b) ⊎ ((t.json ≡ i) × IsJs
 -- the first byte is white space, "<", "{" or the first of a byte order mark
 abbrev pub MayBeTold : List ℕ → Type 0
 MayBeTold b = (0 < length b) × (IsXmlSpace (slice_index b 0) ⊎ (slice_index b 0 ≡ 0x3C) ⊎ (slice_index b 0 ≡ 0x7B) ⊎ (slice_index b 0 ≡ 0xEF))
-
--- each byte with which it begins so has one of the marks for that
-abbrev pub are_told : Parentless → Bool
-are_told index = list_all (has_mark index.spots.marks.now index.told) (0x09 ∷ 0x0A ∷ 0x0D ∷ 0x20 ∷ 0x3C ∷ 0x7B ∷ 0xEF ∷ [])
 
 -- row i is found without a built-in answer
 abbrev pub IsFoundParentless : Parentless → Told → List ℕ → ℕ → Type 0
@@ -322,71 +215,13 @@ is_covered i a entries = list_any (λ e. e.row == i && is_tested (has_entry i en
 abbrev pub is_met : ℕ → fixed.Alternative → List Entry → ℕ → ℕ → Bool
 is_met i a entries place x = has_entry i entries place x || is_covered i a entries
 
--- some guard has that byte at the place, and its entries have row i then
-abbrev pub has_guard : ℕ → fixed.Alternative → List Guard → ℕ → ℕ → Bool
-has_guard i a guards place x = list_any (λ g. g.place == place && (g.byte == x && is_met i a g.entries.now place x)) guards
-
--- at some place of the guards the alternative allows only bytes that row i has a guard for
-abbrev pub is_guarded : ℕ → fixed.Alternative → List Guard → Bool
-is_guarded i a guards = list_any (λ g. is_tested (has_guard i a guards g.place) g.place a) guards
-
--- the alternative allows only the gate's byte at its place, and the guards behind it have row i
-abbrev pub is_gated : ℕ → fixed.Alternative → Gate → Bool
-is_gated i a g = is_tested (λ x. x == g.byte) g.place a && is_guarded i a g.guards.now
-
--- the range of row i has all bytes that the alternative allows at its place
-abbrev pub is_within : ℕ → fixed.Alternative → Range → Bool
-is_within i a r = r.row == i && is_tested (allows (between r.low r.high)) r.place a
-
-abbrev pub is_ranged : ℕ → fixed.Alternative → List Range → Bool
-is_ranged i a ranges = list_any (is_within i a) ranges
-
--- the spot's marks have all bytes that the alternative allows at its place, and its entries have row i then
-abbrev pub is_seen : List ℕ → ℕ → fixed.Alternative → Spot → Bool
-is_seen marks i a s = is_tested (has_mark marks s.mark) s.place a && is_covered i a s.entries.now
-
-abbrev pub is_spotted : ℕ → fixed.Alternative → Spots → Bool
-is_spotted i a s = list_any (is_seen s.marks.now i a) s.near.now || list_any (is_seen s.marks.now i a) s.far.now
-
--- the alternative begins with a zero, and the spots of a zero have row i
-abbrev pub is_zeroed : ℕ → fixed.Alternative → Spots → Bool
-is_zeroed i a s = is_tested (λ x. x == 0) 0 a && list_any (is_seen s.marks.now i a) s.zeros.now
-
--- the part asks for another byte than that at the place
-abbrev pub is_other : ℕ → ℕ → Part → Bool
-is_other place x (text p t) = false
-is_other place x (any_text p ts) = false
-is_other place x (byte p (any_of xs)) = false
-is_other place x (byte p (between low high)) = false
-is_other place x (byte p (all_but y)) = p == place && y == x
-
--- some part of the alternative does, and row i has an exception for it
-abbrev pub is_but : ℕ → fixed.Alternative → Except → Bool
-is_but i (at_least n parts) e = e.row == i && list_any (is_other e.place e.byte) parts
-
-abbrev pub is_excepted : ℕ → fixed.Alternative → List Except → Bool
-is_excepted i a excepts = list_any (is_but i a) excepts
-
--- the bucket of each byte that the alternative allows second has row i
-abbrev pub is_picked : ℕ → fixed.Alternative → Begun → Second → Bool
-is_picked i a lists s = is_tested (λ y. is_met i a (bucket lists s y) s.place y) s.place a
-
--- and so by a third byte, for buffers with that first byte
-abbrev pub is_third : Begun → ℕ → fixed.Alternative → ℕ → Third → Bool
-is_third lists i a x t = t.byte == x && is_picked i a lists t.second
-
--- with that first byte row i is listed, by it, by the second byte or by a third
-abbrev pub is_begun : Begun → ℕ → fixed.Alternative → ℕ → Bool
-is_begun lists i a x =
-    is_met i a (entries_at lists x) 0 x
-    || (option_map_or (is_picked i a lists) (slice_get lists.seconds.now x) false || list_any (is_third lists i a x) lists.thirds.now)
+-- what each byte that the alternative allows at the spot picks has row i
+abbrev pub is_picked : (ℕ → List Entry) → ℕ → fixed.Alternative → Spot → Bool
+is_picked entries i a s = is_tested (λ x. is_met i a (entries (s.first + x)) s.place x) s.place a
 
 -- each buffer without a built-in answer that has such bytes has row i among the rows that are tried of it
-abbrev pub is_tried_parentless : Parentless → ℕ → fixed.Alternative → Bool
-is_tried_parentless index i a =
-    is_tested (is_begun index.first i a) 0 a
-    || (is_zeroed i a index.spots
-    || (is_guarded i a index.guards.now || (is_gated i a index.gate || (is_ranged i a index.ranges.now || is_spotted i a index.spots))))
+abbrev pub is_tried_parentless : (ℕ → List Entry) → List Spot → ℕ → fixed.Alternative → Bool
+is_tried_parentless entries spots i a = list_any (is_picked entries i a) spots
 
 -- two texts have the same bytes
 abbrev pub same : List ℕ → List ℕ → Bool
@@ -414,10 +249,6 @@ has_keyed i keys key value = has_no_quote key && list_any (λ e. e.row == i && (
 -- each buffer that fits the alternative has row i among those that the entries try
 abbrev pub is_tried_below : ℕ → List Entry → Alternative → Bool
 is_tried_below i entries a = list_all (λ l. is_covered i l entries) (lines a)
-
--- or the exceptions
-abbrev pub is_tried_in : ℕ → List Entry → List Except → Alternative → Bool
-is_tried_in i entries excepts a = list_all (λ l. is_covered i l entries || is_excepted i l excepts) (lines a)
 
 -- or is told row i by a name
 abbrev pub is_in_programs : ℕ → List (Bor (List Named)) → Alternative → Bool
@@ -454,7 +285,7 @@ is_found_below (Entries entries) i a = is_tried_below i entries.now a
 is_found_below (ClassIds entries ids) i a = is_in_class_ids i ids.now a || is_tried_below i entries.now a
 is_found_below (Programs entries lists) i a = is_in_programs i lists.now a || is_tried_below i entries.now a
 is_found_below (Roots roots) i a = is_in_roots i roots.now a
-is_found_below (Packages entries excepts folders) i a = is_in_folders i folders.now a || is_tried_in i entries.now excepts.now a
+is_found_below (Packages entries folders) i a = is_in_folders i folders.now a || is_tried_below i entries.now a
 is_found_below (Tagged entries tag other tagged) i a = (is_of_tag tag other a && is_tried_below i tagged.now a) || is_tried_below i entries.now a
 
 -- row i is that of the text
@@ -473,8 +304,8 @@ is_of_name (related (first_key_with key v)) = true
 is_of_name other = false
 
 -- it does so, or its row is that of the text, or is tried
-abbrev pub is_found_parentless : Parentless → ℕ → Alternative → Bool
-is_found_parentless index i a = is_of_name a || (is_text_row index.texts i a || list_all (is_tried_parentless index i) (lines a))
+abbrev pub is_found_parentless : (ℕ → List Entry) → List Spot → Texts → ℕ → Alternative → Bool
+is_found_parentless entries spots texts i a = is_of_name a || (is_text_row texts i a || list_all (is_tried_parentless entries spots i) (lines a))
 
 -- it does not, or its row is that of the root, or of the first key
 abbrev pub is_told : Told → ℕ → Alternative → Bool
@@ -563,19 +394,12 @@ are_roots_of parent buckets = list_all (λ some. list_all (λ e. is_row_with par
 abbrev pub is_true_below : ℕ → below.Below → Bool
 is_true_below parent (Entries entries) = ascends entry_row entries.now
 is_true_below parent (ClassIds entries ids) =
-    ascends named_row ids.now
-    && (list_all (λ e. length e.name.now == 16 && is_row_with (Some parent) (asks_class_id e.name.now) e.row) ids.now
-    && ascends entry_row entries.now)
+    ascends named_row ids.now && list_all (λ e. length e.name.now == 16 && is_row_with (Some parent) (asks_class_id e.name.now) e.row) ids.now
 is_true_below parent (Programs entries lists) =
-    all_ascend named_row lists.now
-    && (list_all (λ names. list_all (λ e. is_row_with (Some parent) (asks_program e.name.now) e.row) names.now) lists.now
-    && ascends entry_row entries.now)
+    all_ascend named_row lists.now && list_all (λ names. list_all (λ e. is_row_with (Some parent) (asks_program e.name.now) e.row) names.now) lists.now
 is_true_below parent (Roots roots) = all_ascend rooted_row roots.now && are_roots_of (Some parent) roots.now
-is_true_below parent (Packages entries excepts folders) =
-    ascends named_row folders.now
-    && (list_all (λ e. is_application e.name.now && is_row_with (Some parent) (asks_folder e.name.now) e.row) folders.now
-    && ascends entry_row entries.now)
-is_true_below parent (Tagged entries tag other tagged) = ascends entry_row tagged.now && ascends entry_row entries.now
+is_true_below parent (Packages entries folders) =
+    ascends named_row folders.now && list_all (λ e. is_application e.name.now && is_row_with (Some parent) (asks_folder e.name.now) e.row) folders.now
 is_true_below parent other = true
 
 -- and so below each row from that one on
@@ -608,11 +432,8 @@ pub record AreWaysBelow (apart : List ℕ) (ways : List below.Below) : Type 0 wh
 
 -- each row without a parent is told by a name or found otherwise
 pub record EachParentlessIsFound (index : Parentless) : Type 0 where
-  pub found : (i : ℕ) → i < length further → IsTrue (is_row_parentless_found (is_found_parentless index) i)
+  pub found : (i : ℕ) → i < length further → IsTrue (is_row_parentless_found (is_found_parentless (entries_at index) index.spots.now index.texts) i)
   pub texts : IsTrue (are_texts index.texts)
-  pub spans : IsTrue (are_spans index.first)
-  pub spots : IsTrue (are_spots index.spots)
-  pub begins : IsTrue (are_told index)
 
 -- and here just those by a name
 pub record EachIsTold (told : Told) : Type 0 where

@@ -9,7 +9,6 @@ pub mod Text
 pub mod Entries
 pub mod Added
 pub mod Outline
-pub mod Parents
 pub mod Index
 pub mod Laws
 pub mod Open

@@ -12,8 +12,8 @@ ghost use Rattle.infer_more.specs.Table.{further};
 ghost use Rattle.infer_more.specs.Wider.{AcceptsAt, IsWidened, IsWider, IsWiderAnswer, parent_at, shown};
 ghost use Rattle.infer_more.specs.declared.index.generated.TheConstants.{FURTHER_COUNT};
 
-use crate::index::asked::found_parentless;
-use crate::index::{FURTHER_COUNT, found_below};
+use crate::index::FURTHER_COUNT;
+use crate::index::search::{found, found_parentless};
 use crate::listed::{EndedTexts, FurtherRow, alternatives_of, ended_at, row_at};
 use crate::{listed, signature};
 use infer::Type;
@@ -25,7 +25,7 @@ fn widened(parent: Option<usize>, buf: &[u8]) -> Option<usize>
     ensures { IsWidened parent buf.now result }
 {
     match parent {
-        Some(row) => Some(found_below(buf, row)),
+        Some(row) => Some(found(row, buf)),
         None => found_parentless(buf),
     }
 }

@@ -137,7 +137,7 @@ static NO_RELATION: Relation<'static> = Relation::PlainText;
 
 /// What stands in a list at a span, as far as the list goes.
 #[inline(always)]
-fn stretch<T>(list: &[T], span: Span) -> &[T]
+pub(crate) fn stretch<T>(list: &[T], span: Span) -> &[T]
     ensures { result.now ≡ stretch list.now span.start span.count }
 {
     let Some(rest) = list.get(span.start as usize..) else {

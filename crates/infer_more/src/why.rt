@@ -17,7 +17,7 @@ ghost use Rattle.infer_more.specs.declared.index.generated.TheConstants.{FURTHER
 ghost use Rattle.infer_more.specs.declared.listed.Alternative.TheVariants as listed;
 
 use crate::decided::is_stable;
-use crate::index::{Below, Entry, FURTHER_COUNT, is_parent, way_below};
+use crate::index::{Below, Entry, FURTHER_COUNT, way_below};
 use crate::listed::{
     Alternative, Bytes, FurtherRow, Piece, alternatives_of, asked, pieces_of, relation_at, row_at,
 };
@@ -402,7 +402,10 @@ fn may_widen(parent: Option<usize>) -> bool
     ensures { result ≡ false → IsWidest parent }
 {
     match parent {
-        Some(row) => is_parent(row),
+        Some(row) => match way_below(row) {
+            Below::Nothing => false,
+            _ => true,
+        },
         None => true,
     }
 }

@@ -1,7 +1,0 @@
--- the least of the rows so far
-use Rattle.infer_more.proofs.Common.{None, take, IsLeast, IsTried}
-use Rattle.infer_more.specs.Index.{all_seen}
-use Rattle.infer_more.proofs.index.asked.least_all_seen.Given as goal
-
-abbrev pub invariant-loop-spot : goal.invariant-loop-spot
-invariant-loop-spot l = IsLeast (IsTried None l.buf (all_seen l.marks l.buf (take l.spot-index l.spots))) l.fn.before l.least

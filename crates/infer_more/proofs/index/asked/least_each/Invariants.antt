@@ -1,6 +1,0 @@
--- the least of the rows so far
-use Rattle.infer_more.proofs.Common.{None, take, IsLeast, IsTried, candidates}
-use Rattle.infer_more.proofs.index.asked.least_each.Given as goal
-
-abbrev pub invariant-loop-entry : goal.invariant-loop-entry
-invariant-loop-entry l = IsLeast (IsTried None l.buf (candidates l.buf (take l.entry-index l.entries))) l.fn.before l.least

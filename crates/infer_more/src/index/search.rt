@@ -1,0 +1,604 @@
+//! What the index asks of a buffer: the least row that widens its answer.
+ghost use Rattle.std.specs.Prelude.{◌≡◌, ◌↔◌, ◌⊎◌, [], IsTrue, None, Some, false};
+ghost use Rattle.std.specs.Option.{option_map_or};
+ghost use Rattle.infer_deep.specs.ClassId.{HasClassId};
+ghost use Rattle.infer_deep.specs.Find.{OccursAt};
+ghost use Rattle.infer_formats.specs.FirstKey.{StandsFirst};
+ghost use Rattle.infer_formats.specs.Json.{IsBlank, IsJson, IsJsonLines};
+ghost use Rattle.infer_formats.specs.Tiff.{HasTag};
+ghost use Rattle.infer_formats.specs.Zip.{IsPackageWith};
+ghost use Rattle.infer_more.specs.Index.{AllApplications, AreClassIds, HasKeyValue, HasTagText, IsFoundBelow, IsKeyed, IsKeyedBy, IsLeast, IsNamed, IsOfProgram, IsRooted, IsRootedBy, IsTextRow, IsTold, IsTried, MayBeTold, all_ascend, all_of, are_texts, ascends, below_at, bucket_at, bucket_of, candidate, candidates, has_byte, is_true_below, keyed_row, named_row, picked, rooted_row, roots_of, tried_at};
+ghost use Rattle.infer_more.specs.Listed.{stretch};
+ghost use Rattle.infer_more.specs.Wider.{IsWidened, WidensAt};
+ghost use Rattle.infer_more.specs.declared.index.generated.TheConstants.{FURTHER_COUNT};
+
+use crate::index::{
+    Below, Entry, FURTHER_COUNT, Keyed, Named, Parentless, Rooted, Spot, Texts, Told,
+    law_finds_parentless, told_without_parent, way_below, without_parent,
+};
+use crate::listed::{self, stretch};
+use crate::table::widens;
+use infer::rows::ROW_COUNT;
+use infer_deep::doc::class_id;
+use infer_deep::places::stands_at;
+use infer_formats::json::{Key, Kind, first_dark, first_key, kind_of};
+use infer_formats::markup::{Root, may_be_rooted, root_of};
+use infer_formats::script::program;
+use infer_formats::text::is_text;
+use infer_formats::tiff::first_directory_has_either;
+use infer_formats::zip::package_folder;
+
+/// How many buckets of names there are.
+const BUCKETS: usize = 32;
+
+/// How many buckets of roots there are.
+const ROOT_BUCKETS: usize = 32;
+
+/// How rows past the last are told.
+static NOTHING: Below = Below::Nothing;
+
+/// Whether the buffer has the byte at the place.
+#[inline(always)]
+fn has_byte(buf: &[u8], place: u32, byte: u8) -> bool
+    ensures { result ≡ has_byte buf.now place byte }
+{
+    match buf.get(place as usize) {
+        Some(found) => *found == byte,
+        None => false,
+    }
+}
+
+/// The entry's row if it is before that number, is tried and widens the answer; that number otherwise.
+#[inline(always)]
+fn least_at(entry: &Entry, parent: Option<usize>, buf: &[u8], before: usize) -> usize
+    ensures { IsLeast (IsTried parent buf.now (candidate buf.now entry.now)) before result }
+{
+    let row = usize::from(entry.row);
+    if !has_byte(buf, entry.place, entry.byte) {
+        return before;
+    }
+    if row >= before {
+        return before;
+    }
+    if !widens(row, parent, buf) {
+        return before;
+    }
+    row
+}
+
+/// The least of the number before and of the rows of these entries that widen the answer.
+#[inline(always)]
+fn least_each(entries: &[Entry], parent: Option<usize>, buf: &[u8], before: usize) -> usize
+    ensures { IsLeast (IsTried parent buf.now (candidates buf.now entries.now)) before result }
+{
+    let mut least = before;
+    for entry in entries {
+        least = least_at(entry, parent, buf, least);
+    }
+    least
+}
+
+/// Where the entries stand that the buffer's own byte picks at the spot, if it picks some.
+#[inline(always)]
+fn span_picked(index: &Parentless, spot: &Spot, buf: &[u8]) -> Option<listed::Span>
+    ensures { option_map_or (λ s. stretch index.now.entries.now s.start s.count) result []
+        ≡ picked index.now buf.now spot.now }
+{
+    let byte = buf.get(spot.place as usize)?;
+    let i = usize::from(spot.first) + usize::from(*byte);
+    let start = *index.starts.get(i)?;
+    let end = *index.starts.get(i + 1)?;
+    if end <= start {
+        return None;
+    }
+    Some(listed::Span {
+        start: u32::from(start),
+        count: u32::from(end - start),
+    })
+}
+
+/// Whether the buffer has the byte of one of the entries.
+#[inline(always)]
+fn is_one_tried(entries: &[Entry], buf: &[u8]) -> bool
+    ensures { result ≡ false → candidates buf.now entries.now ≡ [] }
+{
+    for entry in entries {
+        if has_byte(buf, entry.place, entry.byte) {
+            return true;
+        }
+    }
+    false
+}
+
+/// [`least_each`] of rows without a parent. It is not inlined, since of few buffers a row is tried.
+#[inline(never)]
+fn least_tried(entries: &[Entry], buf: &[u8], before: usize) -> usize
+    ensures { IsLeast (IsTried None buf.now (candidates buf.now entries.now)) before result }
+{
+    least_each(entries, None, buf, before)
+}
+
+/// The least of the number before and of the rows of these entries that widen the answer. It is not inlined, since few spots of
+/// a buffer pick an entry.
+#[inline(never)]
+fn least_of_span(entries: &[Entry], span: listed::Span, buf: &[u8], before: usize) -> usize
+    ensures { IsLeast (IsTried None buf.now
+        (candidates buf.now (stretch entries.now span.start span.count))) before result }
+{
+    let entries = stretch(entries, span);
+    if !is_one_tried(entries, buf) {
+        return before;
+    }
+    least_tried(entries, buf, before)
+}
+
+/// The least of the number before and of the rows that are picked at the spot and widen the answer.
+#[inline(always)]
+fn least_picked(index: &Parentless, spot: &Spot, buf: &[u8], before: usize) -> usize
+    ensures { IsLeast (IsTried None buf.now (tried_at index.now buf.now spot.now)) before result }
+{
+    match span_picked(index, spot, buf) {
+        Some(span) => least_of_span(index.entries, span, buf, before),
+        None => before,
+    }
+}
+
+/// The least of the number before and of the rows that are picked at these spots and widen the answer.
+#[inline(always)]
+fn least_spotted(index: &Parentless, spots: &[Spot], buf: &[u8], before: usize) -> usize
+    ensures { IsLeast (IsTried None buf.now (all_of (tried_at index.now buf.now) spots.now))
+        before result }
+{
+    let mut least = before;
+    for spot in spots {
+        least = least_picked(index, spot, buf, least);
+    }
+    least
+}
+
+/// [`least_spotted`] half by half: with few spots at a time their places stand in the code, and no loop is left.
+#[inline(always)]
+fn least_in_halves(index: &Parentless, spots: &[Spot], buf: &[u8], before: usize) -> usize
+    ensures { IsLeast (IsTried None buf.now (all_of (tried_at index.now buf.now) spots.now))
+        before result }
+{
+    let (first, last) = spots.split_at(spots.len() / 2);
+    let least = least_spotted(index, first, buf, before);
+    least_spotted(index, last, buf, least)
+}
+
+/// [`least_in_halves`] of either half.
+#[inline(always)]
+fn least_in_quarters(index: &Parentless, spots: &[Spot], buf: &[u8], before: usize) -> usize
+    ensures { IsLeast (IsTried None buf.now (all_of (tried_at index.now buf.now) spots.now))
+        before result }
+{
+    let (first, last) = spots.split_at(spots.len() / 2);
+    let least = least_in_halves(index, first, buf, before);
+    least_in_halves(index, last, buf, least)
+}
+
+/// The row of the text that the buffer is, or the number before if that is less or it is none.
+#[inline(always)]
+fn least_text(texts: &Texts, buf: &[u8], before: usize) -> usize
+    requires { IsTrue (are_texts texts.now) }
+    ensures { IsLeast (IsTextRow texts.now buf.now) before result }
+{
+    match kind_of(buf) {
+        Some(Kind::Lines) => before.min(usize::from(texts.lines)),
+        Some(Kind::Text) => before.min(usize::from(texts.json)),
+        None => least_plain(texts, buf, before),
+    }
+}
+
+/// The row of plain text if the buffer is that, or the number before if that is less or it is none.
+#[inline(always)]
+fn least_plain(texts: &Texts, buf: &[u8], before: usize) -> usize
+    requires json { ¬ IsJson buf.now }
+    requires lines { ¬ IsJsonLines buf.now }
+    ensures { IsLeast (IsTextRow texts.now buf.now) before result }
+{
+    if is_text(buf) {
+        before.min(usize::from(texts.plain))
+    } else {
+        before
+    }
+}
+
+/// Whether the first byte is one with which markup or an object may begin: a no is certain.
+#[inline(always)]
+fn may_be_told(buf: &[u8]) -> bool
+    ensures { MayBeTold buf.now → IsTrue result }
+{
+    match buf.first() {
+        Some(byte) => matches!(byte, b'\t' | b'\n' | b'\r' | b' ' | b'<' | b'{' | 0xEF),
+        None => false,
+    }
+}
+
+/// The least of the number before and of the rows that are told by the root of markup, or by the first key of an object.
+#[inline(always)]
+fn least_told(told: &Told, buf: &[u8], before: usize) -> usize
+    requires roots { IsTrue (all_ascend rooted_row told.now.roots.now) }
+    requires keys { IsTrue (ascends keyed_row told.now.keys.now) }
+    ensures { IsLeast (IsTold told.now buf.now) before result }
+{
+    infer_formats::laws::leads();
+    if !may_be_told(buf) {
+        return before;
+    }
+    // Markup mostly begins so.
+    if has_byte(buf, 0, b'<') {
+        return least_begun_markup(told.roots, buf, before);
+    }
+    least_told_apart(told, buf, before)
+}
+
+/// [`least_told`] by the first byte behind white space. A function of its own, so that few buffers take what it needs.
+#[inline(never)]
+fn least_told_apart(told: &Told, buf: &[u8], before: usize) -> usize
+    requires roots { IsTrue (all_ascend rooted_row told.now.roots.now) }
+    requires keys { IsTrue (ascends keyed_row told.now.keys.now) }
+    ensures { IsLeast (IsTold told.now buf.now) before result }
+{
+    infer_formats::laws::leads();
+    match first_dark(buf) {
+        Some(dark) => least_behind(dark, told, buf, before),
+        None => before,
+    }
+}
+
+/// [`least_told`] of a buffer with this byte behind white space.
+#[inline(always)]
+fn least_behind(dark: u8, told: &Told, buf: &[u8], before: usize) -> usize
+    requires roots { IsTrue (all_ascend rooted_row told.now.roots.now) }
+    requires keys { IsTrue (ascends keyed_row told.now.keys.now) }
+    requires first { (¬ IsBlank dark) × StandsFirst dark buf.now }
+    ensures { IsLeast (IsTold told.now buf.now) before result }
+{
+    let rooted = least_markup(dark, told.roots, buf, before);
+    least_object(dark, told.keys, buf, rooted)
+}
+
+/// [`least_root`] of a buffer with this byte behind white space, which need not be markup.
+#[inline(always)]
+fn least_markup(dark: u8, roots: &'static [&'static [Rooted]], buf: &[u8], before: usize) -> usize
+    requires ascend { IsTrue (all_ascend rooted_row roots.now) }
+    requires first { (¬ IsBlank dark) × StandsFirst dark buf.now }
+    ensures { IsLeast (IsRooted buf.now roots.now) before result }
+{
+    infer_formats::laws::leads();
+    if dark != b'<' && dark != 0xEF {
+        return before;
+    }
+    least_begun_markup(roots, buf, before)
+}
+
+/// [`least_key`] of a buffer with this byte behind white space, which need not be an object.
+#[inline(always)]
+fn least_object(dark: u8, keys: &[Keyed], buf: &[u8], before: usize) -> usize
+    requires ascend { IsTrue (ascends keyed_row keys.now) }
+    requires first { (¬ IsBlank dark) × StandsFirst dark buf.now }
+    ensures { IsLeast (IsKeyed buf.now keys.now) before result }
+{
+    if dark != b'{' && dark != 0xEF {
+        return before;
+    }
+    least_key(keys, buf, before)
+}
+
+/// The least of the number before and of the rows with the first key of the object that begins the buffer.
+#[inline(never)]
+fn least_key(keys: &[Keyed], buf: &[u8], before: usize) -> usize
+    requires { IsTrue (ascends keyed_row keys.now) }
+    ensures { IsLeast (IsKeyed buf.now keys.now) before result }
+{
+    match first_key(buf) {
+        Some(key) => least_keyed(keys, &key, before),
+        None => before,
+    }
+}
+
+/// Whether the key is the row's, and its value too.
+#[inline(always)]
+fn is_keyed(keyed: &Keyed, key: &Key<'_>) -> bool
+    ensures { IsTrue result ↔ (keyed.now.key.now ≡ key.now.text.now)
+        × HasKeyValue key.now.rest.now keyed.now.value }
+{
+    if key.text != keyed.key {
+        return false;
+    }
+    match keyed.value {
+        Some(value) => key.has_value(value),
+        None => true,
+    }
+}
+
+/// The least of the number before and of the rows with this key, which is that of the first.
+fn least_keyed(keys: &[Keyed], key: &Key<'_>, before: usize) -> usize
+    requires { IsTrue (ascends keyed_row keys.now) }
+    ensures { IsLeast (IsKeyedBy key.now.text.now key.now.rest.now keys.now) before result }
+{
+    for keyed in keys {
+        if is_keyed(keyed, key) {
+            return before.min(usize::from(keyed.row));
+        }
+    }
+    before
+}
+
+/// [`least_root`] of a buffer whose first tag may be no tag. A function of its own, so that few buffers take what it needs.
+#[inline(never)]
+fn least_begun_markup(roots: &'static [&'static [Rooted]], buf: &[u8], before: usize) -> usize
+    requires { IsTrue (all_ascend rooted_row roots.now) }
+    ensures { IsLeast (IsRooted buf.now roots.now) before result }
+{
+    infer_formats::laws::leads();
+    if !may_be_rooted(buf) {
+        return before;
+    }
+    least_root_apart(roots, buf, before)
+}
+
+/// [`least_root`] as a function of its own, so that a buffer whose first tag is none takes nothing of what it needs.
+#[inline(never)]
+fn least_root_apart(roots: &'static [&'static [Rooted]], buf: &[u8], before: usize) -> usize
+    requires { IsTrue (all_ascend rooted_row roots.now) }
+    ensures { IsLeast (IsRooted buf.now roots.now) before result }
+{
+    least_root(roots, buf, before)
+}
+
+/// The least row that widens an answer below which there is none, or their count.
+fn least_parentless(buf: &[u8]) -> usize
+    ensures { IsLeast (WidensAt None buf.now) FURTHER_COUNT result }
+{
+    let (index, told) = (without_parent(), told_without_parent());
+    law_finds_parentless(&index, told);
+    let tried = least_in_quarters(&index, index.spots, buf, FURTHER_COUNT);
+    let least = least_told(told, buf, tried);
+    if least <= usize::from(index.texts.lines) {
+        return least;
+    }
+    least_text(&index.texts, buf, least)
+}
+
+fn is_named(named: &Named, name: &[u8]) -> bool
+    ensures { IsTrue result ↔ (named.now.name.now ≡ name.now) }
+{
+    named.name == name
+}
+
+/// The least of the number before and of the rows with this name, which is that of the first.
+fn least_named(names: &[Named], name: &[u8], before: usize) -> usize
+    requires { IsTrue (ascends named_row names.now) }
+    ensures { IsLeast (IsNamed (λ other. other ≡ name.now) names.now) before result }
+{
+    for named in names {
+        if is_named(named, name) {
+            return before.min(usize::from(named.row));
+        }
+    }
+    before
+}
+
+/// The bucket of a name, by the low five bits of its first byte: the only one in which the name can be.
+#[inline(always)]
+fn bucket_of(buckets: &'static [&'static [Named]], name: &[u8]) -> &'static [Named]
+    ensures { result.now ≡ bucket_of buckets.now name.now }
+{
+    match name.first() {
+        Some(first) => bucket_at(buckets, usize::from(*first) % BUCKETS),
+        None => &[],
+    }
+}
+
+/// The bucket of that number, and an empty one past the last.
+#[inline(always)]
+fn bucket_at(buckets: &'static [&'static [Named]], i: usize) -> &'static [Named]
+    ensures { result.now ≡ bucket_at buckets.now i }
+{
+    match buckets.get(i) {
+        Some(names) => names,
+        None => &[],
+    }
+}
+
+/// The least of the number before and of the rows with the name of the script's program.
+fn least_program(buckets: &'static [&'static [Named]], buf: &[u8], before: usize) -> usize
+    requires { IsTrue (all_ascend named_row buckets.now) }
+    ensures { IsLeast (IsOfProgram buf.now buckets.now) before result }
+{
+    match program(buf) {
+        Some(name) => least_named(bucket_of(buckets, name), name, before),
+        None => before,
+    }
+}
+
+/// The least of the number before and of the rows with the class id of the compound file.
+#[inline(always)]
+fn least_class(ids: &[Named], buf: &[u8], before: usize) -> usize
+    requires long { AreClassIds ids.now }
+    requires ascend { IsTrue (ascends named_row ids.now) }
+    ensures { IsLeast (IsNamed (λ id. HasClassId id buf.now) ids.now) before result }
+{
+    match class_id(buf) {
+        Some(id) => least_named(ids, id, before),
+        None => before,
+    }
+}
+
+/// The least of the number before and of the rows whose folder stands at the place, which is that of the first.
+fn least_folder_at(folders: &[Named], buf: &[u8], place: usize, before: usize) -> usize
+    requires { IsTrue (ascends named_row folders.now) }
+    ensures { IsLeast (IsNamed (λ folder. OccursAt buf.now folder place) folders.now) before
+        result }
+{
+    for named in folders {
+        if stands_at(buf, named.name, place) {
+            return before.min(usize::from(named.row));
+        }
+    }
+    before
+}
+
+/// The least of the number before and of the rows whose folder of an application the package has.
+#[inline(always)]
+fn least_folder(folders: &[Named], buf: &[u8], before: usize) -> usize
+    requires application { AllApplications folders.now }
+    requires ascend { IsTrue (ascends named_row folders.now) }
+    ensures { IsLeast (IsNamed (λ folder. IsPackageWith folder buf.now) folders.now) before result }
+{
+    match package_folder(buf) {
+        Some(place) => least_folder_at(folders, buf, place, before),
+        None => before,
+    }
+}
+
+/// Whether the root element has the row's name, and its text in the tag.
+#[inline(always)]
+fn is_rooted(rooted: &Rooted, root: &Root<'_>) -> bool
+    ensures { IsTrue result ↔ (rooted.now.name.now ≡ root.now.name.now)
+        × HasTagText root.now.rest.now rooted.now.text }
+{
+    if root.name != rooted.name {
+        return false;
+    }
+    match rooted.text {
+        Some(text) => root.has_in_tag(text),
+        None => true,
+    }
+}
+
+/// The least of the number before and of the rows with this root, which is that of the first.
+#[inline(always)]
+fn least_rooted(roots: &[Rooted], root: &Root<'_>, before: usize) -> usize
+    requires { IsTrue (ascends rooted_row roots.now) }
+    ensures { IsLeast (IsRootedBy root.now.name.now root.now.rest.now roots.now) before result }
+{
+    for rooted in roots {
+        if is_rooted(rooted, root) {
+            return before.min(usize::from(rooted.row));
+        }
+    }
+    before
+}
+
+/// The bucket of the name of a root, by five bits of its first byte, of which one tells small letters from others.
+#[inline(always)]
+fn roots_of(buckets: &'static [&'static [Rooted]], name: &[u8]) -> &'static [Rooted]
+    ensures { result.now ≡ roots_of buckets.now name.now }
+{
+    match name.first() {
+        Some(first) => roots_at(buckets, usize::from(*first) / 2 % ROOT_BUCKETS),
+        None => &[],
+    }
+}
+
+/// The bucket of that number, and an empty one past the last.
+#[inline(always)]
+fn roots_at(buckets: &'static [&'static [Rooted]], i: usize) -> &'static [Rooted]
+    ensures { result.now ≡ bucket_at buckets.now i }
+{
+    match buckets.get(i) {
+        Some(roots) => roots,
+        None => &[],
+    }
+}
+
+/// The least of the number before and of the rows with the buffer's root.
+#[inline(always)]
+fn least_root(roots: &'static [&'static [Rooted]], buf: &[u8], before: usize) -> usize
+    requires { IsTrue (all_ascend rooted_row roots.now) }
+    ensures { IsLeast (IsRooted buf.now roots.now) before result }
+{
+    match root_of(buf) {
+        Some(root) => least_rooted(roots_of(roots, root.name), &root, before),
+        None => before,
+    }
+}
+
+/// [`least_each`] of entries that are tried only if the first directory of a TIFF file has one of the tags.
+#[inline(always)]
+fn least_tagged(
+    tag: u16,
+    other: u16,
+    entries: &[Entry],
+    parent: Option<usize>,
+    buf: &[u8],
+    before: usize,
+) -> usize
+    ensures { IsLeast (λ i. (HasTag tag buf.now ⊎ HasTag other buf.now)
+        × IsTried parent buf.now (candidates buf.now entries.now) i) before result }
+{
+    if !first_directory_has_either(buf, tag, other) {
+        return before;
+    }
+    least_each(entries, parent, buf, before)
+}
+
+/// The least row that is found below a built-in row in this way, or their count.
+#[inline(always)]
+fn least_found(below: &Below, row: usize, buf: &[u8]) -> usize
+    requires { IsTrue (is_true_below row below.now) }
+    ensures { IsLeast (IsFoundBelow below.now row buf.now) FURTHER_COUNT result }
+{
+    match below {
+        Below::Nothing => FURTHER_COUNT,
+        Below::Entries(entries) => least_each(entries, Some(row), buf, FURTHER_COUNT),
+        Below::ClassIds(entries, ids) => {
+            let tried = least_each(entries, Some(row), buf, FURTHER_COUNT);
+            least_class(ids, buf, tried)
+        }
+        Below::Programs(entries, buckets) => {
+            let tried = least_each(entries, Some(row), buf, FURTHER_COUNT);
+            least_program(buckets, buf, tried)
+        }
+        Below::Roots(roots) => least_root(roots, buf, FURTHER_COUNT),
+        Below::Packages(entries, folders) => {
+            let tried = least_each(entries, Some(row), buf, FURTHER_COUNT);
+            least_folder(folders, buf, tried)
+        }
+        Below::Tagged(entries, tag, other, tagged) => {
+            let tried = least_each(entries, Some(row), buf, FURTHER_COUNT);
+            least_tagged(*tag, *other, tagged, Some(row), buf, tried)
+        }
+    }
+}
+
+/// How the rows below this built-in row are told.
+#[inline(always)]
+pub(super) fn below_at(ways: &'static [Below], i: usize) -> &'static Below
+    ensures { result.now ≡ below_at ways.now i }
+{
+    match ways.get(i) {
+        Some(below) => below,
+        None => &NOTHING,
+    }
+}
+
+/// The number of the wider answer of a buffer whose built-in answer is this row.
+#[inline(never)]
+pub(crate) fn found(row: usize, buf: &[u8]) -> usize
+    ensures { IsWidened (Some row) buf.now (Some result) }
+{
+    let least = least_found(way_below(row), row, buf);
+    if least < FURTHER_COUNT {
+        ROW_COUNT + least
+    } else {
+        row
+    }
+}
+
+/// The number of the wider answer of a buffer that no built-in row accepts.
+#[inline(always)]
+pub(crate) fn found_parentless(buf: &[u8]) -> Option<usize>
+    ensures { IsWidened None buf.now result }
+{
+    let least = least_parentless(buf);
+    if least < FURTHER_COUNT {
+        Some(ROW_COUNT + least)
+    } else {
+        None
+    }
+}
