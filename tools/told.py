@@ -172,7 +172,7 @@ def fault_texts():
 @kept
 def said():
     """What the programs say of an input, after its name, but for types."""
-    written = re.findall(r'writeln!\(\w+, "\{\w+\}: ([a-z ]+)"\)', text_of("crates/infer_tool/src/report.rt") + text_of("crates/infer_tool/src/sample.rt"))
+    written = re.findall(r'writeln!\([\w.]+, "\{\w+\}: ([a-z ]+)"\)', text_of("crates/infer_tool/src/report.rt") + text_of("crates/infer_tool/src/sample.rt"))
     without_type = re.findall(r'\{ b"([a-z]+)" \}', text_of("crates/infer_label/src/line.rt"))
     return fault_texts() | set(written) | set(without_type)
 

@@ -5,11 +5,11 @@ use Rattle.std.specs.Bool.{OnFalse}
 use Rattle.std.specs.Io.KnownBytes.{Appends, Keeps}
 use Rattle.std.specs.Option.{is_none, option_and_then}
 use Rattle.infer_lines.specs.Outcome.{outcome_after, worse_of}
-use Rattle.infer_lines.specs.Said.{Refuses, RefusesBy, Says, SaysThrough, Saying, Stream, stream, unless_failed}
-use Rattle.infer_lines.specs.Writer.{has_failed, inner}
+use Rattle.infer_lines.specs.Said.{Refuses, RefusesBy, Says, SaysThrough, Saying, unless_failed}
+use Rattle.infer_lines.specs.Writer.{IsAfter, has_failed, inner}
 use Rattle.infer_lines.specs.declared.outcome.Outcome.{Outcome}
 use Rattle.infer_lines.specs.declared.outcome.Outcome.TheVariants.{Failed}
-use Rattle.infer_lines.specs.declared.writer.WatchedWriter.{WatchedWriter}
+use Rattle.infer_lines.specs.declared.writer.Output.{Output}
 
 pub keeps_itself : (bytes : Option (List ℕ)) → Keeps bytes bytes
 keeps_itself None = tt
@@ -64,59 +64,53 @@ later_moved failed true remembers old new = tt
 later_moved false false remembers old new = moved_itself old new
 later_moved true false remembers old new = absurd (let e = remembers refl in cc)
 
--- the worst so far is the outcome as long as the writer has not failed
-pub worse_unless_failed : (before after : Bool) → (IsTrue before → IsTrue after) → (so_far earlier result outcome : Outcome)
-    → (before ≡ false → so_far ≡ earlier) → result ≡ outcome_after after outcome → after ≡ false → worse_of so_far result ≡ worse_of earlier outcome
-worse_unless_failed before true remembers so_far earlier result outcome same is not_failed = absurd (cc)
-worse_unless_failed true false remembers so_far earlier result outcome same is not_failed = absurd (let e = remembers refl in cc)
-worse_unless_failed false false remembers so_far earlier result outcome same is not_failed = ap₂ worse_of (same refl) is
+-- the worst of two outcomes is that of what they are after a failure
+pub worse_after : (before after : Bool) → (IsTrue before → IsTrue after) → (so_far earlier result outcome : Outcome)
+    → outcome_after before so_far ≡ outcome_after before earlier → result ≡ outcome_after after outcome
+    → outcome_after after (worse_of so_far result) ≡ outcome_after after (worse_of earlier outcome)
+worse_after before true remembers so_far earlier result outcome same is = refl
+worse_after true false remembers so_far earlier result outcome same is = absurd (let e = remembers refl in cc)
+worse_after false false remembers so_far earlier result outcome same is = ap₂ worse_of same is
 
 -- a run that has not ended as `Failed` has a writer that has not
-pub unfailed : (failed : Bool) (result outcome : Outcome) → result ≢ Failed → result ≡ outcome_after failed outcome → failed ≡ false
+unfailed : (failed : Bool) (result outcome : Outcome) → result ≢ Failed → result ≡ outcome_after failed outcome → (failed ≡ false) × (outcome ≡ result)
 unfailed true result outcome fine is = absurd (fine is)
-unfailed false result outcome fine is = refl
-
-pub unfailed_outcome : (failed : Bool) (result outcome : Outcome) → result ≢ Failed → result ≡ outcome_after failed outcome → outcome ≡ result
-unfailed_outcome true result outcome fine is = absurd (fine is)
-unfailed_outcome false result outcome fine is = sym is
-
--- what a run that has not failed said through watched writers is said of the writers below them
-pub said_plainly : (Said : Saying) (lines faults : Stream) (result : Outcome) (old new err_old err_new : Option (List ℕ)) → lines.old ≡ old → lines.new ≡ new
-    → faults.old ≡ err_old → faults.new ≡ err_new → faults.failed ≡ false → Says lines faults result Said → result ≢ Failed → Said result old new err_old err_new
-said_plainly Said lines faults result old new eo en is_old is_new is_eo is_en quiet (outcome, is, said) fine =
-    let going = unfailed lines.failed result outcome fine is in
-    let same = unfailed_outcome lines.failed result outcome fine is in
-    let known : Said result lines.old lines.new faults.old faults.new =
-    subst (λ o. Said o lines.old lines.new faults.old faults.new) same
-    (subst (λ b. Said outcome (unless_failed b lines.old) lines.new faults.old faults.new) going
-    (subst (λ b. Said outcome (unless_failed lines.failed lines.old) lines.new (unless_failed b faults.old) faults.new) quiet said)) in
-    subst (λ x. Said result old new eo x) is_en (subst (λ x. Said result old new x faults.new) is_eo
-    (subst (λ x. Said result old x faults.old faults.new) is_new (subst (λ x. Said result x lines.new faults.old faults.new) is_old known)))
+unfailed false result outcome fine is = (refl, sym is)
 
 pub refuses_moves : (refusal : List ℕ) → Moves (Refuses refusal)
 refuses_moves refusal o old new eo en before after eb ea m e (is, kept, told) =
     (is, keeps-moved old new before after m kept, appends-moved eo en eb ea refusal e told)
 
--- a line that refuses wrong words is said
-module _ {W : Type 0} (contents : W → Option (List ℕ)) where
-  failed_is_failed : (failed : Bool) → Failed ≡ outcome_after failed Failed
-  failed_is_failed true = refl
-  failed_is_failed false = refl
+-- a refusal is `Failed` whether or not a writer has failed, and its line is told of one that has not
+failed_is_failed : (failed : Bool) → Failed ≡ outcome_after failed Failed
+failed_is_failed true = refl
+failed_is_failed false = refl
 
-  appends_told : (failed : Bool) (old new : Option (List ℕ)) (refusal : List ℕ) → OnFalse failed (Appends old new refusal)
-      → Appends (unless_failed failed old) new refusal
-  appends_told true old new refusal told = tt
-  appends_told false old new refusal told = told
+appends_told : (failed : Bool) (old new : Option (List ℕ)) (refusal : List ℕ) → OnFalse failed (Appends old new refusal)
+    → Appends (unless_failed failed old) new refusal
+appends_told true old new refusal told = tt
+appends_told false old new refusal told = told
 
-  pub refused_is_said : (old new : WatchedWriter W) (faults : Stream) (result : Outcome) (refusal : List ℕ)
-      → RefusesBy old new faults result refusal → Says (stream contents old new) faults result (Refuses refusal)
-  refused_is_said old new faults result refusal (is, same, told) = (
+module _ {W E : Type 0} (contents : W → Option (List ℕ)) (err_contents : E → Option (List ℕ)) (old new : Output W E) (result : Outcome) where
+  -- what a run that has not failed said through an output is said of the writers below it
+  pub said_plainly : (out out_after : W) (err err_after : E) → inner old.out ≡ out → inner new.out ≡ out_after → inner old.err ≡ err → inner new.err ≡ err_after
+      → has_failed old.err ≡ false → IsAfter old new result → (Said : Saying) → Says contents err_contents old new result Said
+      → result ≢ Failed → Said result (contents out) (contents out_after) (err_contents err) (err_contents err_after)
+  said_plainly out out_after err err_after o oa e ea fresh after Said (outcome, is, said) fine =
+      let (going, same) = unfailed (has_failed new.out) result outcome fine is in
+      let quiet : has_failed new.err ≡ false = ap has_failed (after.2 fine) ∙ fresh in
+      rw (going, quiet, same, o, oa, e, ea) at said
+
+  -- a line that refuses wrong words is said
+  pub refused_is_said : (refusal : List ℕ) → RefusesBy err_contents old new result refusal → Says contents err_contents old new result (Refuses refusal)
+  refused_is_said refusal (is, same, told) = (
     Failed,
-    is ∙ failed_is_failed (has_failed new),
+    is ∙ failed_is_failed (has_failed new.out),
     (
       refl,
-      subst (λ w. Keeps (unless_failed (has_failed new) (contents (inner old))) (contents (inner w))) (sym same) (keeps_unless_failed (has_failed new) (contents (inner old))),
-      appends_told faults.failed faults.old faults.new refusal told,
+      subst (λ w. Keeps (unless_failed (has_failed new.out) (contents (inner old.out))) (contents (inner w))) (sym same)
+          (keeps_unless_failed (has_failed new.out) (contents (inner old.out))),
+      appends_told (has_failed new.err) (err_contents (inner old.err)) (err_contents (inner new.err)) refusal told,
     ),
   )
 
@@ -134,23 +128,21 @@ module _ {W : Type 0} (contents : W → Option (List ℕ)) (out : W) where
   moved_below (Some w) true first last kept left lost = absurd (let e = lost refl in cc)
   moved_below (Some w) false first last kept left lost = moved_over (contents out) first last (contents w) kept left
 
-pub same_outcome : {W : Type 0} (given : Option W) (failed : Bool) (result outcome : Outcome) → (failed ≡ true → given ≡ None)
+same_outcome : {W : Type 0} (given : Option W) (failed : Bool) (result outcome : Outcome) → (failed ≡ true → given ≡ None)
     → result ≡ outcome_after failed outcome → outcome_after (is_none given) result ≡ outcome_after (is_none given) outcome
 same_outcome None failed result outcome lost is = refl
 same_outcome (Some w) true result outcome lost is = absurd (let e = lost refl in cc)
 same_outcome (Some w) false result outcome lost is = is
 
-module _ (Said : Saying) (moves : Moves Said) {W E : Type 0} (contents : W → Option (List ℕ)) (err_contents : E → Option (List ℕ)) (out : W) (err : E) where
-  -- what is said of two buffers is said of what they were made over, if they gave it back
-  pub said_through : (given : Option W) (err_given : Option E) (failed err_failed : Bool) (first last err_first err_last : Option (List ℕ)) (result done : Outcome)
-      → done ≡ outcome_after (is_none given) result
-      → Keeps (contents out) first → IfSome given (λ w. Keeps last (contents w)) → (failed ≡ true → given ≡ None)
-      → Keeps (err_contents err) err_first → IfSome err_given (λ e. Keeps err_last (err_contents e)) → (err_failed ≡ true → err_given ≡ None)
-      → (outcome : Outcome) × (result ≡ outcome_after failed outcome) × Said outcome (unless_failed failed first) last (unless_failed err_failed err_first) err_last
-      → SaysThrough contents err_contents out err (done, (given, err_given)) Said
-  said_through given err_given failed err_failed first last err_first err_last result done is kept left lost err_kept err_left err_lost (outcome, same, said) = (
-    outcome,
-    is ∙ same_outcome given failed result outcome lost same,
-    moves outcome _ _ _ _ _ _ _ _ (moved_below contents out given failed first last kept left lost)
-        (moved_below err_contents err err_given err_failed err_first err_last err_kept err_left err_lost) said,
-  )
+-- what is said of two buffers is said of what they were made over, if they gave it back
+pub said_through : {W E B C : Type 0} (contents : W → Option (List ℕ)) (err_contents : E → Option (List ℕ)) (held : B → Option (List ℕ)) (err_held : C → Option (List ℕ))
+    (out : W) (err : E) (old new : Output B C) (result : Outcome) (done : Outcome × (Option W × Option E)) → done.0 ≡ outcome_after (is_none done.1.0) result
+    → Keeps (contents out) (held (inner old.out)) → IfSome done.1.0 (λ w. Keeps (held (inner new.out)) (contents w)) → (has_failed new.out ≡ true → done.1.0 ≡ None)
+    → Keeps (err_contents err) (err_held (inner old.err)) → IfSome done.1.1 (λ e. Keeps (err_held (inner new.err)) (err_contents e)) → (has_failed new.err ≡ true → done.1.1 ≡ None)
+    → (Said : Saying) → Moves Said → Says held err_held old new result Said → SaysThrough contents err_contents out err done Said
+said_through contents err_contents held err_held out err old new result done is kept left lost err_kept err_left err_lost Said moves (outcome, same, said) = (
+  outcome,
+  is ∙ same_outcome done.1.0 (has_failed new.out) result outcome lost same,
+  moves outcome _ _ _ _ _ _ _ _ (moved_below contents out done.1.0 (has_failed new.out) (held (inner old.out)) (held (inner new.out)) kept left lost)
+      (moved_below err_contents err done.1.1 (has_failed new.err) (err_held (inner old.err)) (err_held (inner new.err)) err_kept err_left err_lost) said,
+)

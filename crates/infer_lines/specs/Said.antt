@@ -7,6 +7,7 @@ use Rattle.infer_lines.specs.Outcome.{outcome_after}
 use Rattle.infer_lines.specs.Writer.{has_failed, inner}
 use Rattle.infer_lines.specs.declared.outcome.Outcome.{Outcome}
 use Rattle.infer_lines.specs.declared.outcome.Outcome.TheVariants.{Failed}
+use Rattle.infer_lines.specs.declared.writer.Output.{Output}
 use Rattle.infer_lines.specs.declared.writer.WatchedWriter.{WatchedWriter}
 
 -- nothing is said of the bytes of a writer that has failed
@@ -14,33 +15,26 @@ abbrev pub unless_failed : Bool → Option (List ℕ) → Option (List ℕ)
 unless_failed true bytes = None
 unless_failed false bytes = bytes
 
--- a watched writer before and after: whether it has failed by then, and what is known of its bytes
-pub record Stream : Type 0 where
-  pub failed : Bool
-  pub old : Option (List ℕ)
-  pub new : Option (List ℕ)
-
-abbrev pub stream : {W : Type 0} → (contents : W → Option (List ℕ)) → (old new : WatchedWriter W) → Stream
-stream contents old new = record { failed = has_failed new; old = contents (inner old); new = contents (inner new) }
-
 -- what is known of the bytes of a writer grew by exactly a line, unless the writer has failed
-abbrev pub Tells : Stream → List ℕ → Type 0
-Tells w told_line = OnFalse w.failed (Appends w.old w.new told_line)
+abbrev pub Tells : {W : Type 0} (contents : W → Option (List ℕ)) (old new : WatchedWriter W) → List ℕ → Type 0
+Tells contents old new told_line = OnFalse (has_failed new) (Appends (contents (inner old)) (contents (inner new)) told_line)
 
 -- what a run says: its outcome, and the bytes of the writers of lines and of faults, before and after
 abbrev pub Saying : Type 1
 Saying = Outcome → (old new err_old err_new : Option (List ℕ)) → Type 0
 
--- this is said through two watched writers. Of the bytes of one that has failed nothing is said; what is said of the
--- other stands. The outcome is `Failed` if the writer of lines has failed.
-abbrev pub Says : (lines faults : Stream) → Outcome → Saying → Type 0
-Says lines faults result Said =
-    (outcome : Outcome) × (result ≡ outcome_after lines.failed outcome)
-    × Said outcome (unless_failed lines.failed lines.old) lines.new (unless_failed faults.failed faults.old) faults.new
+-- this is said through an output. Of the bytes of a writer that has failed nothing is said; what is said of the other
+-- stands. The outcome is `Failed` if the writer of lines has failed.
+abbrev pub Says : {W E : Type 0} (contents : W → Option (List ℕ)) (err_contents : E → Option (List ℕ)) (old new : Output W E)
+    → Outcome → Saying → Type 0
+Says contents err_contents old new result Said =
+    (outcome : Outcome) × (result ≡ outcome_after (has_failed new.out) outcome)
+    × Said outcome (unless_failed (has_failed new.out) (contents (inner old.out))) (contents (inner new.out))
+    (unless_failed (has_failed new.err) (err_contents (inner old.err))) (err_contents (inner new.err))
 
 -- the outcome is `Failed`, the writer of lines is as it was, and the writer of faults was told this line
-abbrev pub RefusesBy : {W : Type 0} (old new : WatchedWriter W) (faults : Stream) → Outcome → List ℕ → Type 0
-RefusesBy old new faults result refusal = (result ≡ Failed) × (new ≡ old) × Tells faults refusal
+abbrev pub RefusesBy : {W E : Type 0} (err_contents : E → Option (List ℕ)) (old new : Output W E) → Outcome → List ℕ → Type 0
+RefusesBy err_contents old new result refusal = (result ≡ Failed) × (new.out ≡ old.out) × Tells err_contents old.err new.err refusal
 
 -- this was said through buffers, which gave their writers back, or none of one that has failed
 abbrev pub SaysThrough : {W E : Type 0} (contents : W → Option (List ℕ)) (err_contents : E → Option (List ℕ))

@@ -14,4 +14,4 @@ pub use faults::text_of;
 pub use halting::HaltingWriter;
 pub use limit::{limit_in, limit_of};
 pub use outcome::Outcome;
-pub use writer::WatchedWriter;
+pub use writer::{Output, WatchedWriter};

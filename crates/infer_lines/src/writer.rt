@@ -1,4 +1,4 @@
-//! A writer that remembers whether it has failed.
+//! A writer that remembers whether it has failed, and the two of a run.
 ghost use Rattle.std.specs.Prelude.{◌≡◌, IfSome, IsTrue, OnErr, OnOk, false};
 ghost use Rattle.std.specs.Bool.{OnFalse};
 ghost use Rattle.std.specs.Io.KnownBytes.{Appends, Keeps};
@@ -76,4 +76,11 @@ impl<'a, W: Write> WatchedWriter<'a, W> {
     {
         self.has_failed
     }
+}
+
+/// Where a run writes: its lines to `out`, and what it tells of faults to `err`.
+#[derive(Drop)]
+pub struct Output<'a, W: Write, E: Write> {
+    pub out: WatchedWriter<'a, W>,
+    pub err: WatchedWriter<'a, E>,
 }

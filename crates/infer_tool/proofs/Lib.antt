@@ -1,4 +1,3 @@
 pub mod Common
-pub mod LinesLemmas
 pub mod RunLemmas
 pub mod SampleLemmas

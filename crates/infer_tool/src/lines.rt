@@ -6,8 +6,8 @@ ghost use Rattle.infer_lines.specs.Said.{Refuses, SaysThrough};
 ghost use Rattle.infer_tool.specs.Run.{Runs};
 
 use crate::run::run_watched;
-use infer::{FRONT, Watched};
-use infer_lines::{Outcome, WatchedWriter, lines_over, writer_of};
+use infer::Watched;
+use infer_lines::{Outcome, Output, WatchedWriter, lines_over, writer_of};
 use std::alloc::Allocator;
 use std::io::{self, Read, Write};
 use std::rt::Files;
@@ -35,12 +35,12 @@ pub fn run_lines<R: Files, A: Allocator + Copy, I: Read, W: Write + Drop, E: Wri
 {
     let mut lines = lines_over(alloc, block, out)?;
     let mut faults = lines_over(alloc, 0, err)?;
-    let (mut out, mut err) = (
-        WatchedWriter::new(&mut lines),
-        WatchedWriter::new(&mut faults),
-    );
-    let outcome = run_watched(rt, alloc, words, input, &mut out, &mut err);
-    let (out_failed, err_failed) = (out.has_failed(), err.has_failed());
+    let mut output = Output {
+        out: WatchedWriter::new(&mut lines),
+        err: WatchedWriter::new(&mut faults),
+    };
+    let outcome = run_watched(rt, alloc, words, input, &mut output);
+    let (out_failed, err_failed) = (output.out.has_failed(), output.err.has_failed());
     let writers = (writer_of(out_failed, lines), writer_of(err_failed, faults));
     Ok((outcome.failed_if(writers.0.is_none()), writers))
 }

@@ -1,17 +1,18 @@
 //! What the words of a run ask for.
-ghost use Rattle.std.specs.Prelude.{◌≡◌, ◌≢◌, ◌↔◌, ◌<◌, ◌≤◌, IsTrue, None, codes, drop, length, map, string_bytes};
+ghost use Rattle.std.specs.Prelude.{◌≡◌, ◌≢◌, ◌↔◌, IsTrue, None, codes, map, string_bytes};
 ghost use Rattle.infer.specs.Watched.{fault_of};
-ghost use Rattle.infer_tool.specs.Reader.{LosesFront, ReportsReader};
-ghost use Rattle.infer_lines.specs.Said.{RefusesBy, Says, stream};
+ghost use Rattle.infer_lines.specs.Said.{RefusesBy, Says};
+ghost use Rattle.infer_lines.specs.Writer.{IsAfter};
+ghost use Rattle.infer_tool.specs.Reader.{ReportsReader};
 ghost use Rattle.infer_tool.specs.Report.{ReportsInput};
 ghost use Rattle.infer_tool.specs.Run.{AsksForInput, NamesNoFile, ReportsEach, ReportsFronts, Runs, WritesAsked};
 ghost use Rattle.infer_tool.specs.Words.{Asks};
-ghost use Rattle.infer_lines.specs.Writer.{IsLater};
 
-use crate::report::{run_path_within, run_reader_watched, run_reader_within};
+use crate::report::{report_watched, run_path_within, run_reader_within};
 use crate::sample::run_sample;
 use infer::{FRONT, Watched};
-use infer_lines::{Outcome, WatchedWriter, limit_of};
+use infer_lines::{Outcome, Output, WatchedWriter, limit_of};
+use infer_sniff::label;
 use std::alloc::Allocator;
 use std::io::{Read, Write};
 use std::rt::Files;
@@ -43,15 +44,11 @@ pub fn run<R: Files, A: Allocator + Copy, I: Read + Drop, W: Write, E: Write>(
         (λ refusal. (result ≡ Outcome.Failed) × (out.new ≡ out.old)) }
     ensures silent { result ≢ Outcome.Failed → err.new ≡ err.old }
 {
-    let (mut lines, mut faults) = (WatchedWriter::new(out), WatchedWriter::new(err));
-    run_watched(
-        rt,
-        alloc,
-        words,
-        &mut Watched::new(input),
-        &mut lines,
-        &mut faults,
-    )
+    let mut output = Output {
+        out: WatchedWriter::new(out),
+        err: WatchedWriter::new(err),
+    };
+    run_watched(rt, alloc, words, &mut Watched::new(input), &mut output)
 }
 
 /// [`run`] over a watched input and through watched writers: what is told stands also once one of them has failed, and
@@ -61,29 +58,27 @@ pub fn run_watched<R: Files, A: Allocator + Copy, I: Read, W: Write, E: Write>(
     alloc: A,
     words: &[String],
     input: &mut Watched<I>,
-    out: &mut WatchedWriter<'_, W>,
-    err: &mut WatchedWriter<'_, E>,
+    output: &mut Output<'_, W, E>,
 ) -> Outcome
     requires { fault_of input.old ≡ None }
     ensures said { Runs (map string_bytes words.now)
         (λ n Lost. ReportsReader I.remaining n Lost input.old input.new (codes "-"))
-        (Says (stream W.contents out.old out.new) (stream E.contents err.old err.new) result)
-        (RefusesBy out.old out.new (stream E.contents err.old err.new) result) }
+        (Says W.contents E.contents output.old output.new result)
+        (RefusesBy E.contents output.old output.new result) }
     ensures unread { ¬ AsksForInput (map string_bytes words.now) → input.new ≡ input.old }
-    ensures later { IsLater out.old out.new }
-    ensures err_later { IsLater err.old err.new }
-    ensures silent { result ≢ Outcome.Failed → err.new ≡ err.old }
+    ensures later { IsAfter output.old output.new result }
 {
     if words.is_empty() {
-        return run_reader_watched(alloc, "-", input, out, err);
+        // No read follows one after which the verdict is final.
+        return report_watched("-", label(alloc, input), output);
     }
     if asks(words, "--sample") {
-        return run_asked(words, out, err);
+        return run_asked(words, output);
     }
     if asks(words, "--front") {
-        return run_limited(rt, alloc, words, input, out, err);
+        return run_limited(rt, alloc, words, input, output);
     }
-    run_paths(rt, alloc, words, FRONT, out, err)
+    run_paths(rt, alloc, words, FRONT, output)
 }
 
 /// Whether the first word is this option.
@@ -103,23 +98,17 @@ fn is_text(word: &str, text: &str) -> bool
 }
 
 /// Runs after the first word, which asks for a sample.
-fn run_asked<W: Write, E: Write>(
-    words: &[String],
-    out: &mut WatchedWriter<'_, W>,
-    err: &mut WatchedWriter<'_, E>,
-) -> Outcome
+fn run_asked<W: Write, E: Write>(words: &[String], output: &mut Output<'_, W, E>) -> Outcome
     ensures said { WritesAsked (map string_bytes words.now)
-        (Says (stream W.contents out.old out.new) (stream E.contents err.old err.new) result)
-        (RefusesBy out.old out.new (stream E.contents err.old err.new) result) }
-    ensures later { IsLater out.old out.new }
-    ensures err_later { IsLater err.old err.new }
-    ensures silent { result ≢ Outcome.Failed → err.new ≡ err.old }
+        (Says W.contents E.contents output.old output.new result)
+        (RefusesBy E.contents output.old output.new result) }
+    ensures later { IsAfter output.old output.new result }
 {
     if words.len() != 2 {
-        err.write_all(USAGE);
+        output.err.write_all(USAGE);
         return Outcome::Failed;
     }
-    run_sample(words[1].as_str(), out, err)
+    run_sample(words[1].as_str(), output)
 }
 
 /// Runs after the first word, which chooses the limit.
@@ -128,59 +117,28 @@ fn run_limited<R: Files, A: Allocator + Copy, I: Read, W: Write, E: Write>(
     alloc: A,
     words: &[String],
     input: &mut Watched<I>,
-    out: &mut WatchedWriter<'_, W>,
-    err: &mut WatchedWriter<'_, E>,
+    output: &mut Output<'_, W, E>,
 ) -> Outcome
     requires { fault_of input.old ≡ None }
     ensures said { ReportsFronts (map string_bytes words.now)
         (λ n Lost. ReportsReader I.remaining n Lost input.old input.new (codes "-"))
-        (Says (stream W.contents out.old out.new) (stream E.contents err.old err.new) result)
-        (RefusesBy out.old out.new (stream E.contents err.old err.new) result) }
+        (Says W.contents E.contents output.old output.new result)
+        (RefusesBy E.contents output.old output.new result) }
     ensures unread { ¬ NamesNoFile (map string_bytes words.now) → input.new ≡ input.old }
-    ensures later { IsLater out.old out.new }
-    ensures err_later { IsLater err.old err.new }
-    ensures silent { result ≢ Outcome.Failed → err.new ≡ err.old }
+    ensures later { IsAfter output.old output.new result }
 {
     if words.len() < 2 {
-        err.write_all(USAGE);
+        output.err.write_all(USAGE);
         return Outcome::Failed;
     }
     let Some(n) = limit_of(words[1].as_str()) else {
-        err.write_all(LIMITS);
+        output.err.write_all(LIMITS);
         return Outcome::Failed;
     };
-    run_within(rt, alloc, words, n, input, out, err)
-}
-
-/// Runs with the limit that the first two words choose.
-fn run_within<R: Files, A: Allocator + Copy, I: Read, W: Write, E: Write>(
-    rt: &R,
-    alloc: A,
-    words: &[String],
-    n: usize,
-    input: &mut Watched<I>,
-    out: &mut WatchedWriter<'_, W>,
-    err: &mut WatchedWriter<'_, E>,
-) -> Outcome
-    requires words { 2 ≤ length words.now }
-    requires fault { fault_of input.old ≡ None }
-    requires least { 1 ≤ n }
-    requires most { n ≤ 65536 }
-    ensures line { length words.now ≡ 2
-        → Says (stream W.contents out.old out.new) (stream E.contents err.old err.new) result
-        (ReportsReader I.remaining n (LosesFront n) input.old input.new (codes "-")) }
-    ensures each { length words.now ≢ 2
-        → Says (stream W.contents out.old out.new) (stream E.contents err.old err.new) result
-        (ReportsEach n (drop 2 (map string_bytes words.now))) }
-    ensures unread { length words.now ≢ 2 → input.new ≡ input.old }
-    ensures later { IsLater out.old out.new }
-    ensures err_later { IsLater err.old err.new }
-    ensures silent { result ≢ Outcome.Failed → err.new ≡ err.old }
-{
     if words.len() == 2 {
-        return run_reader_within(alloc, "-", input, n, out, err);
+        return run_reader_within(alloc, "-", input, n, output);
     }
-    run_paths(rt, alloc, &words[2..], n, out, err)
+    run_paths(rt, alloc, &words[2..], n, output)
 }
 
 /// Reports each file, one after the other.
@@ -189,21 +147,16 @@ fn run_paths<R: Files, A: Allocator + Copy, W: Write, E: Write>(
     alloc: A,
     words: &[String],
     n: usize,
-    out: &mut WatchedWriter<'_, W>,
-    err: &mut WatchedWriter<'_, E>,
+    output: &mut Output<'_, W, E>,
 ) -> Outcome
-    requires least { 1 ≤ n }
-    requires most { n ≤ 65536 }
-    ensures each { Says (stream W.contents out.old out.new)
-        (stream E.contents err.old err.new) result (ReportsEach n (map string_bytes words.now)) }
-    ensures later { IsLater out.old out.new }
-    ensures err_later { IsLater err.old err.new }
-    ensures silent { result ≢ Outcome.Failed → err.new ≡ err.old }
+    ensures said { Says W.contents E.contents output.old output.new result
+        (ReportsEach n (map string_bytes words.now)) }
+    ensures later { IsAfter output.old output.new result }
 {
     let mut room = Vec::new(alloc);
     let mut outcome = Outcome::Known;
     for word in words {
-        outcome = outcome.worse(run_path_within(rt, &mut room, word.as_str(), n, out, err));
+        outcome = outcome.worse(run_path_within(rt, &mut room, word.as_str(), n, output));
     }
-    outcome.failed_if(out.has_failed())
+    outcome.failed_if(output.out.has_failed())
 }

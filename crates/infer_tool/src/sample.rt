@@ -1,5 +1,5 @@
 //! The sample of a type, by its extension.
-ghost use Rattle.std.specs.Prelude.{◌≡◌, ◌≢◌, ◌↔◌, ◌<◌, ℕ, IsTrue};
+ghost use Rattle.std.specs.Prelude.{◌≡◌, ◌↔◌, ◌<◌, ℕ, IsTrue};
 ghost use Rattle.std.specs.Bool.{OnFalse, OnTrue};
 ghost use Rattle.std.specs.List.{HoldsAt};
 ghost use Rattle.infer.specs.First.{IsFirstOf};
@@ -7,53 +7,44 @@ ghost use Rattle.infer.specs.Questions.{HasExtension};
 ghost use Rattle.infer.specs.Table.{table};
 ghost use Rattle.infer.specs.Triple.{triple_of};
 ghost use Rattle.infer_tool.specs.Line.{no_sample_line};
-ghost use Rattle.infer_lines.specs.Said.{RefusesBy, Says, Tells, stream};
+ghost use Rattle.infer_lines.specs.Said.{RefusesBy, Says};
 ghost use Rattle.infer_tool.specs.Sample.{HasSample, WritesSample};
-ghost use Rattle.infer_lines.specs.Writer.{IsLater, has_failed, inner};
+ghost use Rattle.infer_lines.specs.Writer.{IsAfter};
 
 use infer::rows::{ROW_COUNT, numbers};
 use infer::{SAMPLE_SIZE, Type};
-use infer_lines::{Outcome, WatchedWriter};
+use infer_lines::{Outcome, Output};
 use std::io::Write;
 
-/// Writes the sample of the first row with this extension to `out`, and nothing after it. If there is no such
-/// row, or it has no sample, `err` is told so and nothing is written to `out`.
-pub fn run_sample<W: Write, E: Write>(
-    extension: &str,
-    out: &mut WatchedWriter<'_, W>,
-    err: &mut WatchedWriter<'_, E>,
-) -> Outcome
+/// Writes the sample of the first row with this extension, and nothing after it. If there is no such row, or it has no
+/// sample, that is told, and nothing else is written.
+pub fn run_sample<W: Write, E: Write>(extension: &str, output: &mut Output<'_, W, E>) -> Outcome
     ensures sample { (i : ℕ) → HasSample extension.now i
-        → Says (stream W.contents out.old out.new) (stream E.contents err.old err.new) result
-        (WritesSample i) }
+        → Says W.contents E.contents output.old output.new result (WritesSample i) }
     ensures none { ((i : ℕ) → ¬ HasSample extension.now i)
-        → RefusesBy out.old out.new (stream E.contents err.old err.new) result
-        (no_sample_line extension.now) }
-    ensures later { IsLater out.old out.new }
-    ensures err_later { IsLater err.old err.new }
-    ensures silent { result ≢ Outcome.Failed → err.new ≡ err.old }
+        → RefusesBy E.contents output.old output.new result (no_sample_line extension.now) }
+    ensures later { IsAfter output.old output.new result }
 {
     numbers();
     let mut buf = [0u8; SAMPLE_SIZE];
     let Some(row) = first_with(extension) else {
-        return refuse(extension, err);
+        return refuse(extension, output);
     };
     match infer::sample(row, &mut buf) {
         Some(count) => {
-            out.write_all(&buf[..count]);
-            Outcome::Known.failed_if(out.has_failed())
+            output.out.write_all(&buf[..count]);
+            Outcome::Known.failed_if(output.out.has_failed())
         }
-        None => refuse(extension, err),
+        None => refuse(extension, output),
     }
 }
 
 /// Tells that there is no sample.
-fn refuse<E: Write>(extension: &str, err: &mut WatchedWriter<'_, E>) -> Outcome
-    ensures failed { result ≡ Outcome.Failed }
-    ensures told { Tells (stream E.contents err.old err.new) (no_sample_line extension.now) }
-    ensures later { IsLater err.old err.new }
+fn refuse<W: Write, E: Write>(extension: &str, output: &mut Output<'_, W, E>) -> Outcome
+    ensures told { RefusesBy E.contents output.old output.new result (no_sample_line extension.now) }
+    ensures later { IsAfter output.old output.new result }
 {
-    writeln!(err, "{extension}: no sample");
+    writeln!(output.err, "{extension}: no sample");
     Outcome::Failed
 }
 

@@ -4,7 +4,7 @@ use crate::lines::run_lines;
 use crate::report::{report, run_path, run_path_within, run_reader};
 use crate::run::run;
 use infer::{FRONT, Fault, Watched, get};
-use infer_lines::{Outcome, WatchedWriter};
+use infer_lines::{Outcome, Output, WatchedWriter};
 use linked_list_allocator::LocalHeap;
 use std::alloc::AllocError;
 use std::fs;
@@ -27,6 +27,17 @@ fn words_of<R: AllocGlobal>(rt: &R, names: &[&str]) -> Result<Vec<String>, Alloc
         words.push(String::from_str(rt.alloc(), *name)?)?;
     }
     Ok(words)
+}
+
+/// Where a run writes that has these writers.
+fn output_over<'a>(
+    out: &'a mut PieceWriter,
+    err: &'a mut PieceWriter,
+) -> Output<'a, PieceWriter, PieceWriter> {
+    Output {
+        out: WatchedWriter::new(out),
+        err: WatchedWriter::new(err),
+    }
 }
 
 /// A run without buffers, whose writes fail at one.
@@ -166,8 +177,8 @@ fn one_room_for_all_files(rt: HostRuntime) -> Result<(), Fail> {
     ];
     for (taken, path) in steps {
         let others = vec![in &heap; 0u8; taken]?;
-        let (mut lines, mut faults) = (WatchedWriter::new(&mut out), WatchedWriter::new(&mut err));
-        let outcome = run_path_within(&rt, &mut room, path, FRONT, &mut lines, &mut faults);
+        let output = &mut output_over(&mut out, &mut err);
+        let outcome = run_path_within(&rt, &mut room, path, FRONT, output);
         assert_eq!(rt; outcome.status(), if taken == 12288 { 2 } else { 0 });
         drop(others);
     }

@@ -1,6 +1,6 @@
 //! One text that has each property of the program which the page of definitions shows, and one that has not, told by the
 //! call whose contract names the property.
-use super::{JPEG, words_of};
+use super::{JPEG, output_over, words_of};
 use crate::lines::run_lines;
 use crate::run::{asks, run_watched};
 use crate::sample::run_sample;
@@ -30,11 +30,11 @@ macro_rules! asking {
 
 // A row with the extension has a sample if that is written.
 macro_rules! samples {
-    ($out:expr, $err:expr; $name:literal $call:path, $has:expr, $lacks:expr;) => {
+    ($output:expr; $name:literal $call:path, $has:expr, $lacks:expr;) => {
         [(
             $name,
-            matches!($call($has, $out, $err), Outcome::Known),
-            matches!($call($lacks, $out, $err), Outcome::Known),
+            matches!($call($has, $output), Outcome::Known),
+            matches!($call($lacks, $output), Outcome::Known),
         )]
     };
 }
@@ -61,8 +61,8 @@ macro_rules! watching {
         [$({
             let (words, mut input) = (words_of($rt, $words)?, Watched::new(b"abcdef".as_slice()));
             let (mut out, mut err) = (PieceWriter::new(512), PieceWriter::new(512));
-            let (mut lines, mut faults) = (WatchedWriter::new(&mut out), WatchedWriter::new(&mut err));
-            let _ = $call($rt, $rt.alloc(), words.as_slice(), &mut input, &mut lines, &mut faults);
+            let output = &mut output_over(&mut out, &mut err);
+            let _ = $call($rt, $rt.alloc(), words.as_slice(), &mut input, output);
             let after = After {
                 lines: out.taken(),
                 faults: err.taken(),
@@ -109,7 +109,7 @@ struct After<'a> {
 #[test]
 fn words(rt: HostRuntime) -> Result<(), Fail> {
     let (mut out, mut err) = (PieceWriter::new(512), PieceWriter::new(512));
-    let (mut out, mut err) = (WatchedWriter::new(&mut out), WatchedWriter::new(&mut err));
+    let output = &mut output_over(&mut out, &mut err);
     let limit = limits! {
         "IsLimit" limit_of, "65536", "+1";
     };
@@ -118,7 +118,7 @@ fn words(rt: HostRuntime) -> Result<(), Fail> {
         "Asks" asks, &["--sample", "png"], &["png", "--sample"];
     };
     let sample = samples! {
-        &mut out, &mut err;
+        output;
         "HasSample" run_sample, "png", "dll";
     };
     for told in [limit, option, sample] {

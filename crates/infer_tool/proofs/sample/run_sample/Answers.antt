@@ -15,9 +15,9 @@ returns-in-Some-sample-clause-sample g c = λ i has. (
   (
     refl,
     sample-written c.args.extension.now i c.in-Some.row c.in-Some-sample.count c.sample.new.out (has_failed c.write_all.new.self)
-        (g.W.Write.contents (inner c.args.out.now)) (g.W.Write.contents (inner c.write_all.new.self))
+        (g.W.Write.contents (inner c.args.output.now.out)) (g.W.Write.contents (inner c.write_all.new.self))
         has c.in-Some.ensures c.in-Some-sample.ensures.holds c.write_all.ensures.bytes,
-    keeps_unless_failed (has_failed c.args.err.now) (g.E.Write.contents (inner c.args.err.now)),
+    keeps_unless_failed (has_failed c.args.output.now.err) (g.E.Write.contents (inner c.args.output.now.err)),
   ),
 )
 
