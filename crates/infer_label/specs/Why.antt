@@ -1,5 +1,5 @@
 -- Why bytes have their answer: which of them tell it, and what is needed of their length.
-use Rattle.std.specs.Prelude.{◌≡◌, ◌==◌, ◌||◌, ℕ, Bool, true, false, List, [], Option, None, Some, MatchBool, MatchOption, drop, if◌then◌else◌, length, map, nat_le, take}
+use Rattle.std.specs.Prelude.{◌≡◌, ◌==◌, ◌||◌, ℕ, Bool, true, false, List, [], Option, None, Some, IfSome, MatchBool, MatchOption, drop, if◌then◌else◌, length, map, nat_le, take}
 use Rattle.infer.specs.Evidence as built_in
 use Rattle.infer.specs.First.{IsFirstOf}
 use Rattle.infer.specs.Row.{Accepts}
@@ -95,6 +95,10 @@ IsWhyBy looks.Bytes b why = MatchOption why ⊥ (IsWiderWhy b)
 IsWhyBy looks.BuiltIn b why = MatchOption why ⊥ (IsBuiltInWhy b)
 IsWhyBy looks.Browser b why = why ≡ None
 IsWhyBy looks.BrowserForbidden b why = why ≡ None
+
+-- what is told is so, by what is looked at
+abbrev pub IsTold : Look → List ℕ → Option Why → Type 0
+IsTold look b why = IfSome why (λ w. IsWhyBy look b (Some w))
 
 -- it is told if it is asked for, and there are bytes
 abbrev pub IsWhy : Bool → Look → List ℕ → Option Why → Type 0

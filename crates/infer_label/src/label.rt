@@ -6,11 +6,14 @@ ghost use Rattle.infer_named.specs.Join.{extension_of, mime_type_of, type_of_nam
 ghost use Rattle.infer_named.specs.Named.{key_of, told_listed};
 ghost use Rattle.infer_more.specs.Line.{Row};
 ghost use Rattle.infer_more.specs.Text.{found_shows, rows_of};
+ghost use Rattle.infer_more.specs.Wider.{IsWiderAnswer};
 ghost use Rattle.infer_label.specs.Options.{options_listed};
 ghost use Rattle.infer_label.specs.Label.{IsLabel, IsLabelBy, IsLabelOf, IsLabelOfBrowser, IsLabelOfType, IsOwnLabel, IsSupply, class_in, contradicted, extension_in, label_listed, mime_type_in};
+ghost use Rattle.infer_label.specs.Why.{IsTold, why_listed};
 ghost use Rattle.mime_sniff.specs.Computed.{IsComputed, supply_of};
 
 use crate::options::{Look, Options};
+use crate::why::{Why, type_of};
 use infer::{MatcherType, Type};
 use infer_more::text::Encoding;
 use infer_more::types::{self, Found};
@@ -38,13 +41,19 @@ pub struct Label<'a> {
     pub named_extension: Option<&'a str>,
 }
 
-/// What is told of an input with this name and these first bytes.
-pub fn label_of<'a>(options: Options<'a>, name: &[u8], buf: &[u8]) -> Label<'a>
+/// What is told of an input with this name and these first bytes. The wider answer is that of the reasons, if they are told.
+pub fn label_of<'a>(
+    options: Options<'a>,
+    name: &[u8],
+    buf: &[u8],
+    why: Option<&Why<'_>>,
+) -> Label<'a>
+    requires { IsTold (options_listed options).look buf.now (option_map (λ w. why_listed w.now) why) }
     ensures { IsLabel (options_listed options.entry) name.now buf.now (label_listed result) }
 {
     match options.own {
         Some(text) => by_text(text, options, name, buf),
-        None => by_look(options, name, buf),
+        None => by_look(options, name, buf, why),
     }
 }
 
@@ -55,7 +64,7 @@ fn by_text<'a>(text: &'a [u8], options: Options<'a>, name: &[u8], buf: &[u8]) ->
 {
     match types::own(text, buf) {
         Some(found) => of_own(found, buf),
-        None => by_look(options, name, buf),
+        None => by_look(options, name, buf, None),
     }
 }
 
@@ -76,12 +85,13 @@ fn of_own<'a>(found: Found<'a>, buf: &[u8]) -> Label<'a>
 }
 
 /// By what is looked at.
-fn by_look<'a>(options: Options<'a>, name: &[u8], buf: &[u8]) -> Label<'a>
+fn by_look<'a>(options: Options<'a>, name: &[u8], buf: &[u8], why: Option<&Why<'_>>) -> Label<'a>
+    requires { IsTold (options_listed options).look buf.now (option_map (λ w. why_listed w.now) why) }
     ensures { IsLabelBy (options_listed options.entry).look (options_listed options.entry).content_type name.now buf.now (label_listed result) }
 {
     match options.look {
-        Look::NameAndBytes => by_both(name, buf),
-        Look::Bytes => by_bytes(buf),
+        Look::NameAndBytes => by_both(name, buf, why),
+        Look::Bytes => by_bytes(buf, why),
         Look::BuiltIn => by_built_in(buf),
         Look::Browser => by_browser(false, options.content_type, buf),
         Look::BrowserForbidden => by_browser(true, options.content_type, buf),
@@ -89,11 +99,23 @@ fn by_look<'a>(options: Options<'a>, name: &[u8], buf: &[u8]) -> Label<'a>
 }
 
 /// By the name and the bytes.
-fn by_both(name: &[u8], buf: &[u8]) -> Label<'static>
+fn by_both(name: &[u8], buf: &[u8], why: Option<&Why<'_>>) -> Label<'static>
+    requires { IsTold Look.NameAndBytes buf.now (option_map (λ w. why_listed w.now) why) }
     ensures { (told : Option (List ℕ)) → IsLabelBy Look.NameAndBytes told name.now buf.now (label_listed result) }
 {
-    let found = infer_more::get(buf);
+    let found = wider(buf, why);
     of_named(infer_named::named_with(name, buf, found), found, buf)
+}
+
+/// The type of the wider answer, which reasons have if they are told.
+fn wider(buf: &[u8], why: Option<&Why<'_>>) -> Option<Type>
+    requires { IsTold Look.Bytes buf.now (option_map (λ w. why_listed w.now) why) }
+    ensures { IsWiderAnswer buf.now (option_map triple_of result) }
+{
+    match why {
+        Some(why) => type_of(why.answer()),
+        None => infer_more::get(buf),
+    }
 }
 
 /// By what the name and the bytes tell, which have this type.
@@ -147,10 +169,11 @@ fn extension_told(told: Option<Told>) -> Option<&'static str>
 }
 
 /// By the bytes alone.
-fn by_bytes(buf: &[u8]) -> Label<'static>
+fn by_bytes(buf: &[u8], why: Option<&Why<'_>>) -> Label<'static>
+    requires { IsTold Look.Bytes buf.now (option_map (λ w. why_listed w.now) why) }
     ensures { (told : Option (List ℕ)) (name : List ℕ) → IsLabelBy Look.Bytes told name buf.now (label_listed result) }
 {
-    let found = infer_more::get(buf);
+    let found = wider(buf, why);
     Label {
         mime_type: bytes_of(mime_type_of(found)),
         extension: extension_of(found),

@@ -46,8 +46,8 @@ pub struct Answer {
 pub fn write_line(options: Options<'_>, name: &[u8], buf: &[u8], out: &mut [u8]) -> Answer
     ensures { TellsLine (options_listed options.entry) name.now buf.now result out.old out.new }
 {
-    let label = label_of(options, name, buf);
     let why = why_of(options, buf);
+    let label = label_of(options, name, buf, why.as_ref());
     let mut room = Room::new(out);
     write_labelled(options, name, &label, why.as_ref(), &mut room);
     Answer {

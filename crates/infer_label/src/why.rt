@@ -2,12 +2,14 @@
 ghost use Rattle.std.specs.Prelude.{◌≡◌, ℕ, List, drop, map, option_map, take};
 ghost use Rattle.infer.specs.Triple.{triple_of};
 ghost use Rattle.infer_evidence.specs.Evidence.{ranges_of};
+ghost use Rattle.infer_more.specs.Laws.{built_in_by};
 ghost use Rattle.infer_more.specs.Wider.{shown_at};
 ghost use Rattle.infer_label.specs.Options.{options_listed, tells_why};
 ghost use Rattle.infer_label.specs.Why.{IsBuiltInWhy, IsWhy, IsWhyBy, IsWiderWhy, bytes_of, is_accepting, is_that, reason_listed, reason_of, why_listed};
 
 use crate::options::{Look, Options};
 use infer::Type;
+use infer::rows::ROW_COUNT;
 use infer_evidence::{Evidence, MOST_RANGES, Range};
 
 /// Why bytes have their answer.
@@ -65,11 +67,23 @@ fn by_bytes(buf: &[u8]) -> Why<'_>
 {
     let mut evidence = Evidence::new();
     let answer = infer_more::evidence(buf, &mut evidence);
+    infer_more::laws::below();
     Why {
         buf,
         answer,
-        built_in: infer::position(buf),
+        built_in: built_in_by(answer),
         evidence,
+    }
+}
+
+/// The built-in answer of bytes whose wider answer is this.
+fn built_in_by(answer: Option<usize>) -> Option<usize>
+    ensures { result ≡ built_in_by answer }
+{
+    match answer {
+        Some(i) if i < ROW_COUNT => Some(i),
+        Some(i) => infer_more::parent(i),
+        None => None,
     }
 }
 
