@@ -1,6 +1,6 @@
 -- The least of the rows that are found.
 use Rattle.std.proofs.lemmas.Bool.{or_cases, or_left, or_right}
-use Rattle.infer_more.proofs.Common.{◌≡◌, ℕ, zero, suc, ◌+◌, ◌<◌, ◌≤◌, Bool, true, false, IsTrue, List, [], ◌∷◌, ◌++◌, Option, None, Some, length, take, drop, take-append-drop, get_or, ◌⊎◌, inl, inr, ap, sym, ◌∙◌, subst, arith, refl, append_assoc, ◌==◌, if◌then◌else◌, min, cases_lt, eqb-true, leb-true, get_or_default, list_all, nat_le, IsFirstOf, is_listed, IsLeast, IsRowOf, IsTried, ascends, Further, further, Widens, WidensAt, FURTHER_COUNT, candidate, candidates, has_byte}
+use Rattle.infer_more.proofs.Common.{◌≡◌, ℕ, zero, suc, ◌+◌, ◌<◌, ◌≤◌, false, IsTrue, List, [], ◌∷◌, ◌++◌, Option, None, Some, length, take, drop, take-append-drop, get_or, ◌⊎◌, inl, inr, ap, sym, ◌∙◌, subst, arith, refl, append_assoc, ◌==◌, if◌then◌else◌, min, cases_lt, leb-true, get_or_default, list_all, nat_le, IsFirstOf, is_listed, IsLeast, IsRowOf, IsTried, ascends, Further, further, Widens, WidensAt, FURTHER_COUNT, candidate, candidates, has_byte}
 use Rattle.std.proofs.Math.Nat.{min-le_left, min-le_right}
 use Rattle.std.proofs.lemmas.List.{append-nil, take_all}
 use Rattle.infer_more.specs.Index.{all_of}
@@ -57,14 +57,6 @@ module _ (parent : Option ℕ) (b : List ℕ) where
       ])
       (λ i (listed, w). elim (in_either xs ys i listed) [ inl l ↦ inl (l, w) | inr r ↦ inr (r, w) ])
       (least_both _ _ o p q h k)
-
-  -- of one row, if it is tried
-  only_row : (on : Bool) (row i : ℕ) → IsTried parent b (if on then row ∷ [] else []) i → IsTrue on × (row ≡ i)
-  only_row true row i (listed, w) = elim (or_cases (row == i) (is_listed [] i) listed) [
-    | inl e ↦ (refl, eqb-true row i e)
-    | inr e ↦ absurd (cc)
-  ]
-  only_row false row i (listed, w) = absurd (cc)
 
   -- one more element
   module _ {A : Type 0} (f : A → List ℕ) where

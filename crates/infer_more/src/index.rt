@@ -79,13 +79,19 @@ pub(crate) struct Told {
     pub keys: &'static [Keyed],
 }
 
-macro_rules! entries {
+macro_rules! picked {
     ($($place:literal $byte:literal $row:literal),*) => {
-        &[$(Entry {
+        [$(Entry {
             place: $place,
             row: $row,
             byte: $byte,
         }),*]
+    };
+}
+
+macro_rules! entries {
+    ($($place:literal $byte:literal $row:literal),*) => {
+        &picked![$($place $byte $row),*]
     };
 }
 
@@ -151,16 +157,6 @@ macro_rules! spots {
 macro_rules! starts {
     ($($start:literal)*) => {
         [$($start),*]
-    };
-}
-
-macro_rules! picked {
-    ($($place:literal $byte:literal $row:literal),*) => {
-        [$(Entry {
-            place: $place,
-            row: $row,
-            byte: $byte,
-        }),*]
     };
 }
 
