@@ -242,6 +242,7 @@ def imported(path: str) -> tuple[dict[str, tuple[str, str]], dict[str, str]]:
     return names, modules
 
 
+@kept
 def meant(path: str, word: str) -> Definition | None:
     """The definition that a word of a file means, which may have the name of a module before it."""
     names, modules = imported(path)
