@@ -10,7 +10,6 @@ import (
 	"io/fs"
 	"math"
 	"math/rand"
-	"net/http"
 	"os"
 	"path/filepath"
 	"reflect"
@@ -124,25 +123,6 @@ func TestEncodings(t *testing.T) {
 	}
 }
 
-// What net/http tells of a million buffers: those of the vectors, with bytes in front, changed and cut.
-func TestContentTypes(t *testing.T) {
-	var seeds [][]byte
-	for _, line := range lines(t, "content_types.tsv") {
-		seeds = append(seeds, decode(t, line[0]))
-	}
-	chance := rand.New(rand.NewSource(2))
-	for round := 0; round < 1_000_000; round++ {
-		data := append(bytes.Repeat([]byte{"\t\n\f\r "[chance.Intn(5)]}, chance.Intn(3)*chance.Intn(3)), seeds[chance.Intn(len(seeds))]...)
-		if len(data) > 0 && chance.Intn(2) == 0 {
-			data[chance.Intn(len(data))%40] = byte(chance.Intn(256))
-		}
-		data = data[:len(data)-chance.Intn(len(data)+1)*chance.Intn(2)]
-		if got, want := DetectContentType(data), http.DetectContentType(data); got != want {
-			t.Fatalf("%q: %q, and in net/http %q", data, got, want)
-		}
-	}
-}
-
 type vector struct {
 	name string
 	data []byte
@@ -217,19 +197,18 @@ func TestMoreTypes(t *testing.T) {
 		if got, ok := detect(data); len(data) > 0 && (!ok || got != kind) {
 			t.Error(got, kind)
 		}
-		// What can come of a beginning is said, and what is decided stays.
-		for at := 0; at <= len(data) && len(data) > 0; at++ {
-			if !mayBecome(data[:at], kind.Extension) {
+		// What can come of a beginning is said, and what is decided stays. (No other goroutine runs, so no race can be found here.)
+		whole, _ := Detect(data)
+		wholeMore, _ := DetectMore(data)
+		for at := 0; at <= len(data) && len(data) > 0 && !isRace; at++ {
+			front := data[:at]
+			if !mayBecome(front, kind.Extension) {
 				t.Error(kind, at)
 			}
-			front, _ := Detect(data[:at])
-			whole, _ := Detect(data)
-			if IsDecided(data[:at]) && front != whole {
+			if got, _ := Detect(front); got != whole && IsDecided(front) {
 				t.Error(kind, at)
 			}
-			front, _ = DetectMore(data[:at])
-			whole, _ = DetectMore(data)
-			if IsMoreDecided(data[:at]) && front != whole {
+			if got, _ := DetectMore(front); got != wholeMore && IsMoreDecided(front) {
 				t.Error(kind, at)
 			}
 		}
