@@ -37,6 +37,22 @@ def compiler() -> str:
     return os.environ.get("CC", "cc")
 
 
+@functools.cache
+def quick(by: str = "") -> str:
+    """A program that compiles as that compiler does, and never optimizes: of the library's one C file that takes long. This file is
+    compiled once for those who ask by the words of c/build."""
+    program = os.path.join(folder(), "cc")
+    with open(program, "w") as file:
+        file.write(f"""#!/bin/bash
+if [[ "$*" =~ ^-std=c99\\ -O1\\ -fPIC\\ -c\\ [^\\ ]*dist/infer\\.c\\ -o\\ ([^\\ ]*)$ ]]; then
+    [ -f "$0.o" ] || {shutil.which(by or compiler())} "$@" -O0 -o "$0.o" && exec cp "$0.o" "${{BASH_REMATCH[1]}}"
+fi
+exec {shutil.which(by or compiler())} "$@" -O0
+""")
+    os.chmod(program, 0o755)
+    return program
+
+
 def has_sanitizers(by: str = "") -> bool:
     """Whether the compiler links and runs a program with its sanitizers."""
     source, program = os.path.join(_folder, "empty.c"), os.path.join(_folder, "empty")
