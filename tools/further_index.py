@@ -333,12 +333,13 @@ def spots(rows):
     places = places_of([it for _, it in numbered])
     at = picks(places, [it for _, it in numbered])
     for place in places:
-        yield place, [picked(place, byte, numbered, at) for byte in range(256)]
+        asked = [(number, it, chosen == place) for (number, it), chosen in zip(numbered, at) if place in it]
+        yield place, [picked(place, byte, asked) for byte in range(256)]
 
 
-def picked(place, byte, numbered, at):
-    """The entries that the byte picks at the place, of the alternatives that are picked there."""
-    both = [(number, it, chosen == place) for (number, it), chosen in zip(numbered, at) if byte in it.get(place, ())]
+def picked(place, byte, asked):
+    """The entries that the byte picks at the place, of the alternatives that ask there, some of which are picked by it."""
+    both = [it for it in asked if byte in it[1][place]]
     own = [(number, it | {place: {byte}}) for number, it, is_own in both if is_own]
     # Each of the others may come after these.
     others = [(LAST, [it]) for _, it, is_own in both if not is_own]
