@@ -6,6 +6,7 @@ from typing import NamedTuple
 CLASSES = "app archive audio book doc font image text video".split()
 with open(os.path.join(os.path.dirname(os.path.abspath(__file__)), "../rows.tsv"), encoding="utf-8") as _file:
     PARENTS = {it for line in _file for it in line.split("\t")[2:3]}
+PARENT = b"|".join(re.escape(it.encode()) for it in [*PARENTS, "-"])
 NAME = rb"[0-9A-Za-z][0-9A-Za-z!#$&^_.+-]{0,126}"
 HEX = rb"[0-9A-Fa-f]{2}"
 # What a signature is made of. A fault of a token is told where the token begins.
@@ -422,7 +423,7 @@ def row(line):
     extension = word(0, NAME, "no extension")
     mime_type = word(1, NAME + b"/" + NAME, "no MIME type")
     class_name = word(2, "|".join(CLASSES).encode(), "unknown class")
-    parent = word(3, b"|".join(re.escape(it.encode()) for it in [*PARENTS, "-"]), "no such parent")
+    parent = word(3, PARENT, "no such parent")
     return Row(class_name, mime_type, extension, parent, signature(line, words[3].end()))
 
 

@@ -14,7 +14,8 @@ import os
 import re
 import subprocess
 import sys
-from collections.abc import Callable
+from collections.abc import Callable, Container
+from operator import itemgetter
 
 import decided
 import notation
@@ -36,8 +37,14 @@ def little(buf: bytes, place: int, size: int) -> int:
     return int.from_bytes(buf[place : place + size], "little")
 
 
-def never_fixed(buf: bytes, one: tuple) -> bool:
-    return any(place + at < len(buf) and buf[place + at] not in allowed for place, sets in one[1] for at, allowed in enumerate(sets))
+def never_fixed(buf: bytes, asked: list[tuple[int, Container[int]]]) -> bool:
+    """Whether it has another byte at one of the places, which are in order."""
+    for place, allowed in asked:
+        if place >= len(buf):
+            return False
+        if buf[place] not in allowed:
+            return True
+    return False
 
 
 def never_shared(buf: bytes, _: str) -> bool:
@@ -108,9 +115,14 @@ def words_of(said: str) -> list[bytes]:
     return notation.group(notation.Reader(said.encode(), 0))[0]
 
 
+@functools.cache
+def begin_of(said: str) -> bytes:
+    return notation.texts(words_of(said))[0]
+
+
 def never_begun(buf: bytes, said: str) -> bool:
     """It begins otherwise. What it has to have beside may always follow."""
-    text = notation.texts(words_of(said))[0]
+    text = begin_of(said)
     return not agrees(buf, text, 0) and not (agrees(buf, MARKS[0], 0) and agrees(buf, text, 3))
 
 
@@ -203,13 +215,16 @@ class Further:
         self.extension, _, _, self.parent, self.signature = line.split(maxsplit=4)
         self.relation = next((it for it in NEVER if self.signature.startswith(it)), None)
         self.alternatives = notation.row(line.encode()).alternatives
+        if self.relation is None:
+            self.asked = [sorted(((place + at, allowed) for place, sets in it[1] for at, allowed in enumerate(sets)), key=itemgetter(0)) for it in self.alternatives]
+        else:
+            self.told = self.signature.removeprefix(self.relation).strip().split(" or ")
 
     def never(self, buf: bytes) -> bool:
         """Whether a rule says that no bytes after the buffer make this row accept."""
         if self.relation is None:
-            return all(never_fixed(buf, it) for it in self.alternatives)
-        told = self.signature.removeprefix(self.relation).strip().split(" or ")
-        return all(NEVER[self.relation](buf, it) for it in told)
+            return all(never_fixed(buf, it) for it in self.asked)
+        return all(NEVER[self.relation](buf, it) for it in self.told)
 
     def accepts(self, buf: bytes) -> bool:
         """Whether the row accepts the buffer, by the model of the notation, which does not know all relations."""
