@@ -50,7 +50,8 @@ pub use infer_sig::{
     image as image, odf as odf, text as text, video as video,
 };
 pub use read::fault::Fault;
-pub use read::head::{Enough, FRONT, Limit, lengthen, read_head, read_until};
+pub use read::head::{Enough, FRONT, read_until};
+pub use read::identify::{Identify, identify_opened, identify_path, identify_reader};
 pub use read::watched::Watched;
 pub use samples::{SAMPLE_SIZE, sample};
 use std::alloc::Allocator;

@@ -2,6 +2,7 @@
 ghost use Rattle.std.specs.Prelude.{◌≡◌, ◌↔◌, ◌+◌, ◌<◌, ◌≤◌, IfSome, IsTrue, None, Some, length, option_map, slice_get};
 ghost use Rattle.std.specs.List.{HoldsAt};
 ghost use Rattle.infer.specs.First.{IsFirstOf, SomeHas};
+ghost use Rattle.infer.specs.Reading.{ShowsAnswer};
 ghost use Rattle.infer.specs.Row.{Accepts};
 ghost use Rattle.infer.specs.Table.{table};
 ghost use Rattle.infer.specs.Triple.{triple_of};
@@ -16,8 +17,8 @@ use crate::index::FURTHER_COUNT;
 use crate::index::search::{found, found_parentless};
 use crate::listed::{EndedTexts, FurtherRow, alternatives_of, ended_at, row_at};
 use crate::{listed, signature};
-use infer::Type;
 use infer::rows::{ROW_COUNT, numbers as law_numbers};
+use infer::{Identify, Type};
 
 /// The number of the wider answer of a buffer whose built-in answer is this.
 #[inline(always)]
@@ -55,6 +56,19 @@ pub fn get(buf: &[u8]) -> Option<Type>
     ensures { IsWiderAnswer buf.now (option_map triple_of result) }
 {
     get_from(infer::position(buf), buf)
+}
+
+/// Asks for the type of the wider answer.
+pub struct Wider;
+
+impl Identify for Wider {
+    type Answer = Option<Type>;
+
+    ghost identifies = { λ _. ShowsAnswer IsWiderAnswer };
+
+    fn identify(&self, bytes: &[u8]) -> Option<Type> {
+        get(bytes)
+    }
 }
 
 /// A type keeps no matcher, so it is given one that accepts nothing.

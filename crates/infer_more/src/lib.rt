@@ -9,9 +9,9 @@
 //!
 //! Each module uses only those before it: `signature`, one function that decides any signature; `table`, the rows, and that
 //! function for each of them; `index`, which rows are asked; `answers`, what they answer, and each row by its number;
-//! `types`, those that a text describes; `added`, the rows of a caller; `read`, the front of a file or of a reader; `laws`,
-//! facts about all of these; `samples`; `open`, what the bytes after a buffer can bring a signature; `decided`, what they
-//! can change of the answer; `why`, which bytes decide it.
+//! `types`, those that a text describes; `added`, the rows of a caller; `laws`, facts about all of these; `samples`; `open`,
+//! what the bytes after a buffer can bring a signature; `decided`, what they can change of the answer; `why`, which bytes
+//! decide it.
 #![tactic(auto)]
 
 ghost use Rattle.std.specs.Prelude.{◌≡◌, ◌+◌, ◌<◌, ◌≤◌, ◌↔◌, ◌⊎◌, IfOk, IfSome, IsTrue, None, option_map, slice_get};
@@ -34,15 +34,15 @@ mod index;
 pub mod laws;
 mod listed;
 mod open;
-mod read;
 mod samples;
 mod signature;
 mod table;
 pub mod types;
 mod why;
 
+use answers::Wider;
 pub use index::FURTHER_COUNT;
-use infer::{FRONT, Fault, Infer, Type, Watched};
+use infer::{FRONT, Fault, Infer, Type, Watched, identify_opened, identify_path, identify_reader};
 pub use infer_formats::text;
 pub use infer_notation::Reason;
 pub use listed::EndedTexts;
@@ -182,7 +182,7 @@ pub fn get_from_reader<A: Allocator, R: Read>(
     requires { fault_of r.old ≡ None }
     ensures { AnswersReader R.remaining FRONT IsWiderAnswer r.old r.new result }
 {
-    read::get_from_reader_within(alloc, r, FRONT)
+    identify_reader(&Wider, alloc, r, FRONT)
 }
 
 /// [`get_from_reader`] with `n` bytes in place of 8192, of which there are from 1 to 65536.
@@ -196,7 +196,7 @@ pub fn get_from_reader_within<A: Allocator, R: Read>(
     requires most { n ≤ 65536 }
     ensures { AnswersReader R.remaining n IsWiderAnswer r.old r.new result }
 {
-    read::get_from_reader_within(alloc, r, n)
+    identify_reader(&Wider, alloc, r, n)
 }
 
 /// The type of the wider answer of the first 8192 bytes of a file, or all if it has fewer. It opens the file, reserves
@@ -208,7 +208,7 @@ pub fn get_from_path<R: Files, A: Allocator>(
 ) -> Result<Option<Type>, Fault>
     ensures { AnswersSome FRONT IsWiderAnswer result }
 {
-    read::get_from_path_within(rt, alloc, path, FRONT)
+    identify_path(&Wider, rt, alloc, path, FRONT)
 }
 
 /// [`get_from_path`] with `n` bytes in place of 8192, of which there are from 1 to 65536.
@@ -222,7 +222,7 @@ pub fn get_from_path_within<R: Files, A: Allocator>(
     requires most { n ≤ 65536 }
     ensures { AnswersSome n IsWiderAnswer result }
 {
-    read::get_from_path_within(rt, alloc, path, n)
+    identify_path(&Wider, rt, alloc, path, n)
 }
 
 /// [`get_from_path_within`] for what is opened already, or for the error that opening gave, which is `Open` then. It reads
@@ -235,5 +235,5 @@ pub fn get_from_opened<A: Allocator, R: Read>(
     requires { IfOk opened.old (λ r. fault_of r ≡ None) }
     ensures { AnswersOpened R.remaining n IsWiderAnswer opened.old opened.new result }
 {
-    read::get_from_opened(room, opened, n)
+    identify_opened(&Wider, room, opened, n)
 }

@@ -13,6 +13,5 @@ pub mod Named
 pub mod Own
 pub mod Parts
 pub mod Odd
-pub mod Reading
 pub mod Nameless
 pub mod Laws

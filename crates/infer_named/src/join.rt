@@ -15,7 +15,7 @@ use crate::rows::is_among;
 use crate::table::{
     Asks, Key, NamedType, Origin, Reading, leads, mime_type, readings_of, row_text,
 };
-use infer::Type;
+use infer::{Identify, Type};
 
 /// What the name did.
 #[derive(Clone, Copy, Debug, PartialEq, Eq)]
@@ -134,6 +134,22 @@ pub fn named_of(name: &[u8], buf: &[u8]) -> Named
     ensures { IsNamed name.now buf.now result }
 {
     answer(name, buf, infer_more::get(buf))
+}
+
+/// Asks what this name and the bytes tell.
+#[derive(Drop)]
+pub struct Under<'a> {
+    pub name: &'a [u8],
+}
+
+impl Identify for Under<'_> {
+    type Answer = Named;
+
+    ghost identifies = { λ s. IsNamed s.name.now };
+
+    fn identify(&self, bytes: &[u8]) -> Named {
+        named_of(self.name, bytes)
+    }
 }
 
 /// What the name and the bytes tell, whose wider answer has this type. It is not inlined, so that its instructions are counted

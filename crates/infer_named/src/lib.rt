@@ -6,11 +6,11 @@
 //!
 //! Each module uses only those before it: `table`, the keys with their readings; `marks`, which texts are no whole name;
 //! `names`, the key of a name; `bytes`, what is asked of the bytes beside their wider answer; `rows`, whether a set of rows
-//! has a type; `join`, all together; `own`, types of a text beside these; `read`, the front of a file or of a reader; `odd`,
-//! what is odd about a name.
+//! has a type; `join`, all together; `own`, types of a text beside these; `odd`, what is odd about a name.
 #![tactic(auto)]
 
 ghost use Rattle.std.specs.Prelude.{◌≡◌, ◌≤◌, IfOk, None, option_map};
+ghost use Rattle.infer.specs.Reading.{IdentifiesOpened, IdentifiesReader, IdentifiesSome};
 ghost use Rattle.infer.specs.Triple.{triple_of};
 ghost use Rattle.infer.specs.Watched.{fault_of};
 ghost use Rattle.infer_more.specs.Wider.{IsWiderAnswer};
@@ -19,7 +19,6 @@ ghost use Rattle.infer_named.specs.Listed.{key_listed};
 ghost use Rattle.infer_named.specs.Named.{IsNamed};
 ghost use Rattle.infer_named.specs.Names.{IsKey};
 ghost use Rattle.infer_named.specs.Odd.{AreOddities};
-ghost use Rattle.infer_named.specs.Reading.{NamesOpened, NamesReader, NamesSome};
 ghost use Rattle.infer_named.specs.Table.{keys};
 
 mod bytes;
@@ -29,12 +28,12 @@ mod marks;
 mod names;
 mod odd;
 mod own;
-mod read;
 mod rows;
 mod table;
 
 pub use bytes::{Kind, Lead};
-use infer::{FRONT, Fault, Type, Watched};
+use infer::{FRONT, Fault, Type, Watched, identify_opened, identify_path, identify_reader};
+use join::Under;
 pub use join::{Named, Standing, Told};
 pub use odd::Oddities;
 pub use own::{NamedBy, named_by};
@@ -67,9 +66,9 @@ pub fn named_from_reader<A: Allocator, R: Read>(
     r: &mut Watched<R>,
 ) -> Result<Named, Fault>
     requires { fault_of r.old ≡ None }
-    ensures { NamesReader R.remaining FRONT name.now r.old r.new result }
+    ensures { IdentifiesReader R.remaining FRONT (IsNamed name.now) r.old r.new result }
 {
-    read::named_from_reader_within(alloc, name, r, FRONT)
+    identify_reader(&Under { name }, alloc, r, FRONT)
 }
 
 /// [`named_from_reader`] with `n` bytes in place of 8192, of which there are from 1 to 65536.
@@ -82,17 +81,25 @@ pub fn named_from_reader_within<A: Allocator, R: Read>(
     requires no_fault { fault_of r.old ≡ None }
     requires least { 1 ≤ n }
     requires most { n ≤ 65536 }
-    ensures { NamesReader R.remaining n name.now r.old r.new result }
+    ensures { IdentifiesReader R.remaining n (IsNamed name.now) r.old r.new result }
 {
-    read::named_from_reader_within(alloc, name, r, n)
+    identify_reader(&Under { name }, alloc, r, n)
 }
 
 /// What a path, as a name, and the first 8192 bytes of its file tell, or all if it has fewer. It opens the file, reserves
 /// 8192 bytes and reads, in this order.
 pub fn named_from_path<R: Files, A: Allocator>(rt: &R, alloc: A, path: &str) -> Result<Named, Fault>
-    ensures { NamesSome FRONT path.now result }
+    ensures { IdentifiesSome FRONT (IsNamed path.now) result }
 {
-    read::named_from_path_within(rt, alloc, path, FRONT)
+    identify_path(
+        &Under {
+            name: path.as_bytes(),
+        },
+        rt,
+        alloc,
+        path,
+        FRONT,
+    )
 }
 
 /// [`named_from_path`] with `n` bytes in place of 8192, of which there are from 1 to 65536.
@@ -104,9 +111,17 @@ pub fn named_from_path_within<R: Files, A: Allocator>(
 ) -> Result<Named, Fault>
     requires least { 1 ≤ n }
     requires most { n ≤ 65536 }
-    ensures { NamesSome n path.now result }
+    ensures { IdentifiesSome n (IsNamed path.now) result }
 {
-    read::named_from_path_within(rt, alloc, path, n)
+    identify_path(
+        &Under {
+            name: path.as_bytes(),
+        },
+        rt,
+        alloc,
+        path,
+        n,
+    )
 }
 
 /// [`named_from_path_within`] under any name, for what is opened already, or for the error that opening gave, which is `Open`
@@ -118,9 +133,9 @@ pub fn named_from_opened<A: Allocator, R: Read>(
     n: usize,
 ) -> Result<Named, Fault>
     requires { IfOk opened.old (λ r. fault_of r ≡ None) }
-    ensures { NamesOpened R.remaining n name.now opened.old opened.new result }
+    ensures { IdentifiesOpened R.remaining n (IsNamed name.now) opened.old opened.new result }
 {
-    read::named_from_opened(room, name, opened, n)
+    identify_opened(&Under { name }, room, opened, n)
 }
 
 /// The key of the name, and `None` exactly if it has none.

@@ -3,7 +3,7 @@ ghost use Rattle.std.specs.Prelude.{◌≡◌, ◌↔◌, None, Some, [], ◌∷
 ghost use Rattle.infer.specs.Caller.{FixesAnswers};
 ghost use Rattle.infer.specs.First.{IsAnswer, SomeHas};
 ghost use Rattle.infer.specs.Questions.{HasClass, HasExtension, HasMimeType, IsAsked, SomeBoth};
-ghost use Rattle.infer.specs.Reading.{AnswersOpened, AnswersReader, AnswersSome};
+ghost use Rattle.infer.specs.Reading.{AnswersOpened, AnswersReader, AnswersSome, ShowsAnswer};
 ghost use Rattle.infer.specs.Rows.{AnyAccepts, custom_row, custom_rows, given, rows};
 ghost use Rattle.infer.specs.Triple.{triple, triple_of};
 ghost use Rattle.infer.specs.Watched.{fault_of};
@@ -15,12 +15,14 @@ use crate::candidates::classes::{
     App, Archive, Audio, Book, Class, Custom, Doc, Font, Image, OfClass, Video,
 };
 use crate::read::fault::Fault;
-use crate::read::head::{FRONT, lengthen, make_room, read_head};
+use crate::read::head::FRONT;
+use crate::read::identify::{
+    Identify, identify_opened, identify_path, identify_reader, identify_reader_in,
+};
 use crate::read::watched::Watched;
 use crate::table::file_type::{FileType, Matcher};
 use crate::{answers, texts};
 use std::alloc::{AllocError, Allocator, Global};
-use std::fs::File;
 use std::io;
 use std::io::Read;
 use std::marker::PhantomData;
@@ -49,6 +51,16 @@ impl Default for Infer {
         ensures { custom_rows result ≡ [] }
     {
         Infer::new()
+    }
+}
+
+impl<A: Allocator> Identify for Infer<A> {
+    type Answer = Option<FileType>;
+
+    ghost identifies = { λ s b. ShowsAnswer (λ b. IsAnswer (AnyAccepts b) (rows s)) b };
+
+    fn identify(&self, bytes: &[u8]) -> Option<FileType> {
+        self.get(bytes)
     }
 }
 
@@ -177,8 +189,7 @@ impl<A: Allocator> Infer<A> {
         ensures { AnswersReader R.remaining n (λ b. IsAnswer (AnyAccepts b) (rows self.now))
             r.old r.new result }
     {
-        let mut room = make_room(alloc, n)?;
-        self.get_from_reader_in(room.as_mut_slice(), r)
+        identify_reader(self, alloc, r, n)
     }
 
     /// [`Infer::get_from_reader`] with as many bytes as there are in `room`, into which it reads. It reserves nothing.
@@ -194,10 +205,7 @@ impl<A: Allocator> Infer<A> {
             (λ b. IsAnswer (AnyAccepts b) (rows self.now)) r.old r.new result }
         ensures no_memory { ¬ IsErrOf result Fault.Memory }
     {
-        match read_head(r, room) {
-            Ok(count) => Ok(self.get(&room[..count])),
-            Err(kind) => Err(Fault::Read(kind)),
-        }
+        identify_reader_in(self, room, r)
     }
 
     /// [`Infer::get_from_path`] with `n` bytes in place of 8192, of which there are from 1 to 65536.
@@ -212,8 +220,7 @@ impl<A: Allocator> Infer<A> {
         requires most { n ≤ 65536 }
         ensures { AnswersSome n (λ b. IsAnswer (AnyAccepts b) (rows self.now)) result }
     {
-        let mut opened = File::open(rt, path).map(Watched::new);
-        self.get_from_opened(&mut Vec::new(alloc), &mut opened, n)
+        identify_path(self, rt, alloc, path, n)
     }
 
     /// [`Infer::get_from_path_within`] for what is opened already, or for the error that opening gave, which is `Open`
@@ -231,13 +238,7 @@ impl<A: Allocator> Infer<A> {
         ensures { AnswersOpened R.remaining n (λ b. IsAnswer (AnyAccepts b) (rows self.now))
             opened.old opened.new result }
     {
-        match opened {
-            Ok(r) => {
-                lengthen(room, n)?;
-                self.get_from_reader_in(&mut room.as_mut_slice()[..n], r)
-            }
-            Err(error) => Err(Fault::Open(error.kind())),
-        }
+        identify_opened(self, room, opened, n)
     }
 
     /// Whether some row with this extension accepts `buf`, which need not be the answer: allow by [`Infer::get`].
