@@ -15,8 +15,11 @@
 #![tactic(auto)]
 
 ghost use Rattle.std.specs.Prelude.{◌≡◌, ◌+◌, ◌<◌, ◌≤◌, ◌↔◌, ◌⊎◌, IfOk, IfSome, IsTrue, None, option_map, slice_get};
+ghost use Rattle.infer.specs.First.{IsFirstOf};
 ghost use Rattle.infer.specs.Reading.{AnswersOpened, AnswersReader, AnswersSome};
+ghost use Rattle.infer.specs.Row.{Accepts};
 ghost use Rattle.infer.specs.Rows.{custom_rows};
+ghost use Rattle.infer.specs.Table.{table};
 ghost use Rattle.infer.specs.Triple.{triple_of};
 ghost use Rattle.infer.specs.Watched.{fault_of};
 ghost use Rattle.infer.specs.declared.table.rows.TheConstants.{ROW_COUNT};
@@ -64,6 +67,14 @@ pub fn get(buf: &[u8]) -> Option<Type>
     ensures { IsWiderAnswer buf.now (option_map triple_of result) }
 {
     answers::get(buf)
+}
+
+/// [`get`] where the number of the built-in answer is known already.
+pub fn get_below(parent: Option<usize>, buf: &[u8]) -> Option<Type>
+    requires { IsFirstOf (Accepts buf.now) table parent }
+    ensures { IsWiderAnswer buf.now (option_map triple_of result) }
+{
+    answers::get_from(parent, buf)
 }
 
 /// The type of the first row that was added to `infer` and accepts `buf`, or of the wider answer of `buf` if none does.

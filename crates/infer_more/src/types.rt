@@ -99,7 +99,8 @@ impl<'a> Types<'a> {
         ensures { (rows : List Row) → rows_of self.now.text.now ≡ Some rows
             → IsTypesAnswer rows buf.now (option_map found_shows result) }
     {
-        let (parent, extension) = built_in(buf);
+        let parent = infer::position(buf);
+        let extension = built_in(parent, buf);
         match self.find(extension, buf) {
             Some(found) => Some(found),
             None => wider(parent, buf),
@@ -173,7 +174,8 @@ pub fn get<'a>(text: &'a [u8], buf: &[u8]) -> Option<Found<'a>>
     ensures { (rows : List Row) → rows_of text.now ≡ Some rows
         → IsTypesAnswer rows buf.now (option_map found_shows result) }
 {
-    let (parent, extension) = built_in(buf);
+    let parent = infer::position(buf);
+    let extension = built_in(parent, buf);
     match find(text, extension, buf) {
         Some(found) => Some(found),
         None => wider(parent, buf),
@@ -186,7 +188,16 @@ pub fn own<'a>(text: &'a [u8], buf: &[u8]) -> Option<Found<'a>>
     ensures { (rows : List Row) → rows_of text.now ≡ Some rows
         → IsOwnAnswer rows buf.now (option_map found_shows result) }
 {
-    let (_, extension) = built_in(buf);
+    own_below(infer::position(buf), text, buf)
+}
+
+/// [`own`] where the number of the built-in answer is known already.
+pub fn own_below<'a>(parent: Option<usize>, text: &'a [u8], buf: &[u8]) -> Option<Found<'a>>
+    requires { IsFirstOf (Accepts buf.now) table parent }
+    ensures { (rows : List Row) → rows_of text.now ≡ Some rows
+        → IsOwnAnswer rows buf.now (option_map found_shows result) }
+{
+    let extension = built_in(parent, buf);
     find(text, extension, buf)
 }
 
@@ -195,7 +206,7 @@ pub fn own<'a>(text: &'a [u8], buf: &[u8]) -> Option<Found<'a>>
 pub fn answer_line(text: &[u8], buf: &[u8]) -> Option<usize>
     ensures { IsTrue (is_some (rows_of text.now)) → IsAnswerLine text.now buf.now result }
 {
-    let (_, extension) = built_in(buf);
+    let extension = built_in(infer::position(buf), buf);
     find_line(text, extension, buf)
 }
 
@@ -222,15 +233,16 @@ fn find_line(text: &[u8], extension: Option<&[u8]>, buf: &[u8]) -> Option<usize>
     }
 }
 
-/// The number of the built-in answer, and its extension.
-fn built_in(buf: &[u8]) -> (Option<usize>, Option<&'static [u8]>)
-    ensures number { IsFirstOf (Accepts buf.now) table result.0 }
-    ensures extension { (parent : Option Triple) × IsAnswer (Accepts buf.now) table parent
-        × (option_map (λ e. e.now) result.1 ≡ option_map (λ p. p.extension) parent) }
+/// The extension of the built-in answer of the buffer, whose number this is.
+fn built_in(parent: Option<usize>, buf: &[u8]) -> Option<&'static [u8]>
+    requires { IsFirstOf (Accepts buf.now) table parent }
+    ensures { (found : Option Triple) × IsAnswer (Accepts buf.now) table found
+        × (option_map (λ e. e.now) result ≡ option_map (λ p. p.extension) found) }
 {
-    match infer::position(buf) {
-        Some(row) => (Some(row), extension_of(row)),
-        None => (None, None),
+    let _ = buf;
+    match parent {
+        Some(row) => extension_of(row),
+        None => None,
     }
 }
 

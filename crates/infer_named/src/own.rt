@@ -4,7 +4,7 @@ ghost use Rattle.infer_more.specs.Line.{Row};
 ghost use Rattle.infer_more.specs.Text.{rows_of};
 ghost use Rattle.infer_named.specs.Own.{IsNamedBy};
 
-use crate::join::{Named, named_of};
+use crate::join::{Named, answer};
 use infer_more::types::{self, Found};
 
 /// What the types of a text, a name and bytes tell.
@@ -22,8 +22,9 @@ pub enum NamedBy<'a> {
 pub fn named_by<'a>(text: &'a [u8], name: &[u8], buf: &[u8]) -> NamedBy<'a>
     ensures { (rows : List Row) → rows_of text.now ≡ Some rows → IsNamedBy rows name.now buf.now result }
 {
-    match types::own(text, buf) {
+    let parent = infer::position(buf);
+    match types::own_below(parent, text, buf) {
         Some(found) => NamedBy::Own(found),
-        None => NamedBy::Named(named_of(name, buf)),
+        None => NamedBy::Named(answer(name, buf, infer_more::get_below(parent, buf))),
     }
 }

@@ -5,7 +5,7 @@ use Rattle.infer_more.proofs.types.answer_line.Goals as goal
 
 pub returns : goal.returns
 returns c = λ described.
-    let (parent, answers, same) = c.built_in.ensures.extension in
+    let (parent, answers, same) = c.built_in-extension.ensures in
     let (place, first, is) = c.find_line.ensures described in
     record {
       parent = parent;
