@@ -59,7 +59,7 @@ pub(crate) fn has_name_and_text(root: &Option<Root<'_>>, name: &[u8], text: &[u8
 pub fn has_root(buf: &[u8], name: &[u8]) -> bool
     ensures { IsTrue result ↔ HasRoot name.now buf.now }
 {
-    has_name(&root_apart(buf), name)
+    has_name(&root_of(buf), name)
 }
 
 /// Whether the root element has this local name, and the text in its tag behind the name.
@@ -67,7 +67,7 @@ pub fn has_root(buf: &[u8], name: &[u8]) -> bool
 pub fn has_root_with(buf: &[u8], name: &[u8], text: &[u8]) -> bool
     ensures { IsTrue result ↔ HasRootWith name.now text.now buf.now }
 {
-    has_name_and_text(&root_apart(buf), name, text)
+    has_name_and_text(&root_of(buf), name, text)
 }
 
 /// The root element of markup, as that of the name "svg" in `<?xml version="1.0"?><!-- --><s:svg>`.
@@ -77,7 +77,7 @@ pub fn has_root_with(buf: &[u8], name: &[u8], text: &[u8]) -> bool
 /// that, all up to its "]" comes first: one in quotes, a comment or an instruction is none. The root element's tag follows:
 /// "<" and its name, which goes up to white space, "/" or ">", begins with neither "!" nor "?", and ends within the buffer.
 /// If a document type was declared, its name is the same.
-#[inline(always)]
+#[inline(never)]
 pub fn root_of(buf: &[u8]) -> Option<Root<'_>>
     ensures found { IsRootOf result buf.now }
     ensures only { IfSome result
@@ -89,17 +89,6 @@ pub fn root_of(buf: &[u8]) -> Option<Root<'_>>
         name: &buf[tag.at..tag.to],
         rest: &buf[tag.to..],
     })
-}
-
-/// [`root_of`] as a function of its own, so that the functions here share its code.
-#[inline(never)]
-fn root_apart(buf: &[u8]) -> Option<Root<'_>>
-    ensures found { IsRootOf result buf.now }
-    ensures only { IfSome result
-        (λ r. (name rest : List ℕ) → IsRootElement name rest buf.now → (name ≡ r.name.now)
-        × (rest ≡ r.rest.now)) }
-{
-    root_of(buf)
 }
 
 /// Whether the buffer may have a root element, by its first tag: a byte order mark stands first, or white space, perhaps none,

@@ -5,14 +5,14 @@ ghost use Rattle.infer_formats.specs.Markup.{HasClosing, HasInTag, HasRoot, HasR
 
 use super::names::is_xml_space;
 use super::prolog::{prolog_end, prolog_start};
-use super::{Root, ends_in_mark, root_apart};
+use super::{Root, ends_in_mark, root_of};
 use infer_deep::places::may_stand_at;
 
 /// Whether some bytes after `buf`, or none, may give it a root element with this local name.
 pub fn may_have_root(buf: &[u8], name: &[u8]) -> bool
     ensures { MayBecome (HasRoot name.now) buf.now → IsTrue result }
 {
-    match root_apart(buf) {
+    match root_of(buf) {
         Some(root) => is_same(root.name, name),
         None => may_come_to_root(buf),
     }
@@ -23,7 +23,7 @@ pub fn may_have_root(buf: &[u8], name: &[u8]) -> bool
 pub fn may_have_root_with(buf: &[u8], name: &[u8], text: &[u8]) -> bool
     ensures { MayBecome (HasRootWith name.now text.now) buf.now → IsTrue result }
 {
-    match root_apart(buf) {
+    match root_of(buf) {
         Some(root) => is_same(root.name, name) && may_have_in_tag(&root, text),
         None => may_come_to_root(buf),
     }
@@ -35,7 +35,7 @@ pub fn tells_root(front: &[u8]) -> bool
     ensures ended { (name rest : List ℕ) → IsRootElement name rest front.now → HasClosing rest
         → IsTrue result }
 {
-    match root_apart(front) {
+    match root_of(front) {
         Some(root) => has_closing(root.rest),
         None => !may_come_to_root(front),
     }
