@@ -7,7 +7,7 @@ ghost use Rattle.infer_formats.specs.FirstKey.{StandsFirst};
 ghost use Rattle.infer_formats.specs.Json.{IsBlank, IsJson, IsJsonLines};
 ghost use Rattle.infer_formats.specs.Tiff.{HasTag};
 ghost use Rattle.infer_formats.specs.Zip.{IsPackageWith};
-ghost use Rattle.infer_more.specs.Index.{AllApplications, AreClassIds, HasKeyValue, HasTagText, IsFoundBelow, IsKeyed, IsKeyedBy, IsLeast, IsNamed, IsOfProgram, IsRooted, IsRootedBy, IsTextRow, IsTold, IsTried, MayBeTold, all_ascend, all_of, are_texts, ascends, below_at, bucket_at, bucket_of, candidate, candidates, has_byte, is_true_below, keyed_row, named_row, picked, rooted_row, roots_of, tried_at};
+ghost use Rattle.infer_more.specs.Index.{AllApplications, AreClassIds, FindsBelow, HasKeyValue, HasTagText, IsFoundBelow, IsKeyed, IsKeyedBy, IsLeast, IsNamed, IsOfProgram, IsRooted, IsRootedBy, IsTextRow, IsTold, IsTried, IsWayBelow, MayBeTold, all_ascend, all_of, are_texts, ascends, below_at, bucket_at, bucket_of, candidate, candidates, has_byte, is_true_below, keyed_row, named_row, picked, rooted_row, roots_of, tried_at};
 ghost use Rattle.infer_more.specs.Listed.{stretch};
 ghost use Rattle.infer_more.specs.Wider.{IsWidened, WidensAt};
 ghost use Rattle.infer_more.specs.declared.index.generated.TheConstants.{FURTHER_COUNT};
@@ -231,12 +231,12 @@ fn least_told(told: &Told, buf: &[u8], before: usize) -> usize
     if has_byte(buf, 0, b'<') {
         return least_begun_markup(told.roots, buf, before);
     }
-    least_told_apart(told, buf, before)
+    least_past_space(told, buf, before)
 }
 
-/// [`least_told`] by the first byte behind white space. A function of its own, so that few buffers take what it needs.
+/// [`least_told`] by the first byte behind white space. It is not inlined, since few buffers begin so.
 #[inline(never)]
-fn least_told_apart(told: &Told, buf: &[u8], before: usize) -> usize
+fn least_past_space(told: &Told, buf: &[u8], before: usize) -> usize
     requires roots { IsTrue (all_ascend rooted_row told.now.roots.now) }
     requires keys { IsTrue (ascends keyed_row told.now.keys.now) }
     ensures { IsLeast (IsTold told.now buf.now) before result }
@@ -327,7 +327,7 @@ fn least_keyed(keys: &[Keyed], key: &Key<'_>, before: usize) -> usize
     before
 }
 
-/// [`least_root`] of a buffer whose first tag may be no tag. A function of its own, so that few buffers take what it needs.
+/// [`least_root`] of a buffer whose first tag may be no tag. It is not inlined, since few buffers begin so.
 #[inline(never)]
 fn least_begun_markup(roots: &'static [&'static [Rooted]], buf: &[u8], before: usize) -> usize
     requires { IsTrue (all_ascend rooted_row roots.now) }
@@ -337,15 +337,6 @@ fn least_begun_markup(roots: &'static [&'static [Rooted]], buf: &[u8], before: u
     if !may_be_rooted(buf) {
         return before;
     }
-    least_root_apart(roots, buf, before)
-}
-
-/// [`least_root`] as a function of its own, so that a buffer whose first tag is none takes nothing of what it needs.
-#[inline(never)]
-fn least_root_apart(roots: &'static [&'static [Rooted]], buf: &[u8], before: usize) -> usize
-    requires { IsTrue (all_ascend rooted_row roots.now) }
-    ensures { IsLeast (IsRooted buf.now roots.now) before result }
-{
     least_root(roots, buf, before)
 }
 
@@ -577,16 +568,30 @@ pub(super) fn below_at(ways: &'static [Below], i: usize) -> &'static Below
     }
 }
 
-/// The number of the wider answer of a buffer whose built-in answer is this row.
+/// [`found`] of a row below which others are told in this way.
 #[inline(never)]
-pub(crate) fn found(row: usize, buf: &[u8]) -> usize
+fn found_in(way: &Below, row: usize, buf: &[u8]) -> usize
+    requires each { IsWayBelow row way.now }
+    requires finds { FindsBelow row way.now }
     ensures { IsWidened (Some row) buf.now (Some result) }
 {
-    let least = least_found(way_below(row), row, buf);
+    let least = least_found(way, row, buf);
     if least < FURTHER_COUNT {
         ROW_COUNT + least
     } else {
         row
+    }
+}
+
+/// The number of the wider answer of a buffer whose built-in answer is this row. One below which there are no others costs no
+/// call.
+#[inline(always)]
+pub(crate) fn found(row: usize, buf: &[u8]) -> usize
+    ensures { IsWidened (Some row) buf.now (Some result) }
+{
+    match way_below(row) {
+        Below::Nothing => row,
+        way => found_in(way, row, buf),
     }
 }
 
