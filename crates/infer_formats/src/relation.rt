@@ -4,7 +4,7 @@ ghost use Rattle.std.specs.Prelude.{◌≡◌, ◌≤◌, ◌↔◌, [], IfSome,
 ghost use Rattle.infer_deep.specs.Signatures.{MayBecome};
 ghost use Rattle.infer_formats.specs.Open.{Stays};
 ghost use Rattle.infer_formats.specs.Markup.{TellsByRoot};
-ghost use Rattle.infer_formats.specs.Relation.{Fits, IsSound, class_id, dbase, directory_tag, directory_tag_and_make, has_entry, header, is_of_root, least_of, model, model_listed, name_listed, names, of_text, package_with, program, relation_listed, root, root_with, shared_object};
+ghost use Rattle.infer_formats.specs.Relation.{Fits, IsSound, class_id, dbase, directory_tag, directory_tag_and_make, first_key, first_key_with, has_entry, header, is_of_root, least_of, model, model_listed, name_listed, names, of_text, package_with, program, relation_listed, root, root_with, shared_object, text_first_with_all};
 
 use crate::begins::{begins, begins_and_has, begins_and_has_all, may_begin};
 use crate::dbase::{is_dbase, may_become_dbase};
@@ -334,28 +334,10 @@ impl<'a> Relation<'a> {
                 at(0, text),
                 at(text.len(), other),
             ),
-            Relation::TextFirstWithAll(text, u, v, w) => four(
-                text.len() + u.len() + v.len() + w.len(),
-                at(0, text),
-                at(text.len(), u),
-                at(text.len() + u.len(), v),
-                at(text.len() + u.len() + v.len(), w),
-            ),
+            Relation::TextFirstWithAll(text, u, v, w) => texts(text, u, v, w),
             Relation::Header(text, far, low, _) => program_with_header(text, *far, *low),
-            Relation::FirstKey(key) => three(
-                4 + key.len(),
-                at(0, b"{\""),
-                at(2, key),
-                at(2 + key.len(), b"\":"),
-            ),
-            Relation::FirstKeyWith(key, value) => five(
-                6 + key.len() + value.len(),
-                at(0, b"{\""),
-                at(2, key),
-                at(2 + key.len(), b"\":\""),
-                at(5 + key.len(), value),
-                at(5 + key.len() + value.len(), b"\""),
-            ),
+            Relation::FirstKey(key) => object_with_key(key),
+            Relation::FirstKeyWith(key, value) => object_with_value(key, value),
             Relation::Animated => two(16, at(0, b"\x89PNG"), at(12, b"acTL")),
             Relation::SubRip => one(31, at(0, b"0\n00:00:00,000 --> 00:00:00,000")),
             Relation::Dbase => table(),
@@ -380,6 +362,51 @@ fn object() -> Model<'static>
         at(4, b"\x01\x01"),
         at(16, b"\x03"),
         at(42, b"\x20\0\x01"),
+    )
+}
+
+/// That of texts, one behind the other.
+fn texts<'b>(text: &'b [u8], u: &'b [u8], v: &'b [u8], w: &'b [u8]) -> Model<'b>
+    requires { least_of (model [] (text_first_with_all text.now u.now v.now w.now)) ≤ 65536 }
+    ensures model { model_listed result ≡ model [] (text_first_with_all text.now u.now v.now w.now) }
+    ensures few { result.count ≤ 5 }
+{
+    four(
+        text.len() + u.len() + v.len() + w.len(),
+        at(0, text),
+        at(text.len(), u),
+        at(text.len() + u.len(), v),
+        at(text.len() + u.len() + v.len(), w),
+    )
+}
+
+/// That of an object: its first key.
+fn object_with_key<'b>(key: &'b [u8]) -> Model<'b>
+    requires { length key.now ≤ 65536 }
+    ensures model { model_listed result ≡ model [] (first_key key.now) }
+    ensures few { result.count ≤ 5 }
+{
+    three(
+        4 + key.len(),
+        at(0, b"{\""),
+        at(2, key),
+        at(2 + key.len(), b"\":"),
+    )
+}
+
+/// And the value behind the key.
+fn object_with_value<'b>(key: &'b [u8], value: &'b [u8]) -> Model<'b>
+    requires { least_of (model [] (first_key_with key.now value.now)) ≤ 65536 }
+    ensures model { model_listed result ≡ model [] (first_key_with key.now value.now) }
+    ensures few { result.count ≤ 5 }
+{
+    five(
+        6 + key.len() + value.len(),
+        at(0, b"{\""),
+        at(2, key),
+        at(2 + key.len(), b"\":\""),
+        at(5 + key.len(), value),
+        at(5 + key.len() + value.len(), b"\""),
     )
 }
 

@@ -7,7 +7,6 @@ use super::MARK;
 use infer_deep::places::may_stand_at;
 
 /// Whether some bytes after `buf`, or none, may make the text stand first, or behind a byte order mark.
-#[tactic(auto, using(crate::proofs::BeginsLemmas::begins_known))]
 pub fn may_begin(buf: &[u8], text: &[u8]) -> bool
     ensures { MayBecome (Begins text.now) buf.now → IsTrue result }
 {

@@ -7,7 +7,6 @@ use super::{HEADER_SIZE, tag_size};
 use infer_deep::places::may_stand_at;
 
 /// Whether some bytes after `buf`, or none, may make the text stand right behind a tag that stands first.
-#[tactic(auto, using(crate::proofs::Id3Lemmas::behind_known))]
 pub fn may_be_behind_id3(buf: &[u8], text: &[u8]) -> bool
     ensures { MayBecome (IsBehindId3 text.now) buf.now → IsTrue result }
 {
