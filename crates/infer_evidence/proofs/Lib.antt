@@ -4,3 +4,4 @@ pub mod RangeLemmas
 mod SearchLemmas
 mod PartLemmas
 pub mod ListedLemmas
+mod OpenLemmas

@@ -3,11 +3,11 @@ use Rattle.infer_evidence.proofs.Common.{◌<◌, ◌≤◌, zero, suc, arith, l
 
 -- tests of the images of a list
 module _ {A B : Type 0} (p : B → Bool) (f : A → B) where
-  list_any_map : (xs : List A) → list_any p (map f xs) ≡ list_any (λ x. p (f x)) xs
+  pub list_any_map : (xs : List A) → list_any p (map f xs) ≡ list_any (λ x. p (f x)) xs
   list_any_map [] = refl
   list_any_map (x ∷ xs) = ap (λ rest. p (f x) || rest) (list_any_map xs)
 
-  list_all_map : (xs : List A) → list_all p (map f xs) ≡ list_all (λ x. p (f x)) xs
+  pub list_all_map : (xs : List A) → list_all p (map f xs) ≡ list_all (λ x. p (f x)) xs
   list_all_map [] = refl
   list_all_map (x ∷ xs) = ap (λ rest. p (f x) && rest) (list_all_map xs)
 

@@ -10,7 +10,7 @@ use Rattle.infer_sig.specs.Open.{agrees, may_have, may_fit, may_become, has_byte
 use Rattle.infer_sig.specs.Signature.{Alternative, at_least, Bytes, any_of, between, all_but, Part, text, any_text, byte, allows, has_part, fits, stands, accepts}
 
 -- a text agrees with a buffer just if the buffer's bytes agree with it
-agrees_by_place : (place : ℕ) (t buf : List ℕ) → IsTrue (agrees place t buf) ↔ AgreesAt buf t place
+pub agrees_by_place : (place : ℕ) (t buf : List ℕ) → IsTrue (agrees place t buf) ↔ AgreesAt buf t place
 unfolding agrees
 agrees_by_place place t buf = grind (arith, nat_tests, stands_by_place, length-take, get_or-take)
 
