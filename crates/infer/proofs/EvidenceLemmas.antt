@@ -25,7 +25,7 @@ use Rattle.infer_evidence.specs.declared.search.TheConstants.{MOST_OF_A_SEARCH}
 use Rattle.infer_sig.specs.Signature as signature
 use Rattle.infer_sig.specs.Signature.{accepts}
 use Rattle.infer_evidence.specs.Listed.{signature_listed}
-use Rattle.infer.specs.declared.why.known.Known.{Known}
+use Rattle.infer.specs.declared.table.known.Known.{Known}
 
 module _ (first n : ℕ) (rows : List (Option Known)) (h : AreListed first n rows) (i : ℕ) (s : Option Known) (found : slice_get rows i ≡ Some s) where
   inside : i < n
@@ -49,12 +49,13 @@ fixed_by s alternatives e = absurd (cc)
 -- what is listed at a row's place is its signature
 pub row_listed_at : (row first n : ℕ) (rows : List (Option Known)) → first ≤ row → AreListed first n rows
     → (s : Option Known) → slice_get rows (row - first) ≡ Some s
-    → IfSome s (λ k. signature_of row ≡ fixed (signature_listed k.alternatives.now))
-row_listed_at row first n rows le h None found = tt
-row_listed_at row first n rows le h (Some a) found =
-    let place : first + (row - first) ≡ row = omega arith in
-    fixed_by (signature_of row) (signature_listed a.alternatives.now)
-    (subst (λ i. fixed_of (signature_of i) ≡ Some (signature_listed a.alternatives.now)) place (listed_at first n rows h (row - first) (Some a) found))
+    → MatchOption s (fixed_of (signature_of row) ≡ None) (λ k. signature_of row ≡ fixed (signature_listed k.alternatives.now))
+row_listed_at row first n rows le h s found = told s (subst (λ i. fixed_of (signature_of i) ≡ fixed_listed s) (omega arith) (listed_at first n rows h (row - first) s found))
+  where
+    told : (s : Option Known) → fixed_of (signature_of row) ≡ fixed_listed s
+        → MatchOption s (fixed_of (signature_of row) ≡ None) (λ k. signature_of row ≡ fixed (signature_listed k.alternatives.now))
+    told None e = e
+    told (Some a) e = fixed_by (signature_of row) (signature_listed a.alternatives.now) e
 
 -- a front tells of a row if it is accepted or nothing that begins so is
 module _ (lasts : (s : BuiltIn) → Lasts (IsAccepted s)) where

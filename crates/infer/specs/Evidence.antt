@@ -15,7 +15,7 @@ use Rattle.infer.specs.Decided.{MayBecomeRow}
 use Rattle.infer.specs.First.{IsFirstOf}
 use Rattle.infer.specs.Row.{Accepts}
 use Rattle.infer.specs.Table.{signature_of, table}
-use Rattle.infer.specs.declared.why.known.Known.{Known}
+use Rattle.infer.specs.declared.table.known.Known.{Known}
 use Rattle.infer.specs.Walks.{IsFirstAmong, RowHas}
 
 -- every buffer that agrees with b on the evidence has this answer

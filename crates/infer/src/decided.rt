@@ -5,7 +5,8 @@ ghost use Rattle.infer.specs.Walks.{IsFirstAmong, RowHas};
 
 use crate::ask::question::accepts_at;
 use crate::candidates::dispatch::{arm_of, blank, candidates_at, leads};
-use crate::table::built_in::{may_become_row, name_at};
+use crate::table::built_in::{may_become_deep, name_at};
+use crate::table::known::known_of;
 use crate::table::rows::ROW_COUNT;
 
 /// Whether no bytes after `buf` change its answer. If this is false, some bytes do. The empty buffer is never decided, and
@@ -96,5 +97,8 @@ fn may_become_at(row: usize, buf: &[u8]) -> bool
     ensures { IsTrue result ↔ RowHas (MayBecomeRow buf.now) row }
 {
     infer_sig::laws::open();
-    may_become_row(name_at(row), buf)
+    match known_of(row) {
+        Some(own) => infer_evidence::may_become(own.alternatives, buf),
+        None => may_become_deep(name_at(row), buf),
+    }
 }

@@ -1,5 +1,6 @@
 //! The built-in rows: what is known of each, by its name.
 pub mod built_in;
 pub mod file_type;
+pub mod known;
 pub mod rows;
 pub mod slots;

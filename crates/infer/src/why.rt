@@ -13,15 +13,12 @@ use crate::answers::position;
 use crate::ask::question::accepts;
 use crate::candidates::dispatch::{arm_of, blank, candidates_at, leads};
 use crate::decided::may_become;
+use crate::table::known::{known_of, search_of};
 use crate::table::rows::ROW_COUNT;
 use infer_evidence::{
     Evidence, MOST_OF_A_SEARCH, Range, Search, Told, accept_search, refuse_search, shortest_front,
     weigh,
 };
-
-mod known;
-
-use known::{known_of, search_of};
 
 /// For how many ranges all candidates of a first byte ask at most.
 pub const MOST_OF_CANDIDATES: usize = 67;

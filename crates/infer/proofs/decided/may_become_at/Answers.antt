@@ -1,8 +1,17 @@
-use Rattle.infer.proofs.Common.{TellsMayBecome, signature_of, subst, ℕ}
+use Rattle.infer.proofs.Common.{◌≡◌, None, TellsMayBecome, signature_of, subst, sym, refl, ℕ}
 use Rattle.infer.proofs.DecidedLemmas.{told_of_row}
+use Rattle.infer.specs.Evidence.{fixed_of}
 use Rattle.infer.proofs.decided.may_become_at.Goals as goal
 
-pub returns : goal.returns
-returns c =
-    told_of_row c.open.ensures c.args.buf.now c.may_become_row.result c.args.row
-    (subst (λ (i : ℕ). TellsMayBecome (signature_of i) c.args.buf.now c.may_become_row.result) c.name_at.ensures c.may_become_row.ensures)
+pub returns-in-Some : goal.returns-in-Some
+returns-in-Some c =
+    told_of_row c.open.ensures c.args.buf.now c.may_become.result c.args.row
+    (subst (λ s. TellsMayBecome s c.args.buf.now c.may_become.result) (sym c.in-Some.ensures.some) c.may_become.ensures)
+
+pub may_become_deep-requires : goal.may_become_deep-requires
+may_become_deep-requires c = subst (λ (i : ℕ). fixed_of (signature_of i) ≡ None) (sym c.name_at.ensures) (c.in-None.ensures.none refl c.requires)
+
+pub returns-in-None : goal.returns-in-None
+returns-in-None c =
+    told_of_row c.open.ensures c.args.buf.now c.may_become_deep.result c.args.row
+    (subst (λ (i : ℕ). TellsMayBecome (signature_of i) c.args.buf.now c.may_become_deep.result) c.name_at.ensures c.may_become_deep.ensures)

@@ -1,9 +1,9 @@
 //! The built-in rows that ask for bytes at fixed places alone, with the alternatives of their signatures as data, each with its
 //! least length and its parts. Of a row that asks for more nothing is listed. `tools/tables` makes the
 //! lists from the definitions.
-ghost use Rattle.std.specs.Prelude.{◌≡◌, ◌≤◌, IfSome};
+ghost use Rattle.std.specs.Prelude.{◌≡◌, ◌+◌, ◌<◌, ◌≤◌, IfSome, None};
 ghost use Rattle.infer.specs.BuiltIn.{fixed};
-ghost use Rattle.infer.specs.Evidence.{AreListed, IsSearch, most_of};
+ghost use Rattle.infer.specs.Evidence.{AreListed, IsSearch, fixed_of, most_of};
 ghost use Rattle.infer.specs.Table.{signature_of};
 ghost use Rattle.infer_evidence.specs.Listed.{signature_listed};
 ghost use Rattle.infer_evidence.specs.declared.search.TheConstants.{MOST_OF_A_SEARCH};
@@ -18,8 +18,8 @@ const ROWS_OF_A_LIST: usize = 10;
 
 /// The alternatives of a row's signature.
 #[derive(Drop)]
-pub(super) struct Known {
-    pub(super) alternatives: &'static [Alternative],
+pub(crate) struct Known {
+    pub(crate) alternatives: &'static [Alternative],
 }
 
 macro_rules! known {
@@ -248,6 +248,7 @@ fn known_from_90() -> &'static [Option<Known>; ROWS_OF_A_LIST]
 /// The row with which a list begins in which this one stands, and the list.
 fn list_of(row: usize) -> (usize, &'static [Option<Known>; ROWS_OF_A_LIST])
     ensures begins { result.0 ≤ row }
+    ensures ends { row < ROW_COUNT → row < result.0 + 10 }
     ensures listed { AreListed result.0 10 result.1.now }
 {
     match row {
@@ -265,18 +266,20 @@ fn list_of(row: usize) -> (usize, &'static [Option<Known>; ROWS_OF_A_LIST])
 }
 
 /// What is known of the row, if it asks for bytes at fixed places alone.
-pub(super) fn known_of(row: usize) -> Option<&'static Known>
-    ensures { IfSome result (λ k. signature_of row ≡ fixed (signature_listed k.now.alternatives.now)) }
+pub(crate) fn known_of(row: usize) -> Option<&'static Known>
+    ensures some { IfSome result (λ k. signature_of row ≡ fixed (signature_listed k.now.alternatives.now)) }
+    ensures none { result ≡ None → row < ROW_COUNT → fixed_of (signature_of row) ≡ None }
 {
     let (first, rows) = list_of(row);
     match rows.get(row - first) {
         Some(Some(known)) => Some(known),
-        _ => None,
+        Some(None) => None,
+        None => None,
     }
 }
 
 /// What a row searches for that asks for a text somewhere at the front alone.
-pub(super) fn search_of(row: usize) -> Option<Search>
+pub(crate) fn search_of(row: usize) -> Option<Search>
     ensures is { IfSome result (IsSearch row) }
     ensures most { IfSome result (λ s. most_of (signature_of row) ≡ MOST_OF_A_SEARCH) }
 {

@@ -4,7 +4,7 @@ use Rattle.infer.specs.Evidence.{most_of}
 use Rattle.infer_evidence.specs.declared.search.TheConstants.{MOST_OF_A_SEARCH}
 use Rattle.infer_deep.specs.Windows.{StandsBy}
 use Rattle.std.specs.Prelude.{codes}
-use Rattle.infer.proofs.why.known.search_of.Goals as goal
+use Rattle.infer.proofs.table.known.search_of.Goals as goal
 
 pub returns-clause-is : goal.returns-clause-is
 returns-clause-is c = subst (λ i. (b : List ℕ) → RowHas (Accepts b) i ↔ StandsBy (codes "%PDF") 1024 b) (sym c.if-row-ne-PDF.false) pdf_searches
