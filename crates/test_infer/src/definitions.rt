@@ -8,6 +8,7 @@ ghost use Rattle.infer.specs.ClassId.{HasClassId, word_id};
 ghost use Rattle.infer.specs.Decided.{IsChangeable, MayBecomeRow};
 ghost use Rattle.infer.specs.Find.{OccursAt};
 ghost use Rattle.infer.specs.First.{IsAnswer, IsFirst, IsFirstOf};
+ghost use Rattle.infer.specs.FixedOpen.{may_become};
 ghost use Rattle.infer.specs.Frames.{IsFrame};
 ghost use Rattle.infer.specs.Image.{png};
 ghost use Rattle.infer.specs.MarkupText.{IsMark, IsSpace};
@@ -45,6 +46,7 @@ use infer::{Ask, Asker, Infer, SAMPLE_SIZE, get, is, is_decided, may_become, pos
 use infer_deep::doc::has_class_id;
 use infer_deep::numbers::{be32, le16, le32};
 use infer_deep::places::stands_at;
+use infer_evidence::{Alternative, Part};
 use infer_formats::markup::root_of;
 use infer_formats::script::program;
 use infer_sniff::position_settled;
@@ -78,6 +80,16 @@ pub fn is_one_by_le16(buf: &[u8]) -> bool
     ensures { IsTrue result ↔ ((2 ≤ length buf.now) × (le16 buf.now 0 ≡ 1)) }
 {
     buf.len() >= 2 && le16(buf, 0) == 1
+}
+
+pub fn may_become_png(buf: &[u8]) -> bool
+    ensures { result ≡ may_become png buf.now }
+{
+    let signature = [Alternative {
+        least: 4,
+        parts: &[Part::Text(0, b"\x89PNG")],
+    }];
+    infer_evidence::may_become(&signature, buf)
 }
 
 pub fn is_accepted_by_png(buf: &[u8]) -> bool

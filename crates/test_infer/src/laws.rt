@@ -15,12 +15,13 @@ ghost use Rattle.infer.specs.Signatures.{MayBecome};
 ghost use Rattle.infer.specs.Table.{table};
 ghost use Rattle.infer.specs.Triple.{triple_of};
 
-use infer::app::{is_java, is_mach, may_become_coff_x64};
+use infer::app::{is_java, is_mach};
 use infer::rows::{DLL, DOC, EPUB_ARCHIVE, GIF, PDF, ROW_COUNT, SHELLSCRIPT, WASM};
 use infer::{
     Asker, Fault, Infer, SAMPLE_SIZE, Type, Watched, is_decided, laws, may_become, position,
     sample, walk,
 };
+use infer_evidence::{Alternative, Part};
 use std::alloc::{AllocError, Allocator, Global};
 
 fn begins_00(buf: &[u8]) -> bool
@@ -183,7 +184,11 @@ pub fn may_become_x64(buf: &[u8]) -> bool
     ensures { IsTrue result ↔ MayBecome (λ b. IsTrue (accepts coff_x64 b)) buf.now }
 {
     laws::open();
-    may_become_coff_x64(buf)
+    let signature = [Alternative {
+        least: 3,
+        parts: &[Part::Text(0, b"\x64\x86")],
+    }];
+    infer_evidence::may_become(&signature, buf)
 }
 
 /// The position of a buffer, and that which a walk finds.

@@ -12,7 +12,7 @@ use infer::beginnings::{
     begins_compound, begins_frame, begins_mark, begins_office, begins_white, is_open_box,
 };
 use infer::doc::{is_doc, is_docx, is_ppt, is_pptx, is_xls, is_xlsx};
-use infer::image::{is_avif, is_heif, is_png, may_become_png};
+use infer::image::{is_avif, is_heif, is_png};
 use infer::rows::{DOC, DOCX, MKV, PPT, PPTX, WEBM, XLS, XLSX};
 use infer::text::{is_html, is_xml, may_become_html};
 use infer::texts::{is_mime_supported, is_supported};

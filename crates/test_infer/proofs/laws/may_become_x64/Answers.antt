@@ -7,4 +7,4 @@ use Rattle.test_infer.proofs.laws.may_become_x64.Goals as goal
 -- the matcher after those of the rows and that for i386
 pub returns : goal.returns
 unfolding signatures table
-returns c = c.open.ensures 99 (fixed []) (omega arith) c.args.buf.now c.may_become_coff_x64.result c.may_become_coff_x64.ensures
+returns c = c.open.ensures 99 (fixed []) (omega arith) c.args.buf.now c.may_become.result c.may_become.ensures
