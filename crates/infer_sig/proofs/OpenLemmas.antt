@@ -1,5 +1,5 @@
 -- What a buffer leaves open of a signature: the bytes that are missing, put after it part by part.
-use Rattle.infer_deep.proofs.Common.{take, true, ◌≡◌, ℕ, zero, suc, ◌+◌, ◌-◌, ◌≤◌, inl, inr, not, List, [], ◌∷◌, ◌++◌, length, max, take_all, refl, ap, arith, eqb, ltb, leb, IsTrue, AgreesAt, OccursAt, ◌↔◌, length-append, length-take, get_or-take, and_parts, and_from, or_cases, or_left, or_right, le-leb, eq-eqb, ne_eqb, leb-true, cases_lt, nat_tests, get_or_append_left, list_any, list_all, are_bytes, MayBecome}
+use Rattle.infer_deep.proofs.Common.{take, ◌≡◌, ℕ, zero, suc, ◌+◌, ◌-◌, ◌≤◌, inl, inr, not, List, [], ◌∷◌, ◌++◌, length, max, refl, ap, arith, eqb, ltb, leb, IsTrue, AgreesAt, OccursAt, ◌↔◌, length-append, length-take, get_or-take, and_parts, and_from, or_cases, or_left, or_right, le-leb, eq-eqb, ne_eqb, leb-true, cases_lt, nat_tests, get_or_append_left, list_any, list_all, are_bytes, MayBecome}
 use Rattle.infer_deep.proofs.OpenLemmas.{AllAgree, AllStand, LieApart, agrees_none, agrees_past, fills_parts, grown_agrees}
 use Rattle.infer_deep.proofs.OpenLemmas as Deep
 use Rattle.infer_deep.proofs.PlaceLemmas.{OccursAt-first}
@@ -25,16 +25,6 @@ module _ (buf more : List ℕ) where
 
   alternative_front : (a : Alternative) → IsTrue (fits (buf ++ more) a) → IsTrue (may_fit buf a)
   alternative_front (at_least n parts) h = list_all_passes _ _ part_front parts (and_parts (leb n (length (buf ++ more))) _ h).1
-
--- where the buffer has room for the text, the whole of it stands
-pub agrees_whole : (place : ℕ) (t buf : List ℕ) → place + length t ≤ length buf → agrees place t buf ≡ stands place t buf
-unfolding agrees
-agrees_whole place t buf room = ap (λ u. stands place u buf) (take_all (length buf - place) t (omega (arith, room)))
-
--- and past its end every text may still come
-pub agrees_beyond : (place : ℕ) (t buf : List ℕ) → length buf ≤ place → agrees place t buf ≡ true
-unfolding agrees stands
-agrees_beyond place t buf past = ap (λ k. stands place (take k t) buf) (let none : length buf - place ≡ 0 = omega arith in none)
 
 -- ---- the missing bytes of a part
 

@@ -1,23 +1,15 @@
 //! Sound.
 ghost use Rattle.std.specs.Prelude.{◌≡◌};
-ghost use Rattle.infer_sig.specs.Open.{may_become};
 ghost use Rattle.infer_sig.specs.Signature.{accepts};
 ghost use Rattle.infer_sig.specs.Audio.{aac, aiff, amr, ape, dsf, flac, m4a, midi, mp3, ogg, ogg_opus, wav};
 
-use crate::places::{matches_at, may_match_at};
+use crate::places::matches_at;
 
 /// MIDI: at least 4 bytes, "MThd" first.
 pub fn is_midi(buf: &[u8]) -> bool
     ensures { result ≡ accepts midi buf.now }
 {
     buf.len() >= 4 && matches_at(buf, b"MThd", 0)
-}
-
-/// Whether some bytes after `buf` make it MIDI.
-pub fn may_become_midi(buf: &[u8]) -> bool
-    ensures { result ≡ may_become midi buf.now }
-{
-    may_match_at(buf, b"MThd", 0)
 }
 
 /// MP3: at least 3 bytes, "ID3" first, or a frame's FF and one of FB, F3 and F2.
@@ -28,27 +20,11 @@ pub fn is_mp3(buf: &[u8]) -> bool
         && (matches_at(buf, b"ID3", 0) || buf[0] == 0xFF && matches!(buf[1], 0xFB | 0xF3 | 0xF2))
 }
 
-/// Whether some bytes after `buf` make it MP3.
-pub fn may_become_mp3(buf: &[u8]) -> bool
-    ensures { result ≡ may_become mp3 buf.now }
-{
-    may_match_at(buf, b"ID3", 0)
-        || (buf.is_empty() || buf[0] == 0xFF)
-            && (buf.len() <= 1 || matches!(buf[1], 0xFB | 0xF3 | 0xF2))
-}
-
 /// Apple's sound M4A: at least 11 bytes, "ftypM4A" at 4, or "M4A " first.
 pub fn is_m4a(buf: &[u8]) -> bool
     ensures { result ≡ accepts m4a buf.now }
 {
     buf.len() >= 11 && (matches_at(buf, b"ftypM4A", 4) || matches_at(buf, b"M4A ", 0))
-}
-
-/// Whether some bytes after `buf` make it M4A.
-pub fn may_become_m4a(buf: &[u8]) -> bool
-    ensures { result ≡ may_become m4a buf.now }
-{
-    may_match_at(buf, b"ftypM4A", 4) || may_match_at(buf, b"M4A ", 0)
 }
 
 /// Opus in Ogg: at least 36 bytes, "OggS" first, "OpusHead" at 28.
@@ -58,25 +34,11 @@ pub fn is_ogg_opus(buf: &[u8]) -> bool
     buf.len() >= 36 && matches_at(buf, b"OggS", 0) && matches_at(buf, b"OpusHead", 28)
 }
 
-/// Whether some bytes after `buf` make it Opus in Ogg.
-pub fn may_become_ogg_opus(buf: &[u8]) -> bool
-    ensures { result ≡ may_become ogg_opus buf.now }
-{
-    may_match_at(buf, b"OggS", 0) && may_match_at(buf, b"OpusHead", 28)
-}
-
 /// Ogg: at least 4 bytes, "OggS" first.
 pub fn is_ogg(buf: &[u8]) -> bool
     ensures { result ≡ accepts ogg buf.now }
 {
     buf.len() >= 4 && matches_at(buf, b"OggS", 0)
-}
-
-/// Whether some bytes after `buf` make it Ogg.
-pub fn may_become_ogg(buf: &[u8]) -> bool
-    ensures { result ≡ may_become ogg buf.now }
-{
-    may_match_at(buf, b"OggS", 0)
 }
 
 /// FLAC: at least 4 bytes, "fLaC" first.
@@ -86,25 +48,11 @@ pub fn is_flac(buf: &[u8]) -> bool
     buf.len() >= 4 && matches_at(buf, b"fLaC", 0)
 }
 
-/// Whether some bytes after `buf` make it FLAC.
-pub fn may_become_flac(buf: &[u8]) -> bool
-    ensures { result ≡ may_become flac buf.now }
-{
-    may_match_at(buf, b"fLaC", 0)
-}
-
 /// WAV: at least 12 bytes, "RIFF" first, "WAVE" at 8.
 pub fn is_wav(buf: &[u8]) -> bool
     ensures { result ≡ accepts wav buf.now }
 {
     buf.len() >= 12 && matches_at(buf, b"RIFF", 0) && matches_at(buf, b"WAVE", 8)
-}
-
-/// Whether some bytes after `buf` make it WAV.
-pub fn may_become_wav(buf: &[u8]) -> bool
-    ensures { result ≡ may_become wav buf.now }
-{
-    may_match_at(buf, b"RIFF", 0) && may_match_at(buf, b"WAVE", 8)
 }
 
 /// AMR: at least 12 bytes, "#!AMR" 0A first.
@@ -114,25 +62,11 @@ pub fn is_amr(buf: &[u8]) -> bool
     buf.len() >= 12 && matches_at(buf, b"#!AMR\n", 0)
 }
 
-/// Whether some bytes after `buf` make it AMR.
-pub fn may_become_amr(buf: &[u8]) -> bool
-    ensures { result ≡ may_become amr buf.now }
-{
-    may_match_at(buf, b"#!AMR\n", 0)
-}
-
 /// AAC: at least 2 bytes, a frame's FF and F1 or F9 first.
 pub fn is_aac(buf: &[u8]) -> bool
     ensures { result ≡ accepts aac buf.now }
 {
     buf.len() >= 2 && buf[0] == 0xFF && matches!(buf[1], 0xF1 | 0xF9)
-}
-
-/// Whether some bytes after `buf` make it AAC.
-pub fn may_become_aac(buf: &[u8]) -> bool
-    ensures { result ≡ may_become aac buf.now }
-{
-    (buf.is_empty() || buf[0] == 0xFF) && (buf.len() <= 1 || matches!(buf[1], 0xF1 | 0xF9))
 }
 
 /// AIFF: at least 12 bytes, "FORM" first, "AIFF" at 8.
@@ -142,13 +76,6 @@ pub fn is_aiff(buf: &[u8]) -> bool
     buf.len() >= 12 && matches_at(buf, b"FORM", 0) && matches_at(buf, b"AIFF", 8)
 }
 
-/// Whether some bytes after `buf` make it AIFF.
-pub fn may_become_aiff(buf: &[u8]) -> bool
-    ensures { result ≡ may_become aiff buf.now }
-{
-    may_match_at(buf, b"FORM", 0) && may_match_at(buf, b"AIFF", 8)
-}
-
 /// DSD stream: at least 5 bytes, "DSD " first.
 pub fn is_dsf(buf: &[u8]) -> bool
     ensures { result ≡ accepts dsf buf.now }
@@ -156,23 +83,9 @@ pub fn is_dsf(buf: &[u8]) -> bool
     buf.len() >= 5 && matches_at(buf, b"DSD ", 0)
 }
 
-/// Whether some bytes after `buf` make it a DSD stream.
-pub fn may_become_dsf(buf: &[u8]) -> bool
-    ensures { result ≡ may_become dsf buf.now }
-{
-    may_match_at(buf, b"DSD ", 0)
-}
-
 /// Monkey's Audio: at least 5 bytes, "MAC " first.
 pub fn is_ape(buf: &[u8]) -> bool
     ensures { result ≡ accepts ape buf.now }
 {
     buf.len() >= 5 && matches_at(buf, b"MAC ", 0)
-}
-
-/// Whether some bytes after `buf` make it Monkey's Audio.
-pub fn may_become_ape(buf: &[u8]) -> bool
-    ensures { result ≡ may_become ape buf.now }
-{
-    may_match_at(buf, b"MAC ", 0)
 }

@@ -1,10 +1,9 @@
 //! Books.
 ghost use Rattle.std.specs.Prelude.{◌≡◌};
-ghost use Rattle.infer_sig.specs.Open.{may_become};
 ghost use Rattle.infer_sig.specs.Signature.{accepts};
 ghost use Rattle.infer_sig.specs.Book.{epub, mobi};
 
-use crate::places::{matches_at, may_match_at};
+use crate::places::matches_at;
 
 /// EPUB: at least 58 bytes, a ZIP header first, "mimetypeapplication/epub+zip" at 30.
 #[inline(always)]
@@ -16,24 +15,10 @@ pub fn is_epub(buf: &[u8]) -> bool
         && matches_at(buf, b"mimetypeapplication/epub+zip", 30)
 }
 
-/// Whether some bytes after `buf` make it an EPUB book.
-pub fn may_become_epub(buf: &[u8]) -> bool
-    ensures { result ≡ may_become epub buf.now }
-{
-    may_match_at(buf, b"PK\x03\x04", 0) && may_match_at(buf, b"mimetypeapplication/epub+zip", 30)
-}
-
 /// Mobipocket: at least 68 bytes, "BOOKMOBI" at 60.
 #[inline(always)]
 pub fn is_mobi(buf: &[u8]) -> bool
     ensures { result ≡ accepts mobi buf.now }
 {
     buf.len() >= 68 && matches_at(buf, b"BOOKMOBI", 60)
-}
-
-/// Whether some bytes after `buf` make it a Mobipocket book.
-pub fn may_become_mobi(buf: &[u8]) -> bool
-    ensures { result ≡ may_become mobi buf.now }
-{
-    may_match_at(buf, b"BOOKMOBI", 60)
 }

@@ -1,10 +1,9 @@
 //! Images.
 ghost use Rattle.std.specs.Prelude.{◌≡◌};
-ghost use Rattle.infer_sig.specs.Open.{may_become};
 ghost use Rattle.infer_sig.specs.Signature.{accepts};
 ghost use Rattle.infer_sig.specs.Image.{bmp, cr2, djvu, dwg, gif, ico, jpeg, jpeg2000, jxl, jxr, ora, png, psd, tiff, webp};
 
-use crate::places::{any_matches_at, any_may_match_at, matches_at, may_match_at};
+use crate::places::{any_matches_at, matches_at};
 pub use infer_deep::image::{is_avif, is_heif, may_become_avif, may_become_heif};
 
 /// JPEG: at least 3 bytes, FF D8 FF first.
@@ -18,25 +17,11 @@ pub fn is_jpeg(buf: &[u8]) -> bool
     buf.len() >= 3 && matches_at(buf, b"\xFF\xD8\xFF", 0)
 }
 
-/// Whether some bytes after `buf` make it a JPEG image.
-pub fn may_become_jpeg(buf: &[u8]) -> bool
-    ensures { result ≡ may_become jpeg buf.now }
-{
-    may_match_at(buf, b"\xFF\xD8\xFF", 0)
-}
-
 /// JPEG 2000: at least 13 bytes, the signature box 00 00 00 0C "jP  " 0D 0A 87 0A and 00 first.
 pub fn is_jpeg2000(buf: &[u8]) -> bool
     ensures { result ≡ accepts jpeg2000 buf.now }
 {
     buf.len() >= 13 && matches_at(buf, b"\x00\x00\x00\x0CjP  \r\n\x87\n\x00", 0)
-}
-
-/// Whether some bytes after `buf` make it a JPEG 2000 image.
-pub fn may_become_jpeg2000(buf: &[u8]) -> bool
-    ensures { result ≡ may_become jpeg2000 buf.now }
-{
-    may_match_at(buf, b"\x00\x00\x00\x0CjP  \r\n\x87\n\x00", 0)
 }
 
 /// PNG: at least 4 bytes, 89 "PNG" first.
@@ -46,25 +31,11 @@ pub fn is_png(buf: &[u8]) -> bool
     buf.len() >= 4 && matches_at(buf, b"\x89PNG", 0)
 }
 
-/// Whether some bytes after `buf` make it a PNG image.
-pub fn may_become_png(buf: &[u8]) -> bool
-    ensures { result ≡ may_become png buf.now }
-{
-    may_match_at(buf, b"\x89PNG", 0)
-}
-
 /// GIF: at least 3 bytes, "GIF" first.
 pub fn is_gif(buf: &[u8]) -> bool
     ensures { result ≡ accepts gif buf.now }
 {
     buf.len() >= 3 && matches_at(buf, b"GIF", 0)
-}
-
-/// Whether some bytes after `buf` make it a GIF image.
-pub fn may_become_gif(buf: &[u8]) -> bool
-    ensures { result ≡ may_become gif buf.now }
-{
-    may_match_at(buf, b"GIF", 0)
 }
 
 /// WebP: at least 12 bytes, "WEBP" at 8.
@@ -74,13 +45,6 @@ pub fn is_webp(buf: &[u8]) -> bool
     buf.len() >= 12 && matches_at(buf, b"WEBP", 8)
 }
 
-/// Whether some bytes after `buf` make it a WebP image.
-pub fn may_become_webp(buf: &[u8]) -> bool
-    ensures { result ≡ may_become webp buf.now }
-{
-    may_match_at(buf, b"WEBP", 8)
-}
-
 /// Canon's raw image CR2: at least 11 bytes, a TIFF header of either byte order first, "CR" 02 at 8.
 pub fn is_cr2(buf: &[u8]) -> bool
     ensures { result ≡ accepts cr2 buf.now }
@@ -88,14 +52,6 @@ pub fn is_cr2(buf: &[u8]) -> bool
     buf.len() >= 11
         && (matches_at(buf, b"II*\x00", 0) || matches_at(buf, b"MM\x00*", 0))
         && matches_at(buf, b"CR\x02", 8)
-}
-
-/// Whether some bytes after `buf` make it a CR2 image.
-pub fn may_become_cr2(buf: &[u8]) -> bool
-    ensures { result ≡ may_become cr2 buf.now }
-{
-    (may_match_at(buf, b"II*\x00", 0) || may_match_at(buf, b"MM\x00*", 0))
-        && may_match_at(buf, b"CR\x02", 8)
 }
 
 /// TIFF: at least 10 bytes, a TIFF header of either byte order first, at 8 no "C" and at 9 no "R".
@@ -110,27 +66,11 @@ pub fn is_tiff(buf: &[u8]) -> bool
         && buf[9] != b'R'
 }
 
-/// Whether some bytes after `buf` make it a TIFF image.
-pub fn may_become_tiff(buf: &[u8]) -> bool
-    ensures { result ≡ may_become tiff buf.now }
-{
-    (may_match_at(buf, b"II*\x00", 0) || may_match_at(buf, b"MM\x00*", 0))
-        && (buf.len() <= 8 || buf[8] != b'C')
-        && (buf.len() <= 9 || buf[9] != b'R')
-}
-
 /// BMP: at least 2 bytes, "BM" first.
 pub fn is_bmp(buf: &[u8]) -> bool
     ensures { result ≡ accepts bmp buf.now }
 {
     buf.len() >= 2 && matches_at(buf, b"BM", 0)
-}
-
-/// Whether some bytes after `buf` make it a BMP image.
-pub fn may_become_bmp(buf: &[u8]) -> bool
-    ensures { result ≡ may_become bmp buf.now }
-{
-    may_match_at(buf, b"BM", 0)
 }
 
 /// JPEG XR: at least 3 bytes, "II" BC first.
@@ -140,13 +80,6 @@ pub fn is_jxr(buf: &[u8]) -> bool
     buf.len() >= 3 && matches_at(buf, b"II\xBC", 0)
 }
 
-/// Whether some bytes after `buf` make it a JPEG XR image.
-pub fn may_become_jxr(buf: &[u8]) -> bool
-    ensures { result ≡ may_become jxr buf.now }
-{
-    may_match_at(buf, b"II\xBC", 0)
-}
-
 /// Photoshop: at least 4 bytes, "8BPS" first.
 pub fn is_psd(buf: &[u8]) -> bool
     ensures { result ≡ accepts psd buf.now }
@@ -154,25 +87,11 @@ pub fn is_psd(buf: &[u8]) -> bool
     buf.len() >= 4 && matches_at(buf, b"8BPS", 0)
 }
 
-/// Whether some bytes after `buf` make it a Photoshop image.
-pub fn may_become_psd(buf: &[u8]) -> bool
-    ensures { result ≡ may_become psd buf.now }
-{
-    may_match_at(buf, b"8BPS", 0)
-}
-
 /// Windows icon: at least 4 bytes, 00 00 01 00 first.
 pub fn is_ico(buf: &[u8]) -> bool
     ensures { result ≡ accepts ico buf.now }
 {
     buf.len() >= 4 && matches_at(buf, b"\x00\x00\x01\x00", 0)
-}
-
-/// Whether some bytes after `buf` make it a Windows icon.
-pub fn may_become_ico(buf: &[u8]) -> bool
-    ensures { result ≡ may_become ico buf.now }
-{
-    may_match_at(buf, b"\x00\x00\x01\x00", 0)
 }
 
 /// JPEG XL: a codestream of at least 3 bytes, FF 0A first, or a container of at least 13 bytes, the signature
@@ -184,13 +103,6 @@ pub fn is_jxl(buf: &[u8]) -> bool
         || buf.len() >= 13 && matches_at(buf, b"\x00\x00\x00\x0CJXL \r\n\x87\n", 0)
 }
 
-/// Whether some bytes after `buf` make it a JPEG XL image.
-pub fn may_become_jxl(buf: &[u8]) -> bool
-    ensures { result ≡ may_become jxl buf.now }
-{
-    may_match_at(buf, b"\xFF\n", 0) || may_match_at(buf, b"\x00\x00\x00\x0CJXL \r\n\x87\n", 0)
-}
-
 /// OpenRaster: at least 58 bytes, a ZIP header first, "mimetypeimage/openraster" at 30.
 pub fn is_ora(buf: &[u8]) -> bool
     ensures { result ≡ accepts ora buf.now }
@@ -200,25 +112,11 @@ pub fn is_ora(buf: &[u8]) -> bool
         && matches_at(buf, b"mimetypeimage/openraster", 30)
 }
 
-/// Whether some bytes after `buf` make it an OpenRaster image.
-pub fn may_become_ora(buf: &[u8]) -> bool
-    ensures { result ≡ may_become ora buf.now }
-{
-    may_match_at(buf, b"PK\x03\x04", 0) && may_match_at(buf, b"mimetypeimage/openraster", 30)
-}
-
 /// DjVu: at least 15 bytes, "AT&TFORM" first, "DJV" at 12.
 pub fn is_djvu(buf: &[u8]) -> bool
     ensures { result ≡ accepts djvu buf.now }
 {
     buf.len() >= 15 && matches_at(buf, b"AT&TFORM", 0) && matches_at(buf, b"DJV", 12)
-}
-
-/// Whether some bytes after `buf` make it a DjVu image.
-pub fn may_become_djvu(buf: &[u8]) -> bool
-    ensures { result ≡ may_become djvu buf.now }
-{
-    may_match_at(buf, b"AT&TFORM", 0) && may_match_at(buf, b"DJV", 12)
 }
 
 const DWG_VERSIONS: [[u8; 6]; 24] = [
@@ -253,11 +151,4 @@ pub fn is_dwg(buf: &[u8]) -> bool
     ensures { result ≡ accepts dwg buf.now }
 {
     buf.len() >= 6 && any_matches_at(buf, &DWG_VERSIONS, 0)
-}
-
-/// Whether some bytes after `buf` make it a DWG drawing.
-pub fn may_become_dwg(buf: &[u8]) -> bool
-    ensures { result ≡ may_become dwg buf.now }
-{
-    any_may_match_at(buf, &DWG_VERSIONS, 0)
 }

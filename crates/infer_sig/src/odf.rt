@@ -1,10 +1,9 @@
 //! OpenDocument files.
 ghost use Rattle.std.specs.Prelude.{◌≡◌};
-ghost use Rattle.infer_sig.specs.Open.{may_become};
 ghost use Rattle.infer_sig.specs.Signature.{accepts};
 ghost use Rattle.infer_sig.specs.Odf.{odp, ods, odt};
 
-use crate::places::{matches_at, may_match_at};
+use crate::places::matches_at;
 
 /// OpenDocument text: at least 77 bytes, a ZIP header first, "mimetype" at 30, "vnd.oasis.opendocument.text" at 50.
 #[inline(always)]
@@ -15,15 +14,6 @@ pub fn is_odt(buf: &[u8]) -> bool
         && matches_at(buf, b"PK\x03\x04", 0)
         && matches_at(buf, b"mimetype", 30)
         && matches_at(buf, b"vnd.oasis.opendocument.text", 50)
-}
-
-/// Whether some bytes after `buf` make it an OpenDocument text.
-pub fn may_become_odt(buf: &[u8]) -> bool
-    ensures { result ≡ may_become odt buf.now }
-{
-    may_match_at(buf, b"PK\x03\x04", 0)
-        && may_match_at(buf, b"mimetype", 30)
-        && may_match_at(buf, b"vnd.oasis.opendocument.text", 50)
 }
 
 /// OpenDocument spreadsheet: at least 84 bytes, a ZIP header first, "mimetype" at 30,
@@ -38,15 +28,6 @@ pub fn is_ods(buf: &[u8]) -> bool
         && matches_at(buf, b"vnd.oasis.opendocument.spreadsheet", 50)
 }
 
-/// Whether some bytes after `buf` make it an OpenDocument spreadsheet.
-pub fn may_become_ods(buf: &[u8]) -> bool
-    ensures { result ≡ may_become ods buf.now }
-{
-    may_match_at(buf, b"PK\x03\x04", 0)
-        && may_match_at(buf, b"mimetype", 30)
-        && may_match_at(buf, b"vnd.oasis.opendocument.spreadsheet", 50)
-}
-
 /// OpenDocument presentation: at least 85 bytes, a ZIP header first, "mimetype" at 30,
 /// "vnd.oasis.opendocument.presentation" at 50.
 #[inline(always)]
@@ -57,13 +38,4 @@ pub fn is_odp(buf: &[u8]) -> bool
         && matches_at(buf, b"PK\x03\x04", 0)
         && matches_at(buf, b"mimetype", 30)
         && matches_at(buf, b"vnd.oasis.opendocument.presentation", 50)
-}
-
-/// Whether some bytes after `buf` make it an OpenDocument presentation.
-pub fn may_become_odp(buf: &[u8]) -> bool
-    ensures { result ≡ may_become odp buf.now }
-{
-    may_match_at(buf, b"PK\x03\x04", 0)
-        && may_match_at(buf, b"mimetype", 30)
-        && may_match_at(buf, b"vnd.oasis.opendocument.presentation", 50)
 }

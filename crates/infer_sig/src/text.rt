@@ -1,10 +1,9 @@
 //! Texts.
 ghost use Rattle.std.specs.Prelude.{◌≡◌};
-ghost use Rattle.infer_sig.specs.Open.{may_become};
 ghost use Rattle.infer_sig.specs.Signature.{accepts};
 ghost use Rattle.infer_sig.specs.Text.{shellscript};
 
-use crate::places::{matches_at, may_match_at};
+use crate::places::matches_at;
 pub use infer_deep::text::{is_html, is_xml, may_become_html, may_become_xml};
 
 /// Script that names its interpreter: at least 3 bytes, "#!" first.
@@ -12,11 +11,4 @@ pub fn is_shellscript(buf: &[u8]) -> bool
     ensures { result ≡ accepts shellscript buf.now }
 {
     buf.len() >= 3 && matches_at(buf, b"#!", 0)
-}
-
-/// Whether some bytes after `buf` make it a script that names its interpreter.
-pub fn may_become_shellscript(buf: &[u8]) -> bool
-    ensures { result ≡ may_become shellscript buf.now }
-{
-    may_match_at(buf, b"#!", 0)
 }

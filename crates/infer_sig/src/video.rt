@@ -1,11 +1,10 @@
 //! Videos.
 ghost use Rattle.std.specs.Prelude.{◌≡◌, ◌≤◌, length};
 ghost use Rattle.std.specs.List.{list_any};
-ghost use Rattle.infer_sig.specs.Open.{agrees, may_become};
 ghost use Rattle.infer_sig.specs.Signature.{accepts, stands};
 ghost use Rattle.infer_sig.specs.Video.{avi, flv, m4v, mov, mp4, mpeg, wmv};
 
-use crate::places::{any_matches_at, any_may_match_at, matches_at, may_match_at};
+use crate::places::{any_matches_at, matches_at};
 pub use infer_deep::video::{is_mkv, is_webm, may_become_mkv, may_become_webm};
 
 const MP4_BRANDS: [[u8; 4]; 28] = [
@@ -23,24 +22,11 @@ pub fn is_mp4(buf: &[u8]) -> bool
     buf.len() >= 12 && matches_at(buf, b"ftyp", 4) && has_mp4_brand(buf)
 }
 
-/// Whether some bytes after `buf` make it an MP4 video.
-pub fn may_become_mp4(buf: &[u8]) -> bool
-    ensures { result ≡ may_become mp4 buf.now }
-{
-    may_match_at(buf, b"ftyp", 4) && may_have_mp4_brand(buf)
-}
-
 fn has_mp4_brand(buf: &[u8]) -> bool
     requires { 12 ≤ length buf.now }
     ensures { result ≡ list_any (λ brand. stands 8 brand buf.now) MP4_BRANDS }
 {
     any_matches_at(buf, &MP4_BRANDS, 8)
-}
-
-fn may_have_mp4_brand(buf: &[u8]) -> bool
-    ensures { result ≡ list_any (λ brand. agrees 8 brand buf.now) MP4_BRANDS }
-{
-    any_may_match_at(buf, &MP4_BRANDS, 8)
 }
 
 /// Apple's video M4V: at least 11 bytes, "ftypM4V" at 4.
@@ -49,13 +35,6 @@ pub fn is_m4v(buf: &[u8]) -> bool
     ensures { result ≡ accepts m4v buf.now }
 {
     buf.len() >= 11 && matches_at(buf, b"ftypM4V", 4)
-}
-
-/// Whether some bytes after `buf` make it an M4V video.
-pub fn may_become_m4v(buf: &[u8]) -> bool
-    ensures { result ≡ may_become m4v buf.now }
-{
-    may_match_at(buf, b"ftypM4V", 4)
 }
 
 /// QuickTime: at least 16 bytes, "ftypqt  ", "moov" or "mdat" at 4, or "mdat" at 12.
@@ -70,28 +49,11 @@ pub fn is_mov(buf: &[u8]) -> bool
             || matches_at(buf, b"mdat", 12))
 }
 
-/// Whether some bytes after `buf` make it a QuickTime video.
-pub fn may_become_mov(buf: &[u8]) -> bool
-    ensures { result ≡ may_become mov buf.now }
-{
-    may_match_at(buf, b"ftypqt  ", 4)
-        || may_match_at(buf, b"moov", 4)
-        || may_match_at(buf, b"mdat", 4)
-        || may_match_at(buf, b"mdat", 12)
-}
-
 /// AVI: at least 11 bytes, "RIFF" first, "AVI" at 8.
 pub fn is_avi(buf: &[u8]) -> bool
     ensures { result ≡ accepts avi buf.now }
 {
     buf.len() >= 11 && matches_at(buf, b"RIFF", 0) && matches_at(buf, b"AVI", 8)
-}
-
-/// Whether some bytes after `buf` make it an AVI video.
-pub fn may_become_avi(buf: &[u8]) -> bool
-    ensures { result ≡ may_become avi buf.now }
-{
-    may_match_at(buf, b"RIFF", 0) && may_match_at(buf, b"AVI", 8)
 }
 
 /// Windows Media: at least 10 bytes, 30 26 B2 75 8E 66 CF 11 A6 D9 first.
@@ -101,13 +63,6 @@ pub fn is_wmv(buf: &[u8]) -> bool
     buf.len() >= 10 && matches_at(buf, b"\x30\x26\xB2\x75\x8E\x66\xCF\x11\xA6\xD9", 0)
 }
 
-/// Whether some bytes after `buf` make it a Windows Media video.
-pub fn may_become_wmv(buf: &[u8]) -> bool
-    ensures { result ≡ may_become wmv buf.now }
-{
-    may_match_at(buf, b"\x30\x26\xB2\x75\x8E\x66\xCF\x11\xA6\xD9", 0)
-}
-
 /// MPEG: at least 4 bytes, 00 00 01 and a byte from B0 to BF first.
 pub fn is_mpeg(buf: &[u8]) -> bool
     ensures { result ≡ accepts mpeg buf.now }
@@ -115,23 +70,9 @@ pub fn is_mpeg(buf: &[u8]) -> bool
     buf.len() >= 4 && matches_at(buf, b"\x00\x00\x01", 0) && matches!(buf[3], 0xB0..=0xBF)
 }
 
-/// Whether some bytes after `buf` make it an MPEG video.
-pub fn may_become_mpeg(buf: &[u8]) -> bool
-    ensures { result ≡ may_become mpeg buf.now }
-{
-    may_match_at(buf, b"\x00\x00\x01", 0) && (buf.len() <= 3 || matches!(buf[3], 0xB0..=0xBF))
-}
-
 /// Flash video: at least 4 bytes, "FLV" 01 first.
 pub fn is_flv(buf: &[u8]) -> bool
     ensures { result ≡ accepts flv buf.now }
 {
     buf.len() >= 4 && matches_at(buf, b"FLV\x01", 0)
-}
-
-/// Whether some bytes after `buf` make it a Flash video.
-pub fn may_become_flv(buf: &[u8]) -> bool
-    ensures { result ≡ may_become flv buf.now }
-{
-    may_match_at(buf, b"FLV\x01", 0)
 }
