@@ -6,7 +6,10 @@
 #include <stdio.h>
 #include <string.h>
 
-enum { ROOM = 40960, GROWN = 16384, LONG = 8192, ROUNDS = 20000 };
+#ifndef INFER_ROUNDS
+#define INFER_ROUNDS 20000
+#endif
+enum { ROOM = 40960, GROWN = 16384, LONG = 8192, ROUNDS = INFER_ROUNDS };
 static unsigned char *end; /* of the room, right before the page that may not be touched */
 static struct infer_named_answer *answer; /* in a room of its own */
 static infer_range *last_range;           /* in another, behind whose end is such a page too */
