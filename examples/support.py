@@ -39,15 +39,18 @@ def compiler() -> str:
 
 @functools.cache
 def quick(by: str = "") -> str:
-    """A program that compiles as that compiler does, and never optimizes: of the library's one C file that takes long. This file is
-    compiled once for those who ask by the words of c/build."""
+    """A program that compiles as that compiler does, and never optimizes: of the library's one C file that takes long. Whoever
+    compiles this file alone has its words looked at, and an object that is made once."""
     program = os.path.join(folder(), "cc")
     with open(program, "w") as file:
         file.write(f"""#!/bin/bash
-if [[ "$*" =~ ^-std=c99\\ -O1\\ -fPIC\\ -c\\ [^\\ ]*dist/infer\\.c\\ -o\\ ([^\\ ]*)$ ]]; then
-    [ -f "$0.o" ] || {shutil.which(by or compiler())} "$@" -O0 -o "$0.o" && exec cp "$0.o" "${{BASH_REMATCH[1]}}"
+cc={shutil.which(by or compiler())}
+if [[ " $* " =~ \\ -c\\  && " $* " =~ \\ ([^\\ ]*dist/infer\\.c)\\  ]]; then
+    file="${{BASH_REMATCH[1]}}"
+    [[ " $* " =~ \\ -o\\ ([^\\ ]*)\\  ]] && "$cc" "$@" -O0 -fsyntax-only || exit
+    [ -f "$0.o" ] || "$cc" -w -O0 -fPIC -c "$file" -o "$0.o" && exec cp "$0.o" "${{BASH_REMATCH[1]}}"
 fi
-exec {shutil.which(by or compiler())} "$@" -O0
+exec "$cc" "$@" -O0
 """)
     os.chmod(program, 0o755)
     return program
