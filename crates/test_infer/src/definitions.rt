@@ -82,14 +82,15 @@ pub fn is_one_by_le16(buf: &[u8]) -> bool
     buf.len() >= 2 && le16(buf, 0) == 1
 }
 
+static PNG_LISTED: [Alternative; 1] = [Alternative {
+    least: 4,
+    parts: &[Part::Text(0, b"\x89PNG")],
+}];
+
 pub fn may_become_png(buf: &[u8]) -> bool
     ensures { result ≡ may_become png buf.now }
 {
-    let signature = [Alternative {
-        least: 4,
-        parts: &[Part::Text(0, b"\x89PNG")],
-    }];
-    infer_evidence::may_become(&signature, buf)
+    infer_evidence::may_become(&PNG_LISTED, buf)
 }
 
 pub fn is_accepted_by_png(buf: &[u8]) -> bool

@@ -179,16 +179,17 @@ pub fn no_pdf_after_gif()
     laws::later();
 }
 
+static COFF_X64_LISTED: [Alternative; 1] = [Alternative {
+    least: 3,
+    parts: &[Part::Text(0, b"\x64\x86")],
+}];
+
 /// Whether some bytes after the buffer make it a COFF object for x64, for which no row stands.
 pub fn may_become_x64(buf: &[u8]) -> bool
     ensures { IsTrue result ↔ MayBecome (λ b. IsTrue (accepts coff_x64 b)) buf.now }
 {
     laws::open();
-    let signature = [Alternative {
-        least: 3,
-        parts: &[Part::Text(0, b"\x64\x86")],
-    }];
-    infer_evidence::may_become(&signature, buf)
+    infer_evidence::may_become(&COFF_X64_LISTED, buf)
 }
 
 /// The position of a buffer, and that which a walk finds.
