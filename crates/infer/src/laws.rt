@@ -142,9 +142,9 @@ pub fn later()
     growth();
 }
 
-/// What is told of a buffer and a matcher's signature, as [`may_become`](infer_evidence::may_become) does of one that is data and
-/// `may_become_html` of another, is that some bytes after the buffer make the matcher accept: so of a fixed signature too,
-/// since the parts of each ascend, lie apart and are possible.
+/// What is told of a buffer and a matcher's signature is that some bytes after the buffer make the matcher accept:
+/// so `may_become_html` tells it, and [`may_become`](infer_evidence::may_become) of a fixed signature, since the parts
+/// of each ascend, lie apart and are possible.
 #[tactic(auto, using(crate::proofs::DecidedLemmas::open_signatures))]
 pub fn open()
     ensures { All IsToldExactly signatures }
