@@ -5,6 +5,7 @@ import subprocess
 import tempfile
 
 import further_rows
+import libmagic
 import names
 from texts import TOP, kept, line_of, refuse, text_of
 
@@ -30,7 +31,6 @@ COLUMNS = {
     MISTAKES: [WORDS, WORDS, ("column", "[1-9][0-9]*")],
     "bindings/calls.tsv": [WORDS] * 7,
     "bindings/libmagic/callers.tsv": [WORDS] * 3,
-    "bindings/libmagic/names.tsv": [("extension", f"extension|{NAME}"), ("MIME type", f"MIME type|{NAME}/{NAME}"), TEXT, TEXT, ("words", "data|text|script|plain|elf|words"), TEXT, WORDS],
     "docs/seconds.tsv": [WORDS, *[("number", "[0-9]+")] * 3],
 }
 # How many lines are shown at most that the model answers otherwise.
@@ -83,10 +83,8 @@ def check_rows():
     check_twice(SOURCES, [(number, (extension,)) for number, (extension, _) in lines_of(SOURCES)])
     names_of_rows = {f"{group}/{extension}" for _, (group, _, extension, _) in lines_of(BUILT_IN)} | {"-"}
     check_known(VECTORS, [(number, ours) for number, (_, _, ours, _) in lines_of(VECTORS)], names_of_rows, f"row of {BUILT_IN}")
-    libmagic = "bindings/libmagic/names.tsv"
-    named = [(number, (mime_type, extension)) for number, (extension, mime_type, *_) in lines_of(libmagic)[1:]]
-    check_known(libmagic, named, {it for _, it in built_in} | {it[:2] for _, it in further}, "row")
-    check_twice(libmagic, named)
+    check_known(libmagic.NAMES, libmagic.named(), {it for _, it in built_in} | {it[:2] for _, it in further}, "row")
+    check_twice(libmagic.NAMES, libmagic.named())
 
 
 def check_mistakes():

@@ -1,15 +1,24 @@
-/* libmagic's names of the rows' types. names.h is made of names.tsv. */
+/* libmagic's names of the rows' types. */
 #include "magic_set.h"
 #include <string.h>
 
-static const struct name NAMES[] = {
+#define NAME(extension, mime_type, theirs, extensions, words, description, source) {extension, mime_type, {theirs, extensions, description, words}},
+static const struct {
+    const char *extension, *mime_type;
+    struct name name;
+} NAMES[] = {
 #include "names.h"
 };
 
-static const struct name OTHER = {"application/octet-stream", "???", "data", OF_DATA};
-
 struct name name_of_row(int32_t row) {
-    return row >= 0 && (size_t)row < sizeof NAMES / sizeof NAMES[0] ? NAMES[row] : OTHER;
+    const char *mime_type = infer_mime_type_text(row), *extension = infer_extension_text(row);
+    size_t i = 0, count = sizeof NAMES / sizeof NAMES[0];
+    while (i < count && (strcmp(NAMES[i].mime_type, mime_type) != 0 || strcmp(NAMES[i].extension, extension) != 0)) i++;
+    if (i == count) return (struct name){mime_type, extension, mime_type, OF_DATA};
+    struct name name = NAMES[i].name;
+    if (!*name.mime_type) name.mime_type = mime_type;
+    if (!*name.extensions) name.extensions = extension;
+    return name;
 }
 
 int32_t row_with(const char *mime_type, const char *extension) {

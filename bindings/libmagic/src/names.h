@@ -1,1030 +1,302 @@
-/* Made by tools/tables of names.tsv: the names of each row's type. */
-    {"application/wasm", "wasm", "WebAssembly (wasm) binary module", OF_DATA},
-    {"application/x-executable", "elf", "ELF executable", OF_ELF},
-    {"application/vnd.microsoft.portable-executable", "exe/com/vlm/drv", "MS-DOS executable", OF_DATA},
-    {"application/vnd.microsoft.portable-executable", "exe/com/vlm/drv", "MS-DOS executable", OF_DATA},
-    {"application/x-java-applet", "class", "compiled Java class data", OF_DATA},
-    {"application/x-llvm", "bc", "LLVM IR bitcode", OF_DATA},
-    {"application/x-mach-binary", "mach", "Mach-O binary", OF_DATA},
-    {"application/vnd.android.dex", "dex", "Dalvik dex file", OF_DATA},
-    {"application/vnd.android.dey", "dey", "Dalvik dex file (optimized for host)", OF_DATA},
-    {"application/x-x509-ca-cert", "der", "DER encoded certificate", OF_DATA},
-    {"application/x-coff", "o/obj", "Intel COFF object file", OF_DATA},
-    {"text/plain", "pem", "PEM certificate", OF_TEXT},
-    {"application/x-qemu-disk", "qcow2", "QEMU QCOW Image", OF_DATA},
-    {"application/epub+zip", "epub", "EPUB document", OF_DATA},
-    {"application/x-mobipocket-ebook", "mobi", "Mobipocket E-book", OF_DATA},
-    {"image/jpeg", "jpeg/jpg/jpe/jfif", "JPEG image data", OF_DATA},
-    {"image/jp2", "jp2", "JPEG 2000 Part 1 (JP2)", OF_DATA},
-    {"image/png", "png", "PNG image data", OF_DATA},
-    {"image/gif", "gif", "GIF image data", OF_DATA},
-    {"image/webp", "webp", "RIFF (little-endian) data, Web/P image", OF_DATA},
-    {"image/x-canon-cr2", "cr2", "Canon CR2 raw image data", OF_DATA},
-    {"image/tiff", "tif/tiff", "TIFF image data", OF_DATA},
-    {"image/bmp", "bmp", "PC bitmap", OF_DATA},
-    {"image/jxr", "jxr", "JPEG-XR", OF_DATA},
-    {"image/vnd.adobe.photoshop", "psd", "Adobe Photoshop Image", OF_DATA},
-    {"image/vnd.microsoft.icon", "ico", "MS Windows icon resource", OF_DATA},
-    {"image/heif", "heif", "ISO Media, HEIF Image", OF_DATA},
-    {"image/avif", "avif", "ISO Media, AVIF Image", OF_DATA},
-    {"image/jxl", "jxl", "JPEG XL codestream", OF_DATA},
-    {"image/openraster", "ora", "OpenRaster Image", OF_DATA},
-    {"image/vnd.djvu", "djvu", "DjVu document", OF_DATA},
-    {"image/vnd.dwg", "dwg", "DWG AutoDesk AutoCAD", OF_DATA},
-    {"video/mp4", "mp4", "ISO Media, MP4", OF_DATA},
-    {"video/x-m4v", "m4v", "ISO Media, Apple iTunes Video (.M4V) Video", OF_DATA},
-    {"video/x-matroska", "mkv", "Matroska data", OF_DATA},
-    {"video/webm", "webm", "WebM", OF_DATA},
-    {"video/quicktime", "mov", "ISO Media, Apple QuickTime movie", OF_DATA},
-    {"video/x-msvideo", "avi", "RIFF (little-endian) data, AVI", OF_DATA},
-    {"video/x-ms-asf", "wmv", "Microsoft ASF", OF_DATA},
-    {"video/mpeg", "mpg", "MPEG sequence", OF_DATA},
-    {"video/x-flv", "flv", "Macromedia Flash Video", OF_DATA},
-    {"audio/midi", "midi", "Standard MIDI data", OF_DATA},
-    {"audio/mpeg", "mp3", "MPEG audio", OF_DATA},
-    {"audio/x-m4a", "m4a", "ISO Media, Apple iTunes ALAC/AAC-LC (.M4A) Audio", OF_DATA},
-    {"audio/ogg", "opus", "Ogg data, Opus audio", OF_DATA},
-    {"audio/ogg", "ogg", "Ogg data", OF_DATA},
-    {"audio/flac", "flac", "FLAC audio bitstream data", OF_DATA},
-    {"audio/x-wav", "wav/wave", "RIFF (little-endian) data, WAVE audio", OF_DATA},
-    {"audio/amr", "amr", "Adaptive Multi-Rate Codec (GSM telephony)", OF_DATA},
-    {"audio/x-hx-aac-adts", "aac", "MPEG ADTS, AAC", OF_DATA},
-    {"audio/x-aiff", "aiff", "IFF data, AIFF audio", OF_DATA},
-    {"audio/x-dsf", "dsf", "DSF audio bitstream data", OF_DATA},
-    {"audio/x-ape", "ape", "Monkey's Audio compressed format", OF_DATA},
-    {"font/woff", "woff", "Web Open Font Format", OF_DATA},
-    {"font/woff2", "woff2", "Web Open Font Format (Version 2)", OF_DATA},
-    {"font/sfnt", "ttf/tte", "TrueType Font data", OF_DATA},
-    {"application/vnd.ms-opentype", "otf", "OpenType font data", OF_DATA},
-    {"application/msword", "doc", "Composite Document File V2 Document, Microsoft Word", OF_DATA},
-    {"application/vnd.openxmlformats-officedocument.wordprocessingml.document", "docx", "Microsoft Word 2007+", OF_DATA},
-    {"application/vnd.ms-excel", "xls", "Composite Document File V2 Document, Microsoft Excel", OF_DATA},
-    {"application/vnd.openxmlformats-officedocument.spreadsheetml.sheet", "xlsx", "Microsoft Excel 2007+", OF_DATA},
-    {"application/vnd.ms-powerpoint", "ppt", "Composite Document File V2 Document, Microsoft PowerPoint", OF_DATA},
-    {"application/vnd.openxmlformats-officedocument.presentationml.presentation", "pptx", "Microsoft PowerPoint 2007+", OF_DATA},
-    {"application/vnd.oasis.opendocument.text", "odt", "OpenDocument Text", OF_DATA},
-    {"application/vnd.oasis.opendocument.spreadsheet", "ods", "OpenDocument Spreadsheet", OF_DATA},
-    {"application/vnd.oasis.opendocument.presentation", "odp", "OpenDocument Presentation", OF_DATA},
-    {"application/epub+zip", "epub", "EPUB document", OF_DATA},
-    {"application/zip", "zip", "Zip archive data", OF_DATA},
-    {"application/x-tar", "tar", "tar archive", OF_DATA},
-    {"application/x-par2", "par2", "Parity Archive Volume Set", OF_DATA},
-    {"application/x-rar", "rar/cbr", "RAR archive data", OF_DATA},
-    {"application/gzip", "gz", "gzip compressed data", OF_DATA},
-    {"application/x-bzip2", "bz2", "bzip2 compressed data", OF_DATA},
-    {"application/vnd.bzip3", "bz3", "bzip3 compressed data", OF_DATA},
-    {"application/x-7z-compressed", "7z/cb7", "7-zip archive data", OF_DATA},
-    {"application/x-xz", "xz", "XZ compressed data", OF_DATA},
-    {"application/pdf", "pdf", "PDF document", OF_DATA},
-    {"application/x-shockwave-flash", "swf", "Macromedia Flash data", OF_DATA},
-    {"text/rtf", "rtf", "Rich Text Format data", OF_DATA},
-    {"application/octet-stream", "eot", "Embedded OpenType (EOT)", OF_DATA},
-    {"application/postscript", "ps", "PostScript document text", OF_DATA},
-    {"application/vnd.sqlite3", "sqlite/sqlite3/db", "SQLite 3.x database", OF_DATA},
-    {"application/x-nes-rom", "nes", "NES ROM image (iNES)", OF_DATA},
-    {"application/x-chrome-extension", "crx", "Google Chrome extension", OF_DATA},
-    {"application/vnd.ms-cab-compressed", "cab", "Microsoft Cabinet archive data", OF_DATA},
-    {"application/vnd.debian.binary-package", "deb/udeb/ipk", "Debian binary package", OF_DATA},
-    {"application/x-archive", "a/lib", "current ar archive", OF_DATA},
-    {"application/x-compress", "Z", "compress'd data", OF_DATA},
-    {"application/x-lzip", "lz", "lzip compressed data", OF_DATA},
-    {"application/x-rpm", "rpm", "RPM", OF_DATA},
-    {"application/dicom", "dcm/dicom/dic", "DICOM medical imaging data", OF_DATA},
-    {"application/zstd", "zst", "Zstandard compressed data", OF_DATA},
-    {"application/x-lz4", "lz4", "LZ4 compressed data", OF_DATA},
-    {"application/x-ole-storage", "msi", "Composite Document File V2 Document", OF_DATA},
-    {"application/x-cpio", "cpio", "cpio archive", OF_DATA},
-    {"text/html", "html", "HTML document", OF_TEXT},
-    {"text/xml", "xml", "XML document", OF_TEXT},
-    {"text/x-shellscript", "sh", "shell script", OF_SCRIPT},
-    {"application/x-object", "o", "ELF relocatable", OF_ELF},
-    {"application/x-coredump", "core", "ELF core file", OF_ELF},
-    {"application/vnd.appimage", "appimage", "ELF executable", OF_ELF},
-    {"application/x-sharedlib", "so", "ELF shared object", OF_ELF},
-    {"application/vnd.android.package-archive", "apk", "Android package (APK)", OF_DATA},
-    {"application/vnd.google-earth.kmz", "kmz", "Compressed Google KML Document", OF_DATA},
-    {"application/java-archive", "jar", "Java archive data (JAR)", OF_DATA},
-    {"application/vnd.openxmlformats-officedocument.wordprocessingml.document", "docx", "Microsoft Word 2007+", OF_DATA},
-    {"application/vnd.openxmlformats-officedocument.spreadsheetml.sheet", "xlsx", "Microsoft Excel 2007+", OF_DATA},
-    {"application/vnd.openxmlformats-officedocument.presentationml.presentation", "pptx", "Microsoft PowerPoint 2007+", OF_DATA},
-    {"application/vnd.ms-visio.drawing.main+xml", "vsdx", "Microsoft Visio 2013+", OF_DATA},
-    {"model/3mf", "3mf", "3MF model", OF_DATA},
-    {"application/vnd.oasis.opendocument.graphics", "odg", "OpenDocument Drawing", OF_DATA},
-    {"application/vnd.oasis.opendocument.formula", "odf", "OpenDocument Formula", OF_DATA},
-    {"application/x-krita", "kra", "Krita document", OF_DATA},
-    {"application/vnd.oasis.opendocument.text-template", "ott", "OpenDocument Text Template", OF_DATA},
-    {"application/vnd.oasis.opendocument.spreadsheet-template", "ots", "OpenDocument Spreadsheet Template", OF_DATA},
-    {"application/vnd.oasis.opendocument.presentation-template", "otp", "OpenDocument Presentation Template", OF_DATA},
-    {"application/x-cubin", "cubin", "application/x-cubin", OF_DATA},
-    {"application/x-msi", "msi", "Composite Document File V2 Document, MSI Installer", OF_DATA},
-    {"application/vnd.ms-outlook", "msg", "CDFV2 Microsoft Outlook Message", OF_DATA},
-    {"application/vnd.ms-publisher", "pub", "Composite Document File V2 Document, Microsoft Publisher", OF_DATA},
-    {"application/vnd.visio", "vsd", "Composite Document File V2 Document, Microsoft Visio", OF_DATA},
-    {"application/pgp-encrypted", "pgp", "PGP message", OF_TEXT},
-    {"application/pgp-keys", "asc", "PGP public key block", OF_TEXT},
-    {"application/pgp-signature", "asc/sig", "PGP signature", OF_TEXT},
-    {"text/plain", "openssh", "OpenSSH private key", OF_TEXT},
-    {"text/plain", "key", "PEM private key", OF_TEXT},
-    {"application/pkcs12", "p12", "PKCS #12 keys and certificates", OF_DATA},
-    {"application/pkcs7-mime", "p7b", "DER encoded PKCS #7 data", OF_DATA},
-    {"application/vnd.sqlite3", "gpkg", "SQLite 3.x database (OGC GeoPackage file)", OF_DATA},
-    {"image/tiff", "dng", "TIFF image data (DNG)", OF_DATA},
-    {"image/png", "png", "PNG image data, animated", OF_DATA},
-    {"image/heic", "heic", "ISO Media, HEIF Image HEVC Main or Main Still Picture Profile", OF_DATA},
-    {"image/jpx", "jpx", "JPEG 2000 Part 2 (JPX)", OF_DATA},
-    {"application/postscript", "eps", "PostScript document text, type EPS", OF_DATA},
-    {"video/ogg", "ogv", "Ogg data, Theora video", OF_DATA},
-    {"audio/ogg", "oga", "Ogg data", OF_DATA},
-    {"image/jls", "jls", "image/jls", OF_DATA},
-    {"text/x-script.python", "py", "Python script", OF_SCRIPT},
-    {"text/x-perl", "pl", "Perl script", OF_SCRIPT},
-    {"text/x-ruby", "rb", "Ruby script", OF_SCRIPT},
-    {"application/javascript", "js", "Node.js script", OF_SCRIPT},
-    {"text/x-php", "php", "PHP script", OF_SCRIPT},
-    {"text/x-lua", "lua", "Lua script", OF_SCRIPT},
-    {"text/x-awk", "awk", "awk script", OF_SCRIPT},
-    {"text/x-tcl", "tcl", "Tcl script", OF_SCRIPT},
-    {"image/svg+xml", "svg", "SVG Scalable Vector Graphics image", OF_DATA},
-    {"text/xml", "rss", "RSS feed, XML document", OF_TEXT},
-    {"text/xml", "atom", "Atom feed, XML document", OF_TEXT},
-    {"application/vnd.google-earth.kml+xml", "kml", "Google KML document", OF_DATA},
-    {"text/xml", "gpx", "GPX data, XML document", OF_TEXT},
-    {"text/xml", "xhtml", "XHTML document, XML document", OF_TEXT},
-    {"text/xml", "plist", "Apple property list, XML document", OF_TEXT},
-    {"image/svg+xml", "svg", "SVG Scalable Vector Graphics image", OF_DATA},
-    {"image/svg+xml", "svg", "SVG Scalable Vector Graphics image", OF_DATA},
-    {"application/x-pcapng", "pcapng", "pcapng capture file", OF_DATA},
-    {"application/x-bytecode.python", "pyc", "Byte-compiled Python module", OF_DATA},
-    {"application/x-terminfo", "terminfo", "Compiled terminfo entry", OF_DATA},
-    {"application/x-gettext-translation", "gmo/mo", "GNU message catalog", OF_DATA},
-    {"application/tzif", "tzif", "timezone data", OF_DATA},
-    {"application/x-java-jmod", "jmod", "Java jmod module", OF_DATA},
-    {"application/x-lua-bytecode", "luac", "Lua bytecode", OF_DATA},
-    {"application/x-erlang-beam", "beam", "Erlang BEAM file", OF_DATA},
-    {"application/x-pascal-unit", "ppu", "Pascal unit", OF_DATA},
-    {"application/x-raw-disk-image", "luks", "LUKS encrypted file", OF_DATA},
-    {"application/x-age-encryption", "age", "age encrypted file", OF_DATA},
-    {"application/pgp-keys", "gpg", "OpenPGP Public Key", OF_DATA},
-    {"application/x-vmdk-disk", "vmdk", "VMware4 disk image", OF_DATA},
-    {"application/x-virtualbox-vhd", "vhd", "Microsoft Disk Image, Virtual Server or Virtual PC", OF_DATA},
-    {"application/x-vhdx-disk", "vhdx", "Microsoft Disk Image eXtended", OF_DATA},
-    {"application/x-systemd-journal", "journal", "Journal file", OF_DATA},
-    {"application/vnd.tcpdump.pcap", "pcap", "pcap capture file", OF_DATA},
-    {"application/x-ms-evtx", "evtx", "MS Windows 10-11 Event Log", OF_DATA},
-    {"application/x-ms-shortcut", "lnk", "MS Windows shortcut", OF_DATA},
-    {"application/vnd.ms-outlook", "pst", "Microsoft Outlook Personal Storage", OF_DATA},
-    {"application/x-bittorrent", "torrent", "BitTorrent file", OF_DATA},
-    {"application/x-numpy-data", "npy", "NumPy data file", OF_DATA},
-    {"application/vnd.apache.parquet", "parquet", "Apache Parquet", OF_DATA},
-    {"application/x-avro", "avro", "Apache Avro", OF_DATA},
-    {"application/x-orc", "orc", "Apache ORC", OF_DATA},
-    {"application/vnd.apache.arrow.file", "arrow", "Apache Arrow columnar file", OF_DATA},
-    {"application/x-gguf", "gguf", "GGUF model", OF_DATA},
-    {"application/x-msaccess", "mdb", "Microsoft Access Database", OF_DATA},
-    {"application/x-msaccess", "accdb", "Microsoft Access Database", OF_DATA},
-    {"application/x-gdbm", "gdbm", "GNU dbm database", OF_DATA},
-    {"application/vnd.shx", "shx", "ESRI Shapefile", OF_DATA},
-    {"application/vnd.shp", "shp", "ESRI Shapefile", OF_DATA},
-    {"application/vnd.squashfs", "squashfs", "Squashfs filesystem", OF_DATA},
-    {"application/x-ms-wim", "wim/swm/esd", "Windows imaging (WIM) image", OF_DATA},
-    {"application/x-xar", "xar/pkg/xip", "xar archive", OF_DATA},
-    {"application/x-arj", "arj", "ARJ archive data", OF_DATA},
-    {"application/x-lz4", "lz4", "LZ4 compressed data", OF_DATA},
-    {"application/x-snappy-framed", "sz", "snappy framed data", OF_DATA},
-    {"application/x-lzma", "lzma", "LZMA compressed data", OF_DATA},
-    {"application/x-cpio", "cpio", "cpio archive", OF_DATA},
-    {"application/warc", "warc", "WARC Archive", OF_DATA},
-    {"image/x-xcursor", "xcursor", "X11 cursor", OF_DATA},
-    {"image/x-xcf", "xcf", "GIMP XCF image data", OF_DATA},
-    {"image/fits", "fits/fts", "FITS image data", OF_DATA},
-    {"image/x-fuji-raf", "raf", "Fujifilm RAF raw image data", OF_DATA},
-    {"image/x-panasonic-rw2", "rw2", "Panasonic raw image data", OF_DATA},
-    {"application/x-bplist", "bplist", "Apple binary property list", OF_DATA},
-    {"image/x-icns", "icns", "Mac OS X icon", OF_DATA},
-    {"application/x-navi-animation", "ani", "RIFF (little-endian) data, animated cursor", OF_DATA},
-    {"image/x-portable-anymap", "pnm", "Netpbm image data", OF_DATA},
-    {"image/x-xpixmap", "xpm", "X pixmap image", OF_DATA},
-    {"application/postscript", "eps", "PostScript document text, type EPS", OF_DATA},
-    {"model/gltf-binary", "glb", "glTF binary model", OF_DATA},
-    {"application/x-blender", "blend", "Blender3D", OF_DATA},
-    {"image/jph", "jph", "image/jph", OF_DATA},
-    {"audio/basic", "au", "Sun/NeXT audio data", OF_DATA},
-    {"audio/x-aiff", "aifc", "IFF data, AIFF-C compressed audio", OF_DATA},
-    {"audio/x-wavpack", "wv", "WavPack Lossless Audio", OF_DATA},
-    {"audio/x-musepack", "mpc", "Musepack audio", OF_DATA},
-    {"audio/x-unknown", "voc", "Creative Labs voice data", OF_DATA},
-    {"text/plain", "m3u8", "M3U playlist", OF_TEXT},
-    {"application/vnd.ms-htmlhelp", "chm", "MS Windows HtmlHelp Data", OF_DATA},
-    {"font/ttf", "ttc", "TrueType font collection data", OF_DATA},
-    {"text/calendar", "ics", "vCalendar calendar file", OF_TEXT},
-    {"text/vcard", "vcf/vcard", "vCard visiting card", OF_TEXT},
-    {"text/vtt", "vtt", "WebVTT subtitles", OF_TEXT},
-    {"text/x-php", "php", "PHP script", OF_SCRIPT},
-    {"application/x-subrip", "srt", "SubRip", OF_TEXT},
-    {"application/x-lzh-compressed", "lzh/lha", "LHa archive data", OF_DATA},
-    {"video/3gpp", "3gp", "ISO Media, MPEG v4 system, 3GPP", OF_DATA},
-    {"video/3gpp2", "3g2", "ISO Media, MPEG v4 system, 3GPP2", OF_DATA},
-    {"video/mp4", "f4v", "ISO Media, Adobe Flash Video", OF_DATA},
-    {"audio/mp4", "m4b", "ISO Media, Apple iTunes audio book", OF_DATA},
-    {"image/x-canon-cr3", "cr3", "ISO Media, Canon CR3 raw image", OF_DATA},
-    {"image/heic-sequence", "heics", "ISO Media, HEIF Image Sequence", OF_DATA},
-    {"image/heif", "heif", "ISO Media, HEIF Image", OF_DATA},
-    {"application/x-safetensors", "safetensors", "safetensors model", OF_DATA},
-    {"application/x-hdf5", "h5/hdf5/hdf/he5", "Hierarchical Data Format (version 5) data", OF_DATA},
-    {"application/x-dbm", "bdb", "Berkeley DB", OF_DATA},
-    {"application/x-vdi-disk", "vdi", "VirtualBox Disk Image", OF_DATA},
-    {"application/x-dbf", "dbf", "dBase table", OF_DATA},
-    {"application/x-ext-filesystem", "ext2", "Linux extended filesystem data", OF_DATA},
-    {"video/MP2T", "ts", "MPEG transport stream data", OF_DATA},
-    {"application/x-tar", "tar", "tar archive", OF_DATA},
-    {"application/vnd.oasis.opendocument.chart", "odc", "application/vnd.oasis.opendocument.chart", OF_DATA},
-    {"application/vnd.oasis.opendocument.graphics-template", "otg", "OpenDocument Drawing Template", OF_DATA},
-    {"application/vnd.sun.xml.writer", "sxw", "OpenOffice.org 1.x Writer document", OF_DATA},
-    {"application/x-karbon", "karbon", "application/x-karbon", OF_DATA},
-    {"application/x-kchart", "chrt", "application/x-kchart", OF_DATA},
-    {"application/x-kivio", "flw", "application/x-kivio", OF_DATA},
-    {"application/vnd.apple.keynote", "key", "application/vnd.apple.keynote", OF_DATA},
-    {"application/vnd.apple.pkpass", "pkpass", "application/vnd.apple.pkpass", OF_DATA},
-    {"application/x-zip-compressed-fb2", "fbz", "application/x-zip-compressed-fb2", OF_DATA},
-    {"application/vnd.ms-word.document.macroEnabled.12", "docm", "application/vnd.ms-word.document.macroEnabled.12", OF_DATA},
-    {"application/vnd.ms-excel.sheet.macroEnabled.12", "xlsm", "application/vnd.ms-excel.sheet.macroEnabled.12", OF_DATA},
-    {"application/vnd.ms-excel.sheet.binary.macroEnabled.12", "xlsb", "application/vnd.ms-excel.sheet.binary.macroEnabled.12", OF_DATA},
-    {"application/vnd.ms-powerpoint.presentation.macroEnabled.12", "pptm", "application/vnd.ms-powerpoint.presentation.macroEnabled.12", OF_DATA},
-    {"application/vnd.stardivision.writer", "sdw", "application/vnd.stardivision.writer", OF_DATA},
-    {"application/x-linux-kernel", "bzimage", "application/x-linux-kernel", OF_DATA},
-    {"application/x-ruby-gem", "gem", "application/x-ruby-gem", OF_DATA},
-    {"application/x-go-archive", "goa", "application/x-go-archive", OF_DATA},
-    {"application/pkix-crl", "crl", "application/pkix-crl", OF_DATA},
-    {"image/jpm", "jpm", "JPEG 2000 Part 6 (JPM)", OF_DATA},
-    {"video/mj2", "mj2", "JPEG 2000 Part 3 (MJ2)", OF_DATA},
-    {"image/vnd.djvu", "djvm", "DjVu multiple page document", OF_DATA},
-    {"audio/ogg", "spx", "Ogg data, Speex audio", OF_DATA},
-    {"application/postscript", "pfa", "PostScript Type 1 font text", OF_TEXT},
-    {"application/x-installshield", "cab", "InstallShield CAB", OF_DATA},
-    {"application/x-rpm", "srpm", "RPM source package", OF_DATA},
-    {"text/javascript", "gjs", "text/javascript", OF_DATA},
-    {"text/x-qml", "qml", "text/x-qml", OF_DATA},
-    {"application/x-kpresenter", "kpr", "application/x-kpresenter", OF_DATA},
-    {"application/x-kword", "kwd", "application/x-kword", OF_DATA},
-    {"application/x-kspread", "ksp", "application/x-kspread", OF_DATA},
-    {"text/x-erlang", "escript", "text/x-erlang", OF_DATA},
-    {"text/x-raku", "raku", "text/x-raku", OF_DATA},
-    {"text/x-racket", "rkt", "text/x-racket", OF_DATA},
-    {"text/x-common-lisp", "lisp", "text/x-common-lisp", OF_DATA},
-    {"application/x-dart", "dart", "application/x-dart", OF_DATA},
-    {"text/x-nftables", "nft", "text/x-nftables", OF_DATA},
-    {"text/x-opml+xml", "opml", "text/x-opml+xml", OF_DATA},
-    {"application/x-fictionbook+xml", "fb2", "application/x-fictionbook+xml", OF_DATA},
-    {"application/x-gtk-builder", "gtkbuilder", "application/x-gtk-builder", OF_DATA},
-    {"text/vnd.trolltech.linguist", "lingts", "text/vnd.trolltech.linguist", OF_DATA},
-    {"application/owl+xml", "owx", "application/owl+xml", OF_DATA},
-    {"application/sparql-results+xml", "srx", "application/sparql-results+xml", OF_DATA},
-    {"application/metalink4+xml", "meta4", "application/metalink4+xml", OF_DATA},
-    {"application/x-nzb", "nzb", "application/x-nzb", OF_DATA},
-    {"application/x-java-jnlp-file", "jnlp", "application/x-java-jnlp-file", OF_DATA},
-    {"application/x-dia-shape", "diashape", "application/x-dia-shape", OF_DATA},
-    {"application/vnd.oasis.opendocument.text-flat-xml", "fodt", "application/vnd.oasis.opendocument.text-flat-xml", OF_DATA},
-    {"application/x-font-ttx", "ttx", "application/x-font-ttx", OF_DATA},
-    {"application/x-xmp+xml", "xmp", "application/x-xmp+xml", OF_DATA},
-    {"application/mathml+xml", "mml", "application/mathml+xml", OF_DATA},
-    {"application/x-sami", "sami", "application/x-sami", OF_DATA},
-    {"image/ktx", "ktx", "Khronos KTX texture", OF_DATA},
-    {"image/ktx2", "ktx2", "Khronos KTX2 texture", OF_DATA},
-    {"image/astc", "astc", "ASTC texture", OF_DATA},
-    {"image/x-exr", "exr", "OpenEXR image data", OF_DATA},
-    {"image/vnd.radiance", "hdr", "Radiance HDR image data", OF_DATA},
-    {"image/x-pcx", "pcx", "PCX image data", OF_DATA},
-    {"image/x-sgi", "sgi", "SGI image data", OF_DATA},
-    {"image/x-sun-raster", "ras", "Sun raster image data", OF_DATA},
-    {"image/x-xwindowdump", "xwd", "X-Window screen dump image data", OF_DATA},
-    {"image/x-win-bitmap", "cur", "MS Windows cursor resource", OF_DATA},
-    {"image/flif", "flif", "FLIF image data", OF_DATA},
-    {"image/bpg", "bpg", "image/bpg", OF_DATA},
-    {"video/x-mng", "mng", "MNG video data", OF_DATA},
-    {"image/x-jp2-codestream", "j2c", "JPEG 2000 codestream", OF_DATA},
-    {"image/x-paintshoppro", "psp", "Paint Shop Pro Image File", OF_DATA},
-    {"image/x-minolta-mrw", "mrw", "image/x-minolta-mrw", OF_DATA},
-    {"image/x-miff", "miff", "MIFF image data", OF_DATA},
-    {"image/x-dpx", "dpx", "DPX image data", OF_DATA},
-    {"image/x-x3f", "x3f", "Foveon X3F raw image data", OF_DATA},
-    {"image/x-canon-crw", "crw", "Canon CIFF raw image data", OF_DATA},
-    {"image/x-gimp-gbr", "gbr", "GIMP brush data", OF_DATA},
-    {"image/x-gimp-pat", "pat", "GIMP pattern data", OF_DATA},
-    {"image/vnd.ms-modi", "mdi", "image/vnd.ms-modi", OF_DATA},
-    {"image/x-pgf", "pgf", "Progressive Graphics image data", OF_DATA},
-    {"image/x-3ds", "3ds", "3D Studio model", OF_DATA},
-    {"image/x-ilbm", "ilbm", "IFF data", OF_DATA},
-    {"image/x-quicktime", "qtif", "image/x-quicktime", OF_DATA},
-    {"audio/x-mod", "it", "Impulse Tracker module sound data", OF_DATA},
-    {"audio/x-mod", "xm", "Fasttracker II module sound data", OF_DATA},
-    {"audio/x-mtm", "mtm", "Multitracker module", OF_DATA},
-    {"audio/x-med", "med", "OctaMED Pro music file", OF_DATA},
-    {"audio/x-mo3", "mo3", "MOdule music file", OF_DATA},
-    {"audio/prs.sid", "sid", "PlaySID music file", OF_DATA},
-    {"audio/x-nsf", "nsf", "NES Sound File", OF_DATA},
-    {"audio/vnd.dts", "dts", "audio/vnd.dts", OF_DATA},
-    {"audio/x-pn-realaudio", "ra", "RealAudio sound file", OF_DATA},
-    {"application/vnd.rn-realmedia", "rm", "RealMedia file", OF_DATA},
-    {"audio/x-dff", "dff", "DSDIFF audio bitstream data", OF_DATA},
-    {"application/vnd.smaf", "mmf", "Yamaha SMAF file", OF_DATA},
-    {"text/x-imelody", "imy", "iMelody Ringtone Format", OF_TEXT},
-    {"audio/flac", "flac", "FLAC audio bitstream data", OF_DATA},
-    {"audio/x-ape", "ape", "Monkey's Audio compressed format", OF_DATA},
-    {"audio/x-tta", "tta", "audio/x-tta", OF_DATA},
-    {"audio/x-musepack", "mpc", "Musepack audio", OF_DATA},
-    {"audio/x-dsf", "dsf", "DSF audio bitstream data", OF_DATA},
-    {"audio/x-ircam", "ircam", "audio/x-ircam", OF_DATA},
-    {"application/mxf", "mxf", "Material exchange container format", OF_DATA},
-    {"video/dv", "dv", "video/dv", OF_DATA},
-    {"video/x-ms-wtv", "wtv", "Windows Television DVR Media", OF_DATA},
-    {"application/x-lzop", "lzo", "lzop compressed data", OF_DATA},
-    {"application/x-lrzip", "lrz", "LRZIP compressed data", OF_DATA},
-    {"application/x-alz", "alz", "ALZ archive data", OF_DATA},
-    {"application/x-qpress", "qp", "qpress compressed data", OF_DATA},
-    {"application/x-bsdiff", "bsdiff", "bsdiff patch file", OF_DATA},
-    {"application/x-zchunk", "zck", "application/x-zchunk", OF_DATA},
-    {"application/x-asar", "asar", "application/x-asar", OF_DATA},
-    {"application/vnd.flatpak", "flatpak", "application/vnd.flatpak", OF_DATA},
-    {"application/x-bgzf", "bgzf", "application/x-bgzf", OF_DATA},
-    {"application/x-killustrator", "kil", "application/x-killustrator", OF_DATA},
-    {"application/x-karbon", "karbon", "application/x-karbon", OF_DATA},
-    {"application/x-dar", "dar", "application/x-dar", OF_DATA},
-    {"application/x-macbinary", "macbin", "application/x-macbinary", OF_DATA},
-    {"multipart/appledouble", "appledouble", "multipart/appledouble", OF_DATA},
-    {"application/applefile", "applesingle", "application/applefile", OF_DATA},
-    {"application/x-qed-disk", "qed", "QEMU QED Image", OF_DATA},
-    {"application/x-amiga-disk-format", "adf", "Amiga DOS disk", OF_DATA},
-    {"application/x-hfe-floppy-image", "hfe", "application/x-hfe-floppy-image", OF_DATA},
-    {"application/x-fds-disk", "fds", "Famicom Disk System disk image", OF_DATA},
-    {"image/x-lytro-lfp", "lfp", "image/x-lytro-lfp", OF_DATA},
-    {"image/x-zeiss-czi", "czi", "image/x-zeiss-czi", OF_DATA},
-    {"application/x-sqlite2", "sqlite2", "SQLite 2.x database", OF_DATA},
-    {"application/x-openzim", "zim", "application/x-openzim", OF_DATA},
-    {"application/x-hdf", "hdf4", "Hierarchical Data Format", OF_DATA},
-    {"application/x-spss-sav", "sav", "application/x-spss-sav", OF_DATA},
-    {"application/vnd.lotus-wordpro", "lwp", "Lotus WordPro", OF_DATA},
-    {"application/vnd.lotus-1-2-3", "wk1", "application/vnd.lotus-1-2-3", OF_DATA},
-    {"application/winhelp", "hlp", "MS Windows 3.1 help", OF_DATA},
-    {"application/x-indesign", "indd", "Adobe InDesign Document", OF_DATA},
-    {"application/vnd.ms-tnef", "tnef", "Transport Neutral Encapsulation Format", OF_DATA},
-    {"application/x-dvi", "dvi", "TeX DVI file", OF_DATA},
-    {"application/x-adobe-cmap", "cmap", "application/x-adobe-cmap", OF_DATA},
-    {"text/x-txt2tags", "t2t", "text/x-txt2tags", OF_DATA},
-    {"application/x-java-pack200", "pack200", "JAR compressed by pack200", OF_DATA},
-    {"font/x-postscript-pfb", "pfb", "PostScript Type 1 font program data", OF_DATA},
-    {"application/x-font-afm", "afm", "application/x-font-afm", OF_DATA},
-    {"application/x-java-keystore", "jks", "Java KeyStore", OF_DATA},
-    {"application/x-java-jce-keystore", "jceks", "Java JCE KeyStore", OF_DATA},
-    {"application/x-n64-rom", "n64", "Nintendo 64 ROM image", OF_DATA},
-    {"application/x-atari-lynx-rom", "lnx", "Lynx cartridge", OF_DATA},
-    {"application/x-atari-7800-rom", "a78", "application/x-atari-7800-rom", OF_DATA},
-    {"application/x-wii-wad", "wiiwad", "application/x-wii-wad", OF_DATA},
-    {"application/x-mame-chd", "chd", "MAME CHD compressed hard disk image", OF_DATA},
-    {"video/x-ogm+ogg", "ogm", "video/x-ogm+ogg", OF_DATA},
-    {"application/ogg", "ogx", "application/ogg", OF_DATA},
-    {"audio/x-vorbis+ogg", "vorbis", "audio/x-vorbis+ogg", OF_DATA},
-    {"application/x-kate", "kate", "application/x-kate", OF_DATA},
-    {"application/x-doom-wad", "wad", "doom WAD data", OF_DATA},
-    {"application/x-bps-patch", "bps", "BPS patch file", OF_DATA},
-    {"application/x-ips-patch", "ips", "IPS patch file", OF_DATA},
-    {"application/x-it87", "it87", "application/x-it87", OF_DATA},
-    {"application/x-ccmx", "ccmx", "application/x-ccmx", OF_DATA},
-    {"application/gnunet-directory", "gnd", "application/gnunet-directory", OF_DATA},
-    {"application/x-qtiplot", "qti", "application/x-qtiplot", OF_DATA},
-    {"application/x-pocket-word", "psw", "Pocket Word document or template", OF_DATA},
-    {"image/x-itc", "itc", "image/x-itc", OF_DATA},
-    {"video/x-red-r3d", "r3d", "REDCode Video", OF_DATA},
-    {"application/vnd.iccprofile", "icc", "ICC color profile", OF_DATA},
-    {"application/x-csh", "csh", "application/x-csh", OF_DATA},
-    {"application/x-fishscript", "fish", "application/x-fishscript", OF_DATA},
-    {"text/x-r", "r", "text/x-r", OF_DATA},
-    {"text/x-scheme", "scm", "text/x-scheme", OF_DATA},
-    {"text/x-clojure", "clj", "text/x-clojure", OF_DATA},
-    {"text/x-groovy", "groovy", "text/x-groovy", OF_DATA},
-    {"text/x-scala", "scala", "text/x-scala", OF_DATA},
-    {"text/x-ocaml", "ml", "text/x-ocaml", OF_DATA},
-    {"application/x-ocaml-bytecode", "ocamlrun", "application/x-ocaml-bytecode", OF_DATA},
-    {"text/x-haskell", "hs", "text/x-haskell", OF_DATA},
-    {"text/x-julia", "jl", "text/x-julia", OF_DATA},
-    {"text/x-octave", "m", "text/x-octave", OF_DATA},
-    {"application/x-gnuplot", "gnuplot", "application/x-gnuplot", OF_DATA},
-    {"text/x-makefile", "mk", "text/x-makefile", OF_DATA},
-    {"text/x-sed", "sed", "text/x-sed", OF_DATA},
-    {"text/x-systemtap", "stp", "text/x-systemtap", OF_DATA},
-    {"text/x-execline", "execline", "text/x-execline", OF_DATA},
-    {"text/x-luatex", "texlua", "text/x-luatex", OF_DATA},
-    {"application/x-powershell", "ps1", "application/x-powershell", OF_DATA},
-    {"text/x-elixir", "exs", "text/x-elixir", OF_DATA},
-    {"application/vnd.oasis.opendocument.text-master", "odm", "application/vnd.oasis.opendocument.text-master", OF_DATA},
-    {"application/vnd.oasis.opendocument.base", "odb", "application/vnd.oasis.opendocument.base", OF_DATA},
-    {"application/vnd.oasis.opendocument.image", "odi", "application/vnd.oasis.opendocument.image", OF_DATA},
-    {"application/vnd.sun.xml.calc", "sxc", "application/vnd.sun.xml.calc", OF_DATA},
-    {"application/vnd.sun.xml.draw", "sxd", "application/vnd.sun.xml.draw", OF_DATA},
-    {"application/vnd.sun.xml.impress", "sxi", "application/vnd.sun.xml.impress", OF_DATA},
-    {"application/vnd.sun.xml.math", "sxm", "application/vnd.sun.xml.math", OF_DATA},
-    {"application/x-kformula", "kfo", "application/x-kformula", OF_DATA},
-    {"application/x-kontour", "kon", "application/x-kontour", OF_DATA},
-    {"application/x-kpresenter", "kpr", "application/x-kpresenter", OF_DATA},
-    {"application/x-kspread", "ksp", "application/x-kspread", OF_DATA},
-    {"application/x-kword", "kwd", "application/x-kword", OF_DATA},
-    {"application/x-iwork", "iwa", "application/x-iwork", OF_DATA},
-    {"application/x-silverlight-app", "xap", "application/x-silverlight-app", OF_DATA},
-    {"application/x-extension-fcstd", "fcstd", "application/x-extension-fcstd", OF_DATA},
-    {"application/x-musescore", "mscz", "application/x-musescore", OF_DATA},
-    {"application/x-qgis-project", "qgz", "application/x-qgis-project", OF_DATA},
-    {"application/vnd.ms-project", "mpp", "application/vnd.ms-project", OF_DATA},
-    {"image/vnd.fpx", "fpx", "image/vnd.fpx", OF_DATA},
-    {"application/x-corelpresentations", "shw", "application/x-corelpresentations", OF_DATA},
-    {"application/pkcs10", "csr", "application/pkcs10", OF_DATA},
-    {"application/pkcs7-mime", "p7c", "application/pkcs7-mime", OF_DATA},
-    {"application/cms", "cms", "application/cms", OF_DATA},
-    {"application/x-pem-public-key", "pubkey", "application/x-pem-public-key", OF_DATA},
-    {"text/pgp", "asc", "text/pgp", OF_DATA},
-    {"application/x-pem-parameters", "param", "application/x-pem-parameters", OF_DATA},
-    {"application/x-age-encryption", "age", "age encrypted file", OF_DATA},
-    {"application/x-openssh-signature", "sshsig", "application/x-openssh-signature", OF_DATA},
-    {"application/pkcs8", "p8", "application/pkcs8", OF_DATA},
-    {"application/pkcs10", "p10", "application/pkcs10", OF_DATA},
-    {"application/pkix-cert", "cer", "application/pkix-cert", OF_DATA},
-    {"application/x-fossil-checkout", "fossil", "application/x-fossil-checkout", OF_DATA},
-    {"application/x-mbtiles", "mbtiles", "application/x-mbtiles", OF_DATA},
-    {"application/x-monotone-database", "mtn", "application/x-monotone-database", OF_DATA},
-    {"application/x-audacity-project+sqlite3", "aup3", "application/x-audacity-project+sqlite3", OF_DATA},
-    {"image/vnd.ms-dds", "dds", "image/vnd.ms-dds", OF_DATA},
-    {"image/x-dcx", "dcx", "image/x-dcx", OF_DATA},
-    {"image/emf", "emf", "image/emf", OF_DATA},
-    {"image/wmf", "wmf", "image/wmf", OF_DATA},
-    {"image/x-qoi", "qoi", "image/x-qoi", OF_DATA},
-    {"image/x-jng", "jng", "image/x-jng", OF_DATA},
-    {"image/x-corel-cpt", "cpt", "image/x-corel-cpt", OF_DATA},
-    {"image/cineon", "cin", "image/cineon", OF_DATA},
-    {"image/x-olympus-orf", "orf", "image/x-olympus-orf", OF_DATA},
-    {"image/tiff", "btf", "image/tiff", OF_DATA},
-    {"application/x-shockwave-flash", "swfz", "application/x-shockwave-flash", OF_DATA},
-    {"image/vnd.valve.source.texture", "vtf", "image/vnd.valve.source.texture", OF_DATA},
-    {"image/x-pvr", "pvr", "image/x-pvr", OF_DATA},
-    {"image/x-portable-arbitrarymap", "pam", "image/x-portable-arbitrarymap", OF_DATA},
-    {"image/x-portable-floatmap", "pfmap", "image/x-portable-floatmap", OF_DATA},
-    {"image/x-farbfeld", "ff", "image/x-farbfeld", OF_DATA},
-    {"image/x-lss16", "lss", "image/x-lss16", OF_DATA},
-    {"image/x-xisf", "xisf", "image/x-xisf", OF_DATA},
-    {"image/x-jbig2", "jbig2", "image/x-jbig2", OF_DATA},
-    {"application/x-bentley-dgn", "dgn", "application/x-bentley-dgn", OF_DATA},
-    {"application/x-fbx", "fbx", "application/x-fbx", OF_DATA},
-    {"application/x-usdc", "usdc", "application/x-usdc", OF_DATA},
-    {"model/e57", "e57", "model/e57", OF_DATA},
-    {"application/vnd.las", "las", "application/vnd.las", OF_DATA},
-    {"application/vnd.laszip", "laz", "application/vnd.laszip", OF_DATA},
-    {"image/x-xv-thumbnail", "xvthumb", "image/x-xv-thumbnail", OF_DATA},
-    {"image/x-award-bioslogo2", "awbm", "image/x-award-bioslogo2", OF_DATA},
-    {"audio/x-8svx", "8svx", "audio/x-8svx", OF_DATA},
-    {"video/x-anim", "anim", "video/x-anim", OF_DATA},
-    {"application/x-blorb", "blb", "application/x-blorb", OF_DATA},
-    {"image/x-lwo", "lwo", "image/x-lwo", OF_DATA},
-    {"audio/mid", "rmi", "audio/mid", OF_DATA},
-    {"audio/x-sfbk", "sf2", "audio/x-sfbk", OF_DATA},
-    {"video/x-cdxa", "cdxa", "video/x-cdxa", OF_DATA},
-    {"application/vnd.corel-draw", "cdr", "application/vnd.corel-draw", OF_DATA},
-    {"image/x-cmx", "cmxr", "image/x-cmx", OF_DATA},
-    {"video/x-4xmv", "4xm", "video/x-4xmv", OF_DATA},
-    {"video/x-amv", "amv", "video/x-amv", OF_DATA},
-    {"audio/x-mids", "mids", "audio/x-mids", OF_DATA},
-    {"video/x-mmm", "mmm", "video/x-mmm", OF_DATA},
-    {"application/x-trid-trd", "trd", "application/x-trid-trd", OF_DATA},
-    {"video/x-vdr", "vdr", "video/x-vdr", OF_DATA},
-    {"audio/x-wav", "rifx", "audio/x-wav", OF_DATA},
-    {"application/x-director", "dcr", "application/x-director", OF_DATA},
-    {"audio/x-rf64", "rf64", "audio/x-rf64", OF_DATA},
-    {"audio/x-w64", "w64", "audio/x-w64", OF_DATA},
-    {"audio/x-xi", "xi", "audio/x-xi", OF_DATA},
-    {"audio/x-ult", "ult", "audio/x-ult", OF_DATA},
-    {"audio/x-okt", "okt", "audio/x-okt", OF_DATA},
-    {"audio/x-dbm", "dbm", "audio/x-dbm", OF_DATA},
-    {"application/x-unreal-package", "umx", "application/x-unreal-package", OF_DATA},
-    {"audio/x-spc", "spc", "audio/x-spc", OF_DATA},
-    {"audio/x-vgm", "vgm", "audio/x-vgm", OF_DATA},
-    {"audio/x-gbs", "gbs", "audio/x-gbs", OF_DATA},
-    {"audio/x-sap", "sap", "audio/x-sap", OF_DATA},
-    {"audio/x-psf", "psf", "audio/x-psf", OF_DATA},
-    {"audio/x-caf", "caf", "audio/x-caf", OF_DATA},
-    {"application/x-shorten", "shn", "application/x-shorten", OF_DATA},
-    {"audio/ac3", "ac3", "audio/ac3", OF_DATA},
-    {"audio/mobile-xmf", "xmf", "audio/mobile-xmf", OF_DATA},
-    {"audio/x-brstm", "brstm", "audio/x-brstm", OF_DATA},
-    {"audio/x-bcstm", "bcstm", "audio/x-bcstm", OF_DATA},
-    {"audio/x-bfstm", "bfstm", "audio/x-bfstm", OF_DATA},
-    {"audio/x-bcwav", "bcwav", "audio/x-bcwav", OF_DATA},
-    {"audio/x-nist", "sph", "audio/x-nist", OF_DATA},
-    {"audio/x-paf", "paf", "audio/x-paf", OF_DATA},
-    {"audio/x-psion-wve", "wve", "audio/x-psion-wve", OF_DATA},
-    {"audio/x-pvf", "pvf", "audio/x-pvf", OF_DATA},
-    {"audio/x-sds", "sds", "audio/x-sds", OF_DATA},
-    {"audio/x-ay", "ay", "audio/x-ay", OF_DATA},
-    {"video/x-ivf", "ivf", "video/x-ivf", OF_DATA},
-    {"video/x-yuv4mpeg", "y4m", "video/x-yuv4mpeg", OF_DATA},
-    {"video/x-nut", "nut", "video/x-nut", OF_DATA},
-    {"video/vnd.radgamettools.bink", "bik", "video/vnd.radgamettools.bink", OF_DATA},
-    {"video/vnd.radgamettools.smacker", "smk", "video/vnd.radgamettools.smacker", OF_DATA},
-    {"video/x-roq", "roq", "video/x-roq", OF_DATA},
-    {"video/x-interplay-mve", "mve", "video/x-interplay-mve", OF_DATA},
-    {"video/x-sgi-movie", "movie", "video/x-sgi-movie", OF_DATA},
-    {"video/x-ifo", "ifo", "video/x-ifo", OF_DATA},
-    {"video/h264", "h264", "video/h264", OF_DATA},
-    {"video/h265", "h265", "video/h265", OF_DATA},
-    {"video/x-dirac", "drc", "video/x-dirac", OF_DATA},
-    {"image/x-paintnet", "pdn", "image/x-paintnet", OF_DATA},
-    {"image/x-niff", "niff", "image/x-niff", OF_DATA},
-    {"image/x-hsi", "hsi", "image/x-hsi", OF_DATA},
-    {"image/x-godot-stex", "stex", "image/x-godot-stex", OF_DATA},
-    {"image/x-epoc-mbm", "mbm", "image/x-epoc-mbm", OF_DATA},
-    {"audio/x-tta", "tta", "audio/x-tta", OF_DATA},
-    {"audio/x-avr", "avr", "audio/x-avr", OF_DATA},
-    {"audio/x-hx-aac-adif", "adif", "audio/x-hx-aac-adif", OF_DATA},
-    {"video/x-nsv", "nsv", "video/x-nsv", OF_DATA},
-    {"application/x-zoo", "zoo", "application/x-zoo", OF_DATA},
-    {"application/x-stuffit", "sit", "application/x-stuffit", OF_DATA},
-    {"application/x-rzip", "rz", "application/x-rzip", OF_DATA},
-    {"application/x-zpaq", "zpaq", "application/x-zpaq", OF_DATA},
-    {"application/x-par", "par", "application/x-par", OF_DATA},
-    {"application/x-egg", "egg", "application/x-egg", OF_DATA},
-    {"application/x-ms-compress-szdd", "szdd", "application/x-ms-compress-szdd", OF_DATA},
-    {"application/x-ms-compress-kwaj", "kwaj", "application/x-ms-compress-kwaj", OF_DATA},
-    {"application/x-ms-compress-sz", "szq", "application/x-ms-compress-sz", OF_DATA},
-    {"application/x-lzfse", "lzfse", "application/x-lzfse", OF_DATA},
-    {"application/x-std-dictionary", "zdict", "application/x-std-dictionary", OF_DATA},
-    {"application/x-bzip", "bz1", "application/x-bzip", OF_DATA},
-    {"application/x-lz4+json", "jsonlz4", "application/x-lz4+json", OF_DATA},
-    {"application/x-openssl-encrypted", "openssl", "application/x-openssl-encrypted", OF_DATA},
-    {"application/x-vcdiff", "vcdiff", "application/x-vcdiff", OF_DATA},
-    {"application/x-git", "pack", "application/x-git", OF_DATA},
-    {"application/x-git-pack-index", "gitidx", "application/x-git-pack-index", OF_DATA},
-    {"application/x-git-index", "gitindex", "application/x-git-index", OF_DATA},
-    {"application/x-git-bundle", "gitbundle", "application/x-git-bundle", OF_DATA},
-    {"application/x-hg-bundle", "hgbundle", "application/x-hg-bundle", OF_DATA},
-    {"application/x-svn-dump", "svndump", "application/x-svn-dump", OF_DATA},
-    {"application/x-unix-archive", "thin", "application/x-unix-archive", OF_DATA},
-    {"x-epoc/x-sisx-app", "sisx", "x-epoc/x-sisx-app", OF_DATA},
-    {"application/x-acronis-tib", "tib", "application/x-acronis-tib", OF_DATA},
-    {"application/x-ia-arc", "iaarc", "application/x-ia-arc", OF_DATA},
-    {"application/x-eet", "eet", "application/x-eet", OF_DATA},
-    {"application/mac-binhex40", "hqx", "application/mac-binhex40", OF_DATA},
-    {"application/x-xbmc-xbt", "xbt", "application/x-xbmc-xbt", OF_DATA},
-    {"application/vnd.sar", "sar", "application/vnd.sar", OF_DATA},
-    {"application/x-compressed-iso", "cso", "application/x-compressed-iso", OF_DATA},
-    {"application/x-apple-diskimage", "apm", "application/x-apple-diskimage", OF_DATA},
-    {"application/x-vmdk-disk", "vmdkcow", "application/x-vmdk-disk", OF_DATA},
-    {"application/x-parallels-disk", "hdd", "application/x-parallels-disk", OF_DATA},
-    {"application/x-atari-msa", "msa", "application/x-atari-msa", OF_DATA},
-    {"application/x-spectrum-tzx", "tzx", "application/x-spectrum-tzx", OF_DATA},
-    {"application/x-g64-disk", "g64", "application/x-g64-disk", OF_DATA},
-    {"application/x-xfs-filesystem", "xfs", "application/x-xfs-filesystem", OF_DATA},
-    {"application/x-fat-filesystem", "fat", "application/x-fat-filesystem", OF_DATA},
-    {"application/x-cramfs", "cramfs", "application/x-cramfs", OF_DATA},
-    {"application/x-romfs", "romfs", "application/x-romfs", OF_DATA},
-    {"application/x-jffs2", "jffs2", "application/x-jffs2", OF_DATA},
-    {"application/x-ubi", "ubi", "application/x-ubi", OF_DATA},
-    {"application/x-ubifs", "ubifs", "application/x-ubifs", OF_DATA},
-    {"application/x-dtb", "dtb", "application/x-dtb", OF_DATA},
-    {"application/x-uimage", "uimage", "application/x-uimage", OF_DATA},
-    {"application/x-android-boot-image", "bootimg", "application/x-android-boot-image", OF_DATA},
-    {"application/x-android-sparse-image", "simg", "application/x-android-sparse-image", OF_DATA},
-    {"application/x-uf2", "uf2", "application/x-uf2", OF_DATA},
-    {"application/zstd", "zstold", "application/zstd", OF_DATA},
-    {"image/x-pic", "pic", "image/x-pic", OF_DATA},
-    {"image/x-blp", "blp", "image/x-blp", OF_DATA},
-    {"image/x-svm", "svm", "image/x-svm", OF_DATA},
-    {"image/x-gd2", "gd2", "image/x-gd2", OF_DATA},
-    {"image/x-gdkpixdata", "gdkp", "image/x-gdkpixdata", OF_DATA},
-    {"application/x-guitar-pro", "gtp", "application/x-guitar-pro", OF_DATA},
-    {"application/x-supercollider-synthdef", "scsyn", "application/x-supercollider-synthdef", OF_DATA},
-    {"model/x-milkshape", "ms3d", "model/x-milkshape", OF_DATA},
-    {"application/x-spectrum-szx", "szx", "application/x-spectrum-szx", OF_DATA},
-    {"application/x-intel-aml", "aml", "application/x-intel-aml", OF_DATA},
-    {"audio/eac3", "eac3", "audio/eac3", OF_DATA},
-    {"image/x-vips", "vips", "image/x-vips", OF_DATA},
-    {"audio/x-maud", "maud", "audio/x-maud", OF_DATA},
-    {"audio/x-sample-vision", "smp", "audio/x-sample-vision", OF_DATA},
-    {"audio/x-yamaha-txw", "txw", "audio/x-yamaha-txw", OF_DATA},
-    {"image/x-dib", "dib", "image/x-dib", OF_DATA},
-    {"application/x-innosetup", "innolog", "application/x-innosetup", OF_DATA},
-    {"application/x-ms-sdi", "sdi", "application/x-ms-sdi", OF_DATA},
-    {"font/x-drdos-cpi", "drdoscpi", "font/x-drdos-cpi", OF_DATA},
-    {"application/x-os2-msg", "os2msg", "application/x-os2-msg", OF_DATA},
-    {"application/x-kspread-crypt", "kspcrypt", "application/x-kspread-crypt", OF_DATA},
-    {"application/x-kword-crypt", "kwdcrypt", "application/x-kword-crypt", OF_DATA},
-    {"application/x-grub-keyboard", "grubkbd", "application/x-grub-keyboard", OF_DATA},
-    {"application/x-rrd", "rrd", "application/x-rrd", OF_DATA},
-    {"application/x-tdb", "tdb", "application/x-tdb", OF_DATA},
-    {"application/x-tokyocabinet-hash", "tch", "application/x-tokyocabinet-hash", OF_DATA},
-    {"application/x-tokyocabinet-btree", "tcb", "application/x-tokyocabinet-btree", OF_DATA},
-    {"application/x-tokyocabinet-fixed", "tcf", "application/x-tokyocabinet-fixed", OF_DATA},
-    {"application/x-tokyocabinet-table", "tct", "application/x-tokyocabinet-table", OF_DATA},
-    {"application/x-mysql-myisam", "myi", "application/x-mysql-myisam", OF_DATA},
-    {"application/x-mysql-binlog", "binlog", "application/x-mysql-binlog", OF_DATA},
-    {"application/x-postgresql-dump", "pgdump", "application/x-postgresql-dump", OF_DATA},
-    {"application/x-redis-dump", "rdb", "application/x-redis-dump", OF_DATA},
-    {"application/vnd.hdt", "hdt", "application/vnd.hdt", OF_DATA},
-    {"application/x-locate-database", "locate", "application/x-locate-database", OF_DATA},
-    {"application/x-apt-cache", "aptcache", "application/x-apt-cache", OF_DATA},
-    {"application/x-ld-so-cache", "ldcache", "application/x-ld-so-cache", OF_DATA},
-    {"application/x-glibc-locale-archive", "locarch", "application/x-glibc-locale-archive", OF_DATA},
-    {"application/x-gconv-cache", "gconv", "application/x-gconv-cache", OF_DATA},
-    {"application/x-fontconfig-cache", "fccache", "application/x-fontconfig-cache", OF_DATA},
-    {"application/x-gvdb", "gvdb", "application/x-gvdb", OF_DATA},
-    {"application/x-gir-typelib", "typelib", "application/x-gir-typelib", OF_DATA},
-    {"application/syzygy", "syzygy", "application/syzygy", OF_DATA},
-    {"application/x-netcdf", "nc", "application/x-netcdf", OF_DATA},
-    {"application/x-cdf", "cdf", "application/x-cdf", OF_DATA},
-    {"application/x-grib", "grib", "application/x-grib", OF_DATA},
-    {"application/x-grib2", "grib2", "application/x-grib2", OF_DATA},
-    {"application/x-bufr", "bufr", "application/x-bufr", OF_DATA},
-    {"application/x-matlab-data", "mat", "application/x-matlab-data", OF_DATA},
-    {"application/x-r-data", "rdata", "application/x-r-data", OF_DATA},
-    {"application/x-cern-root", "root", "application/x-cern-root", OF_DATA},
-    {"image/x.nifti", "nii", "image/x.nifti", OF_DATA},
-    {"chemical/x-pdb", "pdbmol", "chemical/x-pdb", OF_DATA},
-    {"chemical/x-mol2", "mol2", "chemical/x-mol2", OF_DATA},
-    {"application/x-bam", "bam", "application/x-bam", OF_DATA},
-    {"application/x-bai", "bai", "application/x-bai", OF_DATA},
-    {"application/x-csi", "csi", "application/x-csi", OF_DATA},
-    {"application/x-tabix", "tbi", "application/x-tabix", OF_DATA},
-    {"application/x-cram", "cram", "application/x-cram", OF_DATA},
-    {"text/x-vcf", "vcfg", "text/x-vcf", OF_DATA},
-    {"text/x-gff3", "gff3", "text/x-gff3", OF_DATA},
-    {"text/x-sam", "sam", "text/x-sam", OF_DATA},
-    {"application/x-scf", "scf", "application/x-scf", OF_DATA},
-    {"application/x-edf", "edf", "application/x-edf", OF_DATA},
-    {"application/x-edid-dump", "edid", "application/x-edid-dump", OF_DATA},
-    {"application/x-bdf", "bdfb", "application/x-bdf", OF_DATA},
-    {"application/x-gdf", "gdf", "application/x-gdf", OF_DATA},
-    {"application/cbor", "cbor", "application/cbor", OF_DATA},
-    {"application/sereal", "sereal", "application/sereal", OF_DATA},
-    {"text/x-nexus", "nex", "text/x-nexus", OF_DATA},
-    {"application/x-octave-data", "octave", "application/x-octave-data", OF_DATA},
-    {"application/mathematica", "nbold", "application/mathematica", OF_DATA},
-    {"application/x-python-pickle", "pkl", "application/x-python-pickle", OF_DATA},
-    {"application/x-ms-reader", "lit", "application/x-ms-reader", OF_DATA},
-    {"application/vnd.wordperfect", "wpd", "application/vnd.wordperfect", OF_DATA},
-    {"image/x-wpg", "wpg", "image/x-wpg", OF_DATA},
-    {"application/x-wordperfect-wpm", "wpm", "application/x-wordperfect-wpm", OF_DATA},
-    {"application/x-mswrite", "wri", "application/x-mswrite", OF_DATA},
-    {"application/msword", "doc2", "application/msword", OF_DATA},
-    {"application/x-hwp", "hwp", "application/x-hwp", OF_DATA},
-    {"application/vnd.ms-excel", "biff", "application/vnd.ms-excel", OF_DATA},
-    {"application/x-os2-inf", "os2inf", "application/x-os2-inf", OF_DATA},
-    {"application/x-os2-hlp", "os2hlp", "application/x-os2-hlp", OF_DATA},
-    {"application/vnd.mif", "mif", "application/vnd.mif", OF_DATA},
-    {"application/vnd.framemaker", "fm", "application/vnd.framemaker", OF_DATA},
-    {"application/vnd.hp-pjl", "pjl", "application/vnd.hp-pjl", OF_DATA},
-    {"application/vnd.hp-pcl", "pcl", "application/vnd.hp-pcl", OF_DATA},
-    {"application/vnd.cups-ppd", "ppd", "application/vnd.cups-ppd", OF_DATA},
-    {"image/pwg-raster", "pwg", "image/pwg-raster", OF_DATA},
-    {"application/vnd.cups-raster", "cupsraster", "application/vnd.cups-raster", OF_DATA},
-    {"application/x-sony-bbeb", "lrf", "application/x-sony-bbeb", OF_DATA},
-    {"application/x-t602", "t602", "application/x-t602", OF_DATA},
-    {"application/vnd.fdf", "fdf", "application/vnd.fdf", OF_DATA},
-    {"application/x-applix-word", "aw", "application/x-applix-word", OF_DATA},
-    {"application/x-applix-spreadsheet", "as", "application/x-applix-spreadsheet", OF_DATA},
-    {"image/x-applix-graphics", "ag", "image/x-applix-graphics", OF_DATA},
-    {"application/x-pef-executable", "pef", "application/x-pef-executable", OF_DATA},
-    {"application/x-android-vdex", "vdex", "application/x-android-vdex", OF_DATA},
-    {"application/x-android-binary-xml", "axml", "application/x-android-binary-xml", OF_DATA},
-    {"application/x-android-resources", "arsc", "application/x-android-resources", OF_DATA},
-    {"application/x-elc", "elc", "application/x-elc", OF_DATA},
-    {"application/x-ocaml-cmo", "cmo", "application/x-ocaml-cmo", OF_DATA},
-    {"application/x-ocaml-cma", "cma", "application/x-ocaml-cma", OF_DATA},
-    {"application/x-ocaml-cmi", "cmi", "application/x-ocaml-cmi", OF_DATA},
-    {"application/x-ocaml-cmx", "cmx", "application/x-ocaml-cmx", OF_DATA},
-    {"application/wasm", "wasmc", "application/wasm", OF_DATA},
-    {"application/x-ocaml-cmxa", "cmxa", "application/x-ocaml-cmxa", OF_DATA},
-    {"application/x-ocaml-cmt", "cmt", "application/x-ocaml-cmt", OF_DATA},
-    {"application/x-rust-metadata", "rmeta", "application/x-rust-metadata", OF_DATA},
-    {"application/x-go-object", "goobj", "application/x-go-object", OF_DATA},
-    {"application/x-spirv", "spv", "application/x-spirv", OF_DATA},
-    {"application/x-llvm", "bcw", "application/x-llvm", OF_DATA},
-    {"text/x-llvm", "ll", "text/x-llvm", OF_DATA},
-    {"application/x-gcc-pch", "gch", "application/x-gcc-pch", OF_DATA},
-    {"application/x-clang-pch", "pch", "application/x-clang-pch", OF_DATA},
-    {"application/x-gcov-notes", "gcno", "application/x-gcov-notes", OF_DATA},
-    {"application/x-gcov-data", "gcda", "application/x-gcov-data", OF_DATA},
-    {"application/x-llvm-profraw", "profraw", "application/x-llvm-profraw", OF_DATA},
-    {"application/x-llvm-profdata", "profdata", "application/x-llvm-profdata", OF_DATA},
-    {"application/x-dmp", "dmp", "application/x-dmp", OF_DATA},
-    {"application/x-ms-pdb", "pdb", "application/x-ms-pdb", OF_DATA},
-    {"application/x-ms-crash-dump", "memdmp", "application/x-ms-crash-dump", OF_DATA},
-    {"application/x-kdump", "kdump", "application/x-kdump", OF_DATA},
-    {"application/x-java-hprof", "hprof", "application/x-java-hprof", OF_DATA},
-    {"application/x-java-flight-recording", "jfr", "application/x-java-flight-recording", OF_DATA},
-    {"application/x-java-image", "jimage", "application/x-java-image", OF_DATA},
-    {"application/x-ms-resource", "res", "application/x-ms-resource", OF_DATA},
-    {"application/x-ghc-interface", "hi", "application/x-ghc-interface", OF_DATA},
-    {"application/x-nekovm-bytecode", "neko", "application/x-nekovm-bytecode", OF_DATA},
-    {"application/x-snoop", "snoop", "application/x-snoop", OF_DATA},
-    {"application/x-netmon", "netmon", "application/x-netmon", OF_DATA},
-    {"application/x-ms-registry", "regf", "application/x-ms-registry", OF_DATA},
-    {"application/x-nintendo-nso", "nso", "application/x-nintendo-nso", OF_DATA},
-    {"application/x-font-bdf", "bdf", "application/x-font-bdf", OF_DATA},
-    {"application/x-font-pcf", "pcf", "application/x-font-pcf", OF_DATA},
-    {"application/x-font-linux-psf", "psf1", "application/x-font-linux-psf", OF_DATA},
-    {"application/x-font-linux-psf", "psf2", "application/x-font-linux-psf", OF_DATA},
-    {"application/x-font-pf2", "pf2", "application/x-font-pf2", OF_DATA},
-    {"application/vnd.font-fontforge-sfd", "sfd", "application/vnd.font-fontforge-sfd", OF_DATA},
-    {"application/x-font-speedo", "spd", "application/x-font-speedo", OF_DATA},
-    {"font/x-dos-cpi", "cpi", "font/x-dos-cpi", OF_DATA},
-    {"application/x-keepass2", "kdbx", "application/x-keepass2", OF_DATA},
-    {"application/x-keepass", "kdb", "application/x-keepass", OF_DATA},
-    {"application/x-putty-private-key", "ppk", "application/x-putty-private-key", OF_DATA},
-    {"application/x-openssh-public-key", "sshpub", "application/x-openssh-public-key", OF_DATA},
-    {"application/x-ssh2-public-key", "ssh2pub", "application/x-ssh2-public-key", OF_DATA},
-    {"application/x-ssh1-private-key", "ssh1", "application/x-ssh1-private-key", OF_DATA},
-    {"application/x-minisign", "minisig", "application/x-minisign", OF_DATA},
-    {"application/x-aes-encrypted", "aes", "application/x-aes-encrypted", OF_DATA},
-    {"application/pgp-encrypted", "pgpmsg", "application/pgp-encrypted", OF_DATA},
-    {"application/pgp-signature", "pgpsig", "application/pgp-signature", OF_DATA},
-    {"application/x-gnupg-trustdb", "trustdb", "application/x-gnupg-trustdb", OF_DATA},
-    {"text/x-ansible-vault", "vault", "text/x-ansible-vault", OF_DATA},
-    {"application/x-wii-rom", "rvz", "application/x-wii-rom", OF_DATA},
-    {"application/x-nintendo-3ds-executable", "3dsx", "application/x-nintendo-3ds-executable", OF_DATA},
-    {"audio/x-xbox-executable", "xbe", "audio/x-xbox-executable", OF_DATA},
-    {"audio/x-xbox360-executable", "xex", "audio/x-xbox360-executable", OF_DATA},
-    {"application/x-psx-executable", "psx", "application/x-psx-executable", OF_DATA},
-    {"application/x-valve-pak", "vpk", "application/x-valve-pak", OF_DATA},
-    {"application/x-quake-bsp", "bsp", "application/x-quake-bsp", OF_DATA},
-    {"application/x-pak", "pak", "application/x-pak", OF_DATA},
-    {"application/x-quake-model", "mdl", "application/x-quake-model", OF_DATA},
-    {"application/x-mpq", "mpq", "application/x-mpq", OF_DATA},
-    {"application/x-build-grp", "grp", "application/x-build-grp", OF_DATA},
-    {"application/x-maxis-dbpf", "dbpf", "application/x-maxis-dbpf", OF_DATA},
-    {"application/x-glulx", "ulx", "application/x-glulx", OF_DATA},
-    {"application/x-ups-patch", "ups", "application/x-ups-patch", OF_DATA},
-    {"application/x-ppf-patch", "ppf", "application/x-ppf-patch", OF_DATA},
-    {"application/pgp-keys", "gpgold", "application/pgp-keys", OF_DATA},
-    {"application/x-riff", "riff", "application/x-riff", OF_DATA},
-    {"application/x-iff", "iff", "application/x-iff", OF_DATA},
-    {"application/x-appleworks", "cwk", "application/x-appleworks", OF_DATA},
-    {"application/vnd.ms-works", "wps", "application/vnd.ms-works", OF_DATA},
-    {"audio/x-dss", "dss", "audio/x-dss", OF_DATA},
-    {"application/postscript", "ps", "PostScript document text", OF_DATA},
-    {"audio/mpeg", "mp3old", "audio/mpeg", OF_DATA},
-    {"text/x-git-patch", "gitpatch", "text/x-git-patch", OF_DATA},
-    {"message/http", "http", "message/http", OF_DATA},
-    {"text/x-uuencode", "uu", "text/x-uuencode", OF_DATA},
-    {"application/xslt+xml", "xslt", "application/xslt+xml", OF_DATA},
-    {"application/x-xsd+xml", "xsd", "application/x-xsd+xml", OF_DATA},
-    {"application/x-relaxng+xml", "rng", "application/x-relaxng+xml", OF_DATA},
-    {"application/x-schematron+xml", "sch", "application/x-schematron+xml", OF_DATA},
-    {"application/wsdl+xml", "wsdl", "application/wsdl+xml", OF_DATA},
-    {"model/vnd.collada+xml", "dae", "model/vnd.collada+xml", OF_DATA},
-    {"model/x3d+xml", "x3d", "model/x3d+xml", OF_DATA},
-    {"application/x-amf", "amf", "application/x-amf", OF_DATA},
-    {"application/vnd.ms-package.3dmanufacturing-3dmodel+xml", "3dmodel", "application/vnd.ms-package.3dmanufacturing-3dmodel+xml", OF_DATA},
-    {"application/vnd.recordare.musicxml+xml", "musicxml", "application/vnd.recordare.musicxml+xml", OF_DATA},
-    {"application/x-musescore+xml", "mscx", "application/x-musescore+xml", OF_DATA},
-    {"application/mathml+xml", "mml", "application/mathml+xml", OF_DATA},
-    {"application/ttml+xml", "ttml", "application/ttml+xml", OF_DATA},
-    {"application/xliff+xml", "xliff", "application/xliff+xml", OF_DATA},
-    {"application/docbook+xml", "dbk", "application/docbook+xml", OF_DATA},
-    {"application/tei+xml", "tei", "application/tei+xml", OF_DATA},
-    {"application/oebps-package+xml", "opf", "application/oebps-package+xml", OF_DATA},
-    {"application/x-dtbncx+xml", "ncx", "application/x-dtbncx+xml", OF_DATA},
-    {"application/x-msbuild+xml", "msbuild", "application/x-msbuild+xml", OF_DATA},
-    {"application/x-maven-pom+xml", "pom", "application/x-maven-pom+xml", OF_DATA},
-    {"application/x-glade", "glade", "application/x-glade", OF_DATA},
-    {"application/x-designer", "ui", "application/x-designer", OF_DATA},
-    {"application/x-dbus-config+xml", "busconfig", "application/x-dbus-config+xml", OF_DATA},
-    {"application/x-dbus-introspection+xml", "dbusintro", "application/x-dbus-introspection+xml", OF_DATA},
-    {"application/x-fontconfig+xml", "fontconfig", "application/x-fontconfig+xml", OF_DATA},
-    {"application/x-gschema+xml", "gschema", "application/x-gschema+xml", OF_DATA},
-    {"application/x-gresource+xml", "gresource", "application/x-gresource+xml", OF_DATA},
-    {"application/x-appstream+xml", "metainfo", "application/x-appstream+xml", OF_DATA},
-    {"application/x-mime-info+xml", "mimeinfo", "application/x-mime-info+xml", OF_DATA},
-    {"application/vnd.xmi+xml", "xmi", "application/vnd.xmi+xml", OF_DATA},
-    {"application/rdf+xml", "rdf", "application/rdf+xml", OF_DATA},
-    {"application/gml+xml", "gml", "application/gml+xml", OF_DATA},
-    {"application/vnd.openstreetmap.data+xml", "osm", "application/vnd.openstreetmap.data+xml", OF_DATA},
-    {"application/xspf+xml", "xspf", "application/xspf+xml", OF_DATA},
-    {"application/smil+xml", "smil", "application/smil+xml", OF_DATA},
-    {"application/dash+xml", "mpd", "application/dash+xml", OF_DATA},
-    {"application/metalink+xml", "metalink", "application/metalink+xml", OF_DATA},
-    {"application/x-xbel", "xbel", "application/x-xbel", OF_DATA},
-    {"application/x-abiword", "abw", "application/x-abiword", OF_DATA},
-    {"application/x-dia-diagram", "dia", "application/x-dia-diagram", OF_DATA},
-    {"application/x-gnumeric", "gnumeric", "application/x-gnumeric", OF_DATA},
-    {"application/x-wordml-2003", "wordml", "application/x-wordml-2003", OF_DATA},
-    {"application/vnd.oasis.opendocument.spreadsheet-flat-xml", "fods", "application/vnd.oasis.opendocument.spreadsheet-flat-xml", OF_DATA},
-    {"application/vnd.oasis.opendocument.presentation-flat-xml", "fodp", "application/vnd.oasis.opendocument.presentation-flat-xml", OF_DATA},
-    {"application/vnd.oasis.opendocument.graphics-flat-xml", "fodg", "application/vnd.oasis.opendocument.graphics-flat-xml", OF_DATA},
-    {"application/x-gnucash", "gnucash", "application/x-gnucash", OF_DATA},
-    {"application/vnd.scribus", "sla", "application/vnd.scribus", OF_DATA},
-    {"application/x-xmp+xml", "xmp", "application/x-xmp+xml", OF_DATA},
-    {"application/xml-sitemap", "sitemap", "application/xml-sitemap", OF_DATA},
-    {"application/sbml+xml", "sbml", "application/sbml+xml", OF_DATA},
-    {"chemical/x-cml", "cml", "chemical/x-cml", OF_DATA},
-    {"application/x-audacity-project", "aup", "application/x-audacity-project", OF_DATA},
-    {"application/x-apple-xib", "xib", "application/x-apple-xib", OF_DATA},
-    {"application/vnd.gentoo.catmetadata+xml", "catmeta", "application/vnd.gentoo.catmetadata+xml", OF_DATA},
-    {"application/vnd.gentoo.pkgmetadata+xml", "pkgmeta", "application/vnd.gentoo.pkgmetadata+xml", OF_DATA},
-    {"application/x-keyboard-layout+xml", "xkbrules", "application/x-keyboard-layout+xml", OF_DATA},
-    {"application/x-ldml+xml", "ldml", "application/x-ldml+xml", OF_DATA},
-    {"application/xslt+xml", "xslt", "application/xslt+xml", OF_DATA},
-    {"application/x-xsd+xml", "xsd", "application/x-xsd+xml", OF_DATA},
-    {"application/x-msbuild+xml", "msbuild", "application/x-msbuild+xml", OF_DATA},
-    {"application/x-maven-pom+xml", "pom", "application/x-maven-pom+xml", OF_DATA},
-    {"application/x-freemind", "mm", "application/x-freemind", OF_DATA},
-    {"application/x-qt-resource", "qrc", "application/x-qt-resource", OF_DATA},
-    {"audio/x-ms-asx", "asx", "audio/x-ms-asx", OF_DATA},
-    {"application/x-dbus-introspection+xml", "dbusintro", "application/x-dbus-introspection+xml", OF_DATA},
-    {"application/x-dbus-config+xml", "busconfig", "application/x-dbus-config+xml", OF_DATA},
-    {"application/smil+xml", "smil", "application/smil+xml", OF_DATA},
-    {"application/vnd.visio", "vsd", "Composite Document File V2 Document, Microsoft Visio", OF_DATA},
-    {"application/pkix-pkipath", "pkipath", "application/pkix-pkipath", OF_DATA},
-    {"application/x-dfont", "dfont", "application/x-dfont", OF_DATA},
-    {"font/woff2", "woff2", "font/woff2", OF_DATA},
-    {"font/woff2", "woff2", "font/woff2", OF_DATA},
-    {"application/efi", "efi", "application/efi", OF_DATA},
-    {"application/vnd.microsoft.portable-executable", "sys", "application/vnd.microsoft.portable-executable", OF_DATA},
-    {"application/vnd.microsoft.portable-executable", "exe/com/vlm/drv", "MS-DOS executable", OF_DATA},
-    {"application/x-ms-ne-executable", "ne", "application/x-ms-ne-executable", OF_DATA},
-    {"application/x-lx-executable", "lx", "application/x-lx-executable", OF_DATA},
-    {"image/x-nikon-nrw", "nrw", "image/x-nikon-nrw", OF_DATA},
-    {"image/x-nikon-nef", "nef", "image/x-nikon-nef", OF_DATA},
-    {"image/x-sony-arw", "arw", "image/x-sony-arw", OF_DATA},
-    {"image/x-kodak-kdc", "kdc", "image/x-kodak-kdc", OF_DATA},
-    {"image/x-phaseone-iiq", "iiq", "image/x-phaseone-iiq", OF_DATA},
-    {"application/x-aaf", "aaf", "application/x-aaf", OF_DATA},
-    {"application/x-shar", "shar", "application/x-shar", OF_DATA},
-    {"audio/amr-wb", "awb", "audio/amr-wb", OF_DATA},
-    {"application/yaml", "yaml", "application/yaml", OF_DATA},
-    {"application/raml+yaml", "raml", "application/raml+yaml", OF_DATA},
-    {"audio/x-scpls", "pls", "audio/x-scpls", OF_DATA},
-    {"video/x-ms-asf", "asxref", "video/x-ms-asf", OF_DATA},
-    {"application/x-netshow-channel", "nsc", "application/x-netshow-channel", OF_DATA},
-    {"application/x-godot-scene", "tscn", "application/x-godot-scene", OF_DATA},
-    {"application/x-godot-resource", "tres", "application/x-godot-resource", OF_DATA},
-    {"application/x-go-sgf", "sgf", "application/x-go-sgf", OF_DATA},
-    {"application/sparql-query", "rq", "application/sparql-query", OF_DATA},
-    {"model/vrml", "wrl", "model/vrml", OF_DATA},
-    {"model/step", "stp", "model/step", OF_DATA},
-    {"application/x-fbx-text", "fbxtext", "application/x-fbx-text", OF_DATA},
-    {"model/stl", "stl", "model/stl", OF_DATA},
-    {"image/x-xfig", "fig", "image/x-xfig", OF_DATA},
-    {"image/x-skencil", "sk", "image/x-skencil", OF_DATA},
-    {"text/x-texinfo", "texi", "text/x-texinfo", OF_DATA},
-    {"text/x-info", "info", "text/x-info", OF_DATA},
-    {"application/x-lyx", "lyx", "application/x-lyx", OF_DATA},
-    {"application/x-mozilla-bookmarks", "bookmarks", "application/x-mozilla-bookmarks", OF_DATA},
-    {"text/spreadsheet", "slk", "text/spreadsheet", OF_DATA},
-    {"text/x-ssa", "ssa", "text/x-ssa", OF_DATA},
-    {"text/x-subviewer", "subviewer", "text/x-subviewer", OF_DATA},
-    {"text/x-scc", "scc", "text/x-scc", OF_DATA},
-    {"text/x-plantuml", "puml", "text/x-plantuml", OF_DATA},
-    {"text/x-java-manifest", "jarmf", "text/x-java-manifest", OF_DATA},
-    {"text/vnd.sun.j2me.app-descriptor", "jad", "text/vnd.sun.j2me.app-descriptor", OF_DATA},
-    {"text/x-debian-copyright", "dep5", "text/x-debian-copyright", OF_DATA},
-    {"text/x-python-metadata", "pkginfo", "text/x-python-metadata", OF_DATA},
-    {"application/x-fluid", "fl", "application/x-fluid", OF_DATA},
-    {"text/x-gcode-gx", "gx", "text/x-gcode-gx", OF_DATA},
-    {"application/x-pyspread-spreadsheet", "pysu", "application/x-pyspread-spreadsheet", OF_DATA},
-    {"text/x-vnote", "vnt", "text/x-vnote", OF_DATA},
-    {"application/vnd.ms-wpl", "wpl", "application/vnd.ms-wpl", OF_DATA},
-    {"text/x-devicetree", "dtsi", "text/x-devicetree", OF_DATA},
-    {"application/x-quicktime-media-link", "qtl", "application/x-quicktime-media-link", OF_DATA},
-    {"image/x-mvg", "mvg", "image/x-mvg", OF_DATA},
-    {"text/cloud-config", "cloudcfg", "text/cloud-config", OF_DATA},
-    {"application/vnd.flatpak.ref", "flatpakref", "application/vnd.flatpak.ref", OF_DATA},
-    {"application/vnd.flatpak.repo", "flatpakrepo", "application/vnd.flatpak.repo", OF_DATA},
-    {"application/x-mswinurl", "url", "application/x-mswinurl", OF_DATA},
-    {"application/vnd.chess-pgn", "pgn", "application/vnd.chess-pgn", OF_DATA},
-    {"model/x3d-vrml", "x3dv", "model/x3d-vrml", OF_DATA},
-    {"model/vnd.usda", "usda", "model/vnd.usda", OF_DATA},
-    {"model/x-ply", "ply", "model/x-ply", OF_DATA},
-    {"application/x-tgif", "tgif", "application/x-tgif", OF_DATA},
-    {"text/x-gimp-gpl", "gpl", "text/x-gimp-gpl", OF_DATA},
-    {"text/x-gimp-ggr", "ggr", "text/x-gimp-ggr", OF_DATA},
-    {"image/x-xpixmap", "xpm2", "image/x-xpixmap", OF_DATA},
-    {"text/troff", "roff", "text/troff", OF_DATA},
-    {"text/x-ms-regedit", "reg", "text/x-ms-regedit", OF_DATA},
-    {"text/x-wine-extension-reg", "wreg", "text/x-wine-extension-reg", OF_DATA},
-    {"application/x-dif", "dif", "application/x-dif", OF_DATA},
-    {"text/x-xmcd", "xmcd", "text/x-xmcd", OF_DATA},
-    {"text/vnd.familysearch.gedcom", "ged", "text/vnd.familysearch.gedcom", OF_DATA},
-    {"video/vnd.mpegurl", "m4u", "video/vnd.mpegurl", OF_DATA},
-    {"text/x-microdvd", "microdvd", "text/x-microdvd", OF_DATA},
-    {"text/x-mpl2", "mpl2", "text/x-mpl2", OF_DATA},
-    {"text/x-iptables", "iptables", "text/x-iptables", OF_DATA},
-    {"text/cache-manifest", "mf", "text/cache-manifest", OF_DATA},
-    {"text/x-modulefile", "modulefile", "text/x-modulefile", OF_DATA},
-    {"text/x-mup", "mup", "text/x-mup", OF_DATA},
-    {"application/x-svr4-package", "pkgstream", "application/x-svr4-package", OF_DATA},
-    {"application/x-abook-addressbook", "abook", "application/x-abook-addressbook", OF_DATA},
-    {"text/vnd.abc", "abc", "text/vnd.abc", OF_DATA},
-    {"application/sdp", "sdp", "application/sdp", OF_DATA},
-    {"text/x-msdos-batch", "bat", "text/x-msdos-batch", OF_DATA},
-    {"text/x-m4", "m4", "text/x-m4", OF_DATA},
-    {"text/x-gimp-curve", "gcurve", "text/x-gimp-curve", OF_DATA},
-    {"text/x-diff", "diff", "text/x-diff", OF_DATA},
-    {"application/mbox", "mbox", "application/mbox", OF_DATA},
-    {"message/rfc822", "eml", "message/rfc822", OF_DATA},
-    {"message/news", "news", "message/news", OF_DATA},
-    {"text/x-ldif", "ldif", "text/x-ldif", OF_DATA},
-    {"application/x-desktop", "desktop", "application/x-desktop", OF_DATA},
-    {"text/x-systemd-unit", "unit", "text/x-systemd-unit", OF_DATA},
-    {"text/x-dbus-service", "dbusservice", "text/x-dbus-service", OF_DATA},
-    {"text/x-icon-theme", "icontheme", "text/x-icon-theme", OF_DATA},
-    {"text/turtle", "ttl", "text/turtle", OF_DATA},
-    {"model/x-pcd", "pcd", "model/x-pcd", OF_DATA},
-    {"image/vnd.dxf", "dxf", "image/vnd.dxf", OF_DATA},
-    {"image/x-xbitmap", "xbm", "image/x-xbitmap", OF_DATA},
-    {"text/x-bibtex", "bib", "text/x-bibtex", OF_DATA},
-    {"text/x-tex", "tex", "text/x-tex", OF_DATA},
-    {"application/x-setupscript", "inf", "application/x-setupscript", OF_DATA},
-    {"application/x-cdrdao-toc", "toc", "application/x-cdrdao-toc", OF_DATA},
-    {"application/x-cue", "cue", "application/x-cue", OF_DATA},
-    {"text/x-mpsub", "mpsub", "text/x-mpsub", OF_DATA},
-    {"text/vnd.graphviz", "gv", "text/vnd.graphviz", OF_DATA},
-    {"text/x-po", "po", "text/x-po", OF_DATA},
-    {"text/x-rpm-spec", "spec", "text/x-rpm-spec", OF_DATA},
-    {"text/x-debian-control", "dsc", "text/x-debian-control", OF_DATA},
-    {"text/x-pkg-config", "pc", "text/x-pkg-config", OF_DATA},
-    {"application/x-shared-library-la", "la", "application/x-shared-library-la", OF_DATA},
-    {"application/x-cisco-vpn-settings", "vpnpcf", "application/x-cisco-vpn-settings", OF_DATA},
-    {"text/x-lilypond", "ly", "text/x-lilypond", OF_DATA},
-    {"text/x-emacs-lisp", "elisp", "text/x-emacs-lisp", OF_DATA},
-    {"text/x-dockerfile", "docker", "text/x-dockerfile", OF_DATA},
-    {"application/x-ipynb+json", "ipynb", "application/x-ipynb+json", OF_DATA},
-    {"application/geo+json", "geojson", "application/geo+json", OF_DATA},
-    {"application/vnd.cyclonedx+json", "cdx", "application/vnd.cyclonedx+json", OF_DATA},
-    {"model/gltf+json", "gltf", "model/gltf+json", OF_DATA},
-    {"application/schema+json", "schema", "application/schema+json", OF_DATA},
-    {"application/x-gnupg-private-key", "gpgsec", "application/x-gnupg-private-key", OF_DATA},
-    {"application/x-age-key", "agekey", "application/x-age-key", OF_DATA},
-    {"model/obj", "obj", "model/obj", OF_DATA},
-    {"model/mtl", "mtl", "model/mtl", OF_DATA},
-    {"image/x-pict", "pict", "image/x-pict", OF_DATA},
-    {"image/x-mrc", "mrc", "image/x-mrc", OF_DATA},
-    {"audio/x-s3m", "s3m", "audio/x-s3m", OF_DATA},
-    {"audio/x-mod", "mod", "audio/x-mod", OF_DATA},
-    {"audio/x-stm", "stm", "audio/x-stm", OF_DATA},
-    {"audio/x-ptm", "ptm", "audio/x-ptm", OF_DATA},
-    {"audio/vnd.dolby.mlp", "mlp", "audio/vnd.dolby.mlp", OF_DATA},
-    {"audio/vnd.audible", "aa", "audio/vnd.audible", OF_DATA},
-    {"application/x-iso9660-image", "iso", "application/x-iso9660-image", OF_DATA},
-    {"application/x-udf-image", "udf", "application/x-udf-image", OF_DATA},
-    {"application/x-jfs-filesystem", "jfs", "application/x-jfs-filesystem", OF_DATA},
-    {"application/x-swap", "swap", "application/x-swap", OF_DATA},
-    {"application/x-bcachefs", "bcachefs", "application/x-bcachefs", OF_DATA},
-    {"application/x-md-raid", "mdraid", "application/x-md-raid", OF_DATA},
-    {"image/x-photo-cd", "pcdimg", "image/x-photo-cd", OF_DATA},
-    {"video/x-flic", "fli", "video/x-flic", OF_DATA},
-    {"audio/vnd.audible.aax", "aax", "audio/vnd.audible.aax", OF_DATA},
-    {"audio/mp4", "f4a", "audio/mp4", OF_DATA},
-    {"video/vnd.dvb.file", "dvb", "video/vnd.dvb.file", OF_DATA},
-    {"video/quicktime", "mqv", "video/quicktime", OF_DATA},
-    {"video/mp4", "mp4", "ISO Media, MP4", OF_DATA},
-    {"image/heif-sequence", "heifs", "image/heif-sequence", OF_DATA},
-    {"application/x-ace-compressed", "ace", "application/x-ace-compressed", OF_DATA},
-    {"application/vnd.symbian.install", "sis", "application/vnd.symbian.install", OF_DATA},
-    {"application/x-f2fs-filesystem", "f2fs", "application/x-f2fs-filesystem", OF_DATA},
-    {"application/x-ntfs-filesystem", "ntfs", "application/x-ntfs-filesystem", OF_DATA},
-    {"application/x-exfat-filesystem", "exfat", "application/x-exfat-filesystem", OF_DATA},
-    {"application/x-gpt-disk", "gpt", "application/x-gpt-disk", OF_DATA},
-    {"application/x-hfsplus-filesystem", "hfsplus", "application/x-hfsplus-filesystem", OF_DATA},
-    {"application/x-apfs-filesystem", "apfs", "application/x-apfs-filesystem", OF_DATA},
-    {"application/x-lvm2", "lvm", "application/x-lvm2", OF_DATA},
-    {"application/x-erofs", "erofs", "application/x-erofs", OF_DATA},
-    {"application/x-linux-kernel", "zimage", "application/x-linux-kernel", OF_DATA},
-    {"application/x-linux-kernel", "bzimage", "application/x-linux-kernel", OF_DATA},
-    {"application/x-wii-rom", "wbfs", "application/x-wii-rom", OF_DATA},
-    {"application/x-thomson-sap-image", "thomsap", "application/x-thomson-sap-image", OF_DATA},
-    {"application/x-zip", "omni", "application/x-zip", OF_DATA},
-    {"application/x-icu-data", "icures", "application/x-icu-data", OF_DATA},
-    {"audio/x-iriver-pla", "pla", "audio/x-iriver-pla", OF_DATA},
-    {"application/x-lmdb", "lmdb", "application/x-lmdb", OF_DATA},
-    {"application/x-ms-sdb", "sdb", "application/x-ms-sdb", OF_DATA},
-    {"application/x-spss-por", "por", "application/x-spss-por", OF_DATA},
-    {"application/x-aportisdoc", "aportis", "application/x-aportisdoc", OF_DATA},
-    {"application/prs.plucker", "plucker", "application/prs.plucker", OF_DATA},
-    {"application/x-gnupg-keybox", "kbx", "application/x-gnupg-keybox", OF_DATA},
-    {"application/x-gameboy-rom", "gb", "application/x-gameboy-rom", OF_DATA},
-    {"application/x-gameboy-color-rom", "gbc", "application/x-gameboy-color-rom", OF_DATA},
-    {"application/x-gba-rom", "gba", "application/x-gba-rom", OF_DATA},
-    {"application/x-nintendo-ds-rom", "nds", "application/x-nintendo-ds-rom", OF_DATA},
-    {"application/x-sega-cd-rom", "segacd", "application/x-sega-cd-rom", OF_DATA},
-    {"application/x-genesis-rom", "md", "application/x-genesis-rom", OF_DATA},
-    {"application/x-genesis-32x-rom", "32x", "application/x-genesis-32x-rom", OF_DATA},
-    {"application/x-sega-pico-rom", "pico", "application/x-sega-pico-rom", OF_DATA},
-    {"application/x-saturn-rom", "saturn", "application/x-saturn-rom", OF_DATA},
-    {"application/x-dc-rom", "dc", "application/x-dc-rom", OF_DATA},
-    {"application/x-sms-rom", "sms", "application/x-sms-rom", OF_DATA},
-    {"application/x-gamegear-rom", "gg", "application/x-gamegear-rom", OF_DATA},
-    {"application/x-neo-geo-pocket-rom", "ngp", "application/x-neo-geo-pocket-rom", OF_DATA},
-    {"application/x-neo-geo-pocket-color-rom", "ngc", "application/x-neo-geo-pocket-color-rom", OF_DATA},
-    {"application/x-gamecube-rom", "gcm", "application/x-gamecube-rom", OF_DATA},
-    {"application/x-nintendo-3ds-rom", "cci", "application/x-nintendo-3ds-rom", OF_DATA},
-    {"application/x-nintendo-ncch", "ncch", "application/x-nintendo-ncch", OF_DATA},
-    {"image/x-tga", "tga", "image/x-tga", OF_DATA},
-    {"model/iges", "igs", "model/iges", OF_DATA},
-    {"application/x-ebu-stl", "stlsub", "application/x-ebu-stl", OF_DATA},
-    {"application/x-ndjson", "ndjson", "New Line Delimited JSON text data", OF_TEXT},
-    {"application/json", "json", "JSON text data", OF_TEXT},
-    {"text/plain", "txt", "text", OF_PLAIN_TEXT},
+/* Of a type by its extension and MIME type: the MIME type and the extensions that libmagic has for it, or "" if they are the same,
+ * its description, and the file of libmagic that has these words, or "none". A type without a line has the names of its row. */
+NAME("wasm", "application/wasm", "", "wasm", OF_DATA, "WebAssembly (wasm) binary module", "magic/Magdir/webassembly")
+NAME("elf", "application/x-executable", "", "", OF_ELF, "ELF executable", "magic/Magdir/elf")
+NAME("exe", "application/vnd.microsoft.portable-executable", "", "exe/com/vlm/drv", OF_DATA, "MS-DOS executable", "magic/Magdir/msdos")
+NAME("dll", "application/vnd.microsoft.portable-executable", "", "exe/com/vlm/drv", OF_DATA, "MS-DOS executable", "magic/Magdir/msdos")
+NAME("class", "application/java", "application/x-java-applet", "class", OF_DATA, "compiled Java class data", "magic/Magdir/cafebabe")
+NAME("bc", "application/x-llvm", "", "", OF_DATA, "LLVM IR bitcode", "magic/Magdir/llvm")
+NAME("mach", "application/x-mach-binary", "", "", OF_DATA, "Mach-O binary", "magic/Magdir/mach")
+NAME("dex", "application/vnd.android.dex", "", "dex", OF_DATA, "Dalvik dex file", "magic/Magdir/android")
+NAME("dey", "application/vnd.android.dey", "", "dey", OF_DATA, "Dalvik dex file (optimized for host)", "magic/Magdir/android")
+NAME("der", "application/x-x509-ca-cert", "", "der", OF_DATA, "DER encoded certificate", "none")
+NAME("obj", "application/x-executable", "application/x-coff", "o/obj", OF_DATA, "Intel COFF object file", "magic/Magdir/coff")
+NAME("pem", "application/x-x509-ca-cert", "text/plain", "", OF_TEXT, "PEM certificate", "magic/Magdir/ssl")
+NAME("qcow2", "application/x-qemu-disk", "", "", OF_DATA, "QEMU QCOW Image", "magic/Magdir/virtual")
+NAME("epub", "application/epub+zip", "", "epub", OF_DATA, "EPUB document", "magic/Magdir/archive")
+NAME("mobi", "application/x-mobipocket-ebook", "", "mobi", OF_DATA, "Mobipocket E-book", "magic/Magdir/palm")
+NAME("jpg", "image/jpeg", "", "jpeg/jpg/jpe/jfif", OF_DATA, "JPEG image data", "magic/Magdir/jpeg")
+NAME("jp2", "image/jp2", "", "jp2", OF_DATA, "JPEG 2000 Part 1 (JP2)", "magic/Magdir/jpeg")
+NAME("png", "image/png", "", "png", OF_DATA, "PNG image data", "magic/Magdir/images")
+NAME("gif", "image/gif", "", "gif", OF_DATA, "GIF image data", "magic/Magdir/images")
+NAME("webp", "image/webp", "", "webp", OF_DATA, "RIFF (little-endian) data, Web/P image", "magic/Magdir/riff")
+NAME("cr2", "image/x-canon-cr2", "", "cr2", OF_DATA, "Canon CR2 raw image data", "magic/Magdir/images")
+NAME("tif", "image/tiff", "", "tif/tiff", OF_DATA, "TIFF image data", "magic/Magdir/images")
+NAME("bmp", "image/bmp", "", "bmp", OF_DATA, "PC bitmap", "magic/Magdir/images")
+NAME("jxr", "image/vnd.ms-photo", "image/jxr", "jxr", OF_DATA, "JPEG-XR", "magic/Magdir/jpeg")
+NAME("psd", "image/vnd.adobe.photoshop", "", "psd", OF_DATA, "Adobe Photoshop Image", "magic/Magdir/images")
+NAME("ico", "image/vnd.microsoft.icon", "", "ico", OF_DATA, "MS Windows icon resource", "magic/Magdir/msdos")
+NAME("heif", "image/heif", "", "", OF_DATA, "ISO Media, HEIF Image", "magic/Magdir/animation")
+NAME("avif", "image/avif", "", "", OF_DATA, "ISO Media, AVIF Image", "magic/Magdir/animation")
+NAME("jxl", "image/jxl", "", "jxl", OF_DATA, "JPEG XL codestream", "magic/Magdir/jpeg")
+NAME("ora", "image/openraster", "", "ora", OF_DATA, "OpenRaster Image", "none")
+NAME("djvu", "image/vnd.djvu", "", "djvu", OF_DATA, "DjVu document", "magic/Magdir/images")
+NAME("dwg", "image/vnd.dwg", "", "", OF_DATA, "DWG AutoDesk AutoCAD", "magic/Magdir/cad")
+NAME("mp4", "video/mp4", "", "", OF_DATA, "ISO Media, MP4", "magic/Magdir/animation")
+NAME("m4v", "video/x-m4v", "", "", OF_DATA, "ISO Media, Apple iTunes Video (.M4V) Video", "magic/Magdir/animation")
+NAME("mkv", "video/x-matroska", "", "", OF_DATA, "Matroska data", "magic/Magdir/matroska")
+NAME("webm", "video/webm", "", "", OF_DATA, "WebM", "magic/Magdir/matroska")
+NAME("mov", "video/quicktime", "", "", OF_DATA, "ISO Media, Apple QuickTime movie", "magic/Magdir/animation")
+NAME("avi", "video/x-msvideo", "", "avi", OF_DATA, "RIFF (little-endian) data, AVI", "magic/Magdir/riff")
+NAME("wmv", "video/x-ms-wmv", "video/x-ms-asf", "", OF_DATA, "Microsoft ASF", "magic/Magdir/asf")
+NAME("mpg", "video/mpeg", "", "", OF_DATA, "MPEG sequence", "magic/Magdir/animation")
+NAME("flv", "video/x-flv", "", "", OF_DATA, "Macromedia Flash Video", "magic/Magdir/flash")
+NAME("midi", "audio/midi", "", "", OF_DATA, "Standard MIDI data", "magic/Magdir/audio")
+NAME("mp3", "audio/mpeg", "", "", OF_DATA, "MPEG audio", "magic/Magdir/animation")
+NAME("m4a", "audio/m4a", "audio/x-m4a", "", OF_DATA, "ISO Media, Apple iTunes ALAC/AAC-LC (.M4A) Audio", "magic/Magdir/animation")
+NAME("opus", "audio/opus", "audio/ogg", "", OF_DATA, "Ogg data, Opus audio", "magic/Magdir/vorbis")
+NAME("ogg", "audio/ogg", "", "", OF_DATA, "Ogg data", "magic/Magdir/vorbis")
+NAME("flac", "audio/x-flac", "audio/flac", "", OF_DATA, "FLAC audio bitstream data", "magic/Magdir/audio")
+NAME("wav", "audio/x-wav", "", "wav/wave", OF_DATA, "RIFF (little-endian) data, WAVE audio", "magic/Magdir/riff")
+NAME("amr", "audio/amr", "", "amr", OF_DATA, "Adaptive Multi-Rate Codec (GSM telephony)", "magic/Magdir/audio")
+NAME("aac", "audio/aac", "audio/x-hx-aac-adts", "", OF_DATA, "MPEG ADTS, AAC", "magic/Magdir/animation")
+NAME("aiff", "audio/x-aiff", "", "", OF_DATA, "IFF data, AIFF audio", "magic/Magdir/iff")
+NAME("dsf", "audio/x-dsf", "", "dsf", OF_DATA, "DSF audio bitstream data", "magic/Magdir/audio")
+NAME("ape", "audio/x-ape", "", "", OF_DATA, "Monkey's Audio compressed format", "magic/Magdir/audio")
+NAME("woff", "application/font-woff", "font/woff", "", OF_DATA, "Web Open Font Format", "magic/Magdir/fonts")
+NAME("woff2", "application/font-woff", "font/woff2", "woff2", OF_DATA, "Web Open Font Format (Version 2)", "magic/Magdir/fonts")
+NAME("ttf", "application/font-sfnt", "font/sfnt", "ttf/tte", OF_DATA, "TrueType Font data", "magic/Magdir/fonts")
+NAME("otf", "application/font-sfnt", "application/vnd.ms-opentype", "otf", OF_DATA, "OpenType font data", "magic/Magdir/fonts")
+NAME("doc", "application/msword", "", "doc", OF_DATA, "Composite Document File V2 Document, Microsoft Word", "magic/Magdir/ole2compounddocs")
+NAME("docx", "application/vnd.openxmlformats-officedocument.wordprocessingml.document", "", "docx", OF_DATA, "Microsoft Word 2007+", "magic/Magdir/msooxml")
+NAME("xls", "application/vnd.ms-excel", "", "xls", OF_DATA, "Composite Document File V2 Document, Microsoft Excel", "magic/Magdir/ole2compounddocs")
+NAME("xlsx", "application/vnd.openxmlformats-officedocument.spreadsheetml.sheet", "", "xlsx", OF_DATA, "Microsoft Excel 2007+", "magic/Magdir/msooxml")
+NAME("ppt", "application/vnd.ms-powerpoint", "", "ppt", OF_DATA, "Composite Document File V2 Document, Microsoft PowerPoint", "magic/Magdir/ole2compounddocs")
+NAME("pptx", "application/vnd.openxmlformats-officedocument.presentationml.presentation", "", "pptx", OF_DATA, "Microsoft PowerPoint 2007+", "magic/Magdir/msooxml")
+NAME("odt", "application/vnd.oasis.opendocument.text", "", "odt", OF_DATA, "OpenDocument Text", "magic/Magdir/archive")
+NAME("ods", "application/vnd.oasis.opendocument.spreadsheet", "", "ods", OF_DATA, "OpenDocument Spreadsheet", "magic/Magdir/archive")
+NAME("odp", "application/vnd.oasis.opendocument.presentation", "", "odp", OF_DATA, "OpenDocument Presentation", "magic/Magdir/archive")
+NAME("zip", "application/zip", "", "zip", OF_DATA, "Zip archive data", "magic/Magdir/archive")
+NAME("tar", "application/x-tar", "", "tar", OF_DATA, "tar archive", "magic/Magdir/archive")
+NAME("par2", "application/x-par2", "", "par2", OF_DATA, "Parity Archive Volume Set", "magic/Magdir/parity")
+NAME("rar", "application/vnd.rar", "application/x-rar", "rar/cbr", OF_DATA, "RAR archive data", "magic/Magdir/archive")
+NAME("gz", "application/gzip", "", "", OF_DATA, "gzip compressed data", "magic/Magdir/compress")
+NAME("bz2", "application/x-bzip2", "", "bz2", OF_DATA, "bzip2 compressed data", "magic/Magdir/compress")
+NAME("bz3", "application/vnd.bzip3", "", "bz3", OF_DATA, "bzip3 compressed data", "magic/Magdir/compress")
+NAME("7z", "application/x-7z-compressed", "", "7z/cb7", OF_DATA, "7-zip archive data", "magic/Magdir/compress")
+NAME("xz", "application/x-xz", "", "xz", OF_DATA, "XZ compressed data", "magic/Magdir/compress")
+NAME("pdf", "application/pdf", "", "pdf", OF_DATA, "PDF document", "magic/Magdir/pdf")
+NAME("swf", "application/x-shockwave-flash", "", "swf", OF_DATA, "Macromedia Flash data", "magic/Magdir/flash")
+NAME("rtf", "application/rtf", "text/rtf", "rtf", OF_DATA, "Rich Text Format data", "magic/Magdir/rtf")
+NAME("eot", "application/octet-stream", "", "eot", OF_DATA, "Embedded OpenType (EOT)", "magic/Magdir/fonts")
+NAME("ps", "application/postscript", "", "", OF_DATA, "PostScript document text", "magic/Magdir/printer")
+NAME("sqlite", "application/vnd.sqlite3", "", "sqlite/sqlite3/db", OF_DATA, "SQLite 3.x database", "magic/Magdir/sql")
+NAME("nes", "application/x-nintendo-nes-rom", "application/x-nes-rom", "nes", OF_DATA, "NES ROM image (iNES)", "magic/Magdir/console")
+NAME("crx", "application/x-google-chrome-extension", "application/x-chrome-extension", "", OF_DATA, "Google Chrome extension", "magic/Magdir/archive")
+NAME("cab", "application/vnd.ms-cab-compressed", "", "cab", OF_DATA, "Microsoft Cabinet archive data", "magic/Magdir/msdos")
+NAME("deb", "application/vnd.debian.binary-package", "", "deb/udeb/ipk", OF_DATA, "Debian binary package", "magic/Magdir/archive")
+NAME("ar", "application/x-unix-archive", "application/x-archive", "a/lib", OF_DATA, "current ar archive", "magic/Magdir/archive")
+NAME("Z", "application/x-compress", "", "Z", OF_DATA, "compress'd data", "magic/Magdir/compress")
+NAME("lz", "application/x-lzip", "", "lz", OF_DATA, "lzip compressed data", "magic/Magdir/compress")
+NAME("rpm", "application/x-rpm", "", "", OF_DATA, "RPM", "magic/Magdir/rpm")
+NAME("dcm", "application/dicom", "", "dcm/dicom/dic", OF_DATA, "DICOM medical imaging data", "magic/Magdir/images")
+NAME("zst", "application/zstd", "", "zst", OF_DATA, "Zstandard compressed data", "magic/Magdir/compress")
+NAME("lz4", "application/x-lz4", "", "lz4", OF_DATA, "LZ4 compressed data", "magic/Magdir/compress")
+NAME("msi", "application/x-ole-storage", "", "", OF_DATA, "Composite Document File V2 Document", "magic/Magdir/ole2compounddocs")
+NAME("cpio", "application/x-cpio", "", "", OF_DATA, "cpio archive", "magic/Magdir/archive")
+NAME("html", "text/html", "", "", OF_TEXT, "HTML document", "magic/Magdir/sgml")
+NAME("xml", "text/xml", "", "", OF_TEXT, "XML document", "magic/Magdir/sgml")
+NAME("sh", "text/x-shellscript", "", "", OF_SCRIPT, "shell script", "magic/Magdir/commands")
+NAME("o", "application/x-object", "", "", OF_ELF, "ELF relocatable", "magic/Magdir/elf")
+NAME("core", "application/x-core", "application/x-coredump", "", OF_ELF, "ELF core file", "magic/Magdir/elf")
+NAME("appimage", "application/vnd.appimage", "", "", OF_ELF, "ELF executable", "magic/Magdir/elf")
+NAME("so", "application/x-sharedlib", "", "", OF_ELF, "ELF shared object", "magic/Magdir/elf")
+NAME("apk", "application/vnd.android.package-archive", "", "apk", OF_DATA, "Android package (APK)", "none")
+NAME("kmz", "application/vnd.google-earth.kmz", "", "kmz", OF_DATA, "Compressed Google KML Document", "magic/Magdir/kml")
+NAME("jar", "application/java-archive", "", "jar", OF_DATA, "Java archive data (JAR)", "magic/Magdir/archive")
+NAME("vsdx", "application/vnd.ms-visio.drawing.main+xml", "", "vsdx", OF_DATA, "Microsoft Visio 2013+", "magic/Magdir/msooxml")
+NAME("3mf", "model/3mf", "", "3mf", OF_DATA, "3MF model", "none")
+NAME("odg", "application/vnd.oasis.opendocument.graphics", "", "odg", OF_DATA, "OpenDocument Drawing", "magic/Magdir/archive")
+NAME("odf", "application/vnd.oasis.opendocument.formula", "", "odf", OF_DATA, "OpenDocument Formula", "magic/Magdir/archive")
+NAME("kra", "application/x-krita", "", "kra", OF_DATA, "Krita document", "none")
+NAME("ott", "application/vnd.oasis.opendocument.text-template", "", "ott", OF_DATA, "OpenDocument Text Template", "magic/Magdir/archive")
+NAME("ots", "application/vnd.oasis.opendocument.spreadsheet-template", "", "ots", OF_DATA, "OpenDocument Spreadsheet Template", "magic/Magdir/archive")
+NAME("otp", "application/vnd.oasis.opendocument.presentation-template", "", "otp", OF_DATA, "OpenDocument Presentation Template", "magic/Magdir/archive")
+NAME("msi", "application/x-msi", "", "msi", OF_DATA, "Composite Document File V2 Document, MSI Installer", "magic/Magdir/ole2compounddocs")
+NAME("msg", "application/vnd.ms-outlook", "", "msg", OF_DATA, "CDFV2 Microsoft Outlook Message", "magic/Magdir/ole2compounddocs")
+NAME("pub", "application/vnd.ms-publisher", "", "pub", OF_DATA, "Composite Document File V2 Document, Microsoft Publisher", "magic/Magdir/ole2compounddocs")
+NAME("vsd", "application/vnd.visio", "", "vsd", OF_DATA, "Composite Document File V2 Document, Microsoft Visio", "magic/Magdir/ole2compounddocs")
+NAME("pgp", "application/pgp-encrypted", "", "", OF_TEXT, "PGP message", "magic/Magdir/pgp")
+NAME("asc", "application/pgp-keys", "", "asc", OF_TEXT, "PGP public key block", "magic/Magdir/pgp")
+NAME("sig", "application/pgp-signature", "", "asc/sig", OF_TEXT, "PGP signature", "magic/Magdir/pgp")
+NAME("openssh", "application/x-openssh-private-key", "text/plain", "", OF_TEXT, "OpenSSH private key", "magic/Magdir/ssh")
+NAME("key", "application/x-pem-key", "text/plain", "", OF_TEXT, "PEM private key", "magic/Magdir/ssl")
+NAME("p12", "application/pkcs12", "", "p12", OF_DATA, "PKCS #12 keys and certificates", "none")
+NAME("p7b", "application/pkcs7-mime", "", "p7b", OF_DATA, "DER encoded PKCS #7 data", "none")
+NAME("gpkg", "application/geopackage+sqlite3", "application/vnd.sqlite3", "gpkg", OF_DATA, "SQLite 3.x database (OGC GeoPackage file)", "magic/Magdir/sql")
+NAME("dng", "image/x-adobe-dng", "image/tiff", "dng", OF_DATA, "TIFF image data (DNG)", "magic/Magdir/images")
+NAME("apng", "image/apng", "image/png", "png", OF_DATA, "PNG image data, animated", "magic/Magdir/images")
+NAME("heic", "image/heic", "", "", OF_DATA, "ISO Media, HEIF Image HEVC Main or Main Still Picture Profile", "magic/Magdir/animation")
+NAME("jpx", "image/jpx", "", "jpx", OF_DATA, "JPEG 2000 Part 2 (JPX)", "magic/Magdir/jpeg")
+NAME("eps", "image/x-eps", "application/postscript", "eps", OF_DATA, "PostScript document text, type EPS", "magic/Magdir/printer")
+NAME("ogv", "video/ogg", "", "", OF_DATA, "Ogg data, Theora video", "magic/Magdir/vorbis")
+NAME("oga", "audio/ogg", "", "", OF_DATA, "Ogg data", "magic/Magdir/vorbis")
+NAME("py", "text/x-python", "text/x-script.python", "", OF_SCRIPT, "Python script", "magic/Magdir/python")
+NAME("pl", "text/x-perl", "", "", OF_SCRIPT, "Perl script", "magic/Magdir/perl")
+NAME("rb", "text/x-ruby", "", "", OF_SCRIPT, "Ruby script", "magic/Magdir/ruby")
+NAME("js", "text/javascript", "application/javascript", "", OF_SCRIPT, "Node.js script", "magic/Magdir/javascript")
+NAME("php", "text/x-php", "", "", OF_SCRIPT, "PHP script", "magic/Magdir/commands")
+NAME("lua", "text/x-lua", "", "", OF_SCRIPT, "Lua script", "magic/Magdir/lua")
+NAME("awk", "text/x-awk", "", "", OF_SCRIPT, "awk script", "magic/Magdir/commands")
+NAME("tcl", "text/x-tcl", "", "", OF_SCRIPT, "Tcl script", "magic/Magdir/tcl")
+NAME("svg", "image/svg+xml", "", "svg", OF_DATA, "SVG Scalable Vector Graphics image", "magic/Magdir/sgml")
+NAME("rss", "application/rss+xml", "text/xml", "", OF_TEXT, "RSS feed, XML document", "magic/Magdir/sgml")
+NAME("atom", "application/atom+xml", "text/xml", "", OF_TEXT, "Atom feed, XML document", "magic/Magdir/sgml")
+NAME("kml", "application/vnd.google-earth.kml+xml", "", "kml", OF_DATA, "Google KML document", "magic/Magdir/kml")
+NAME("gpx", "application/gpx+xml", "text/xml", "gpx", OF_TEXT, "GPX data, XML document", "magic/Magdir/sgml")
+NAME("xhtml", "application/xhtml+xml", "text/xml", "", OF_TEXT, "XHTML document, XML document", "magic/Magdir/sgml")
+NAME("plist", "application/x-plist", "text/xml", "", OF_TEXT, "Apple property list, XML document", "magic/Magdir/sgml")
+NAME("pcapng", "application/x-pcapng", "", "pcapng", OF_DATA, "pcapng capture file", "magic/Magdir/sniffer")
+NAME("pyc", "application/x-python-bytecode", "application/x-bytecode.python", "", OF_DATA, "Byte-compiled Python module", "magic/Magdir/python")
+NAME("terminfo", "application/x-terminfo", "", "", OF_DATA, "Compiled terminfo entry", "magic/Magdir/terminfo")
+NAME("mo", "application/x-gettext-translation", "", "gmo/mo", OF_DATA, "GNU message catalog", "magic/Magdir/gnu")
+NAME("tzif", "application/tzif", "", "", OF_DATA, "timezone data", "magic/Magdir/timezone")
+NAME("jmod", "application/x-java-jmod", "", "jmod", OF_DATA, "Java jmod module", "magic/Magdir/java")
+NAME("luac", "application/x-lua-bytecode", "", "", OF_DATA, "Lua bytecode", "magic/Magdir/lua")
+NAME("beam", "application/x-erlang-beam", "", "", OF_DATA, "Erlang BEAM file", "magic/Magdir/erlang")
+NAME("ppu", "application/x-pascal-unit", "", "ppu", OF_DATA, "Pascal unit", "none")
+NAME("luks", "application/x-luks", "application/x-raw-disk-image", "", OF_DATA, "LUKS encrypted file", "magic/Magdir/luks")
+NAME("age", "application/x-age-encryption", "", "age", OF_DATA, "age encrypted file", "none")
+NAME("gpg", "application/pgp-keys", "", "", OF_DATA, "OpenPGP Public Key", "magic/Magdir/pgp-binary-keys")
+NAME("vmdk", "application/x-vmdk-disk", "", "", OF_DATA, "VMware4 disk image", "magic/Magdir/virtual")
+NAME("vhd", "application/x-vhd-disk", "application/x-virtualbox-vhd", "vhd", OF_DATA, "Microsoft Disk Image, Virtual Server or Virtual PC", "magic/Magdir/virtual")
+NAME("vhdx", "application/x-vhdx-disk", "", "vhdx", OF_DATA, "Microsoft Disk Image eXtended", "magic/Magdir/virtual")
+NAME("journal", "application/x-systemd-journal", "", "", OF_DATA, "Journal file", "magic/Magdir/linux")
+NAME("pcap", "application/vnd.tcpdump.pcap", "", "pcap", OF_DATA, "pcap capture file", "magic/Magdir/sniffer")
+NAME("evtx", "application/x-ms-evtx", "", "evtx", OF_DATA, "MS Windows 10-11 Event Log", "magic/Magdir/windows")
+NAME("lnk", "application/x-ms-shortcut", "", "lnk", OF_DATA, "MS Windows shortcut", "magic/Magdir/windows")
+NAME("pst", "application/vnd.ms-outlook-pst", "application/vnd.ms-outlook", "pst", OF_DATA, "Microsoft Outlook Personal Storage", "magic/Magdir/windows")
+NAME("torrent", "application/x-bittorrent", "", "torrent", OF_DATA, "BitTorrent file", "magic/Magdir/archive")
+NAME("npy", "application/x-npy", "application/x-numpy-data", "", OF_DATA, "NumPy data file", "magic/Magdir/python")
+NAME("parquet", "application/vnd.apache.parquet", "", "", OF_DATA, "Apache Parquet", "magic/Magdir/apache")
+NAME("avro", "application/x-avro", "", "", OF_DATA, "Apache Avro", "magic/Magdir/apache")
+NAME("orc", "application/x-orc", "", "", OF_DATA, "Apache ORC", "magic/Magdir/apache")
+NAME("arrow", "application/vnd.apache.arrow.file", "", "arrow", OF_DATA, "Apache Arrow columnar file", "none")
+NAME("gguf", "application/x-gguf", "", "gguf", OF_DATA, "GGUF model", "none")
+NAME("mdb", "application/x-msaccess", "", "mdb", OF_DATA, "Microsoft Access Database", "magic/Magdir/database")
+NAME("accdb", "application/x-msaccess", "", "accdb", OF_DATA, "Microsoft Access Database", "magic/Magdir/database")
+NAME("gdbm", "application/x-gdbm", "", "", OF_DATA, "GNU dbm database", "magic/Magdir/database")
+NAME("shx", "application/vnd.shx", "", "shx", OF_DATA, "ESRI Shapefile", "magic/Magdir/esri")
+NAME("shp", "application/vnd.shp", "", "shp", OF_DATA, "ESRI Shapefile", "magic/Magdir/esri")
+NAME("squashfs", "application/vnd.squashfs", "", "", OF_DATA, "Squashfs filesystem", "magic/Magdir/filesystems")
+NAME("wim", "application/x-ms-wim", "", "wim/swm/esd", OF_DATA, "Windows imaging (WIM) image", "magic/Magdir/windows")
+NAME("xar", "application/x-xar", "", "xar/pkg/xip", OF_DATA, "xar archive", "magic/Magdir/archive")
+NAME("arj", "application/x-arj", "", "arj", OF_DATA, "ARJ archive data", "magic/Magdir/archive")
+NAME("sz", "application/x-snappy-framed", "", "", OF_DATA, "snappy framed data", "magic/Magdir/compress")
+NAME("lzma", "application/x-lzma", "", "lzma", OF_DATA, "LZMA compressed data", "magic/Magdir/compress")
+NAME("warc", "application/warc", "", "warc", OF_DATA, "WARC Archive", "magic/Magdir/warc")
+NAME("xcursor", "image/x-xcursor", "", "", OF_DATA, "X11 cursor", "magic/Magdir/xwindows")
+NAME("xcf", "image/x-xcf", "", "", OF_DATA, "GIMP XCF image data", "magic/Magdir/gimp")
+NAME("fits", "image/fits", "", "fits/fts", OF_DATA, "FITS image data", "magic/Magdir/images")
+NAME("raf", "image/x-fuji-raf", "", "raf", OF_DATA, "Fujifilm RAF raw image data", "magic/Magdir/images")
+NAME("rw2", "image/x-panasonic-rw2", "", "rw2", OF_DATA, "Panasonic raw image data", "magic/Magdir/images")
+NAME("bplist", "application/x-bplist", "", "", OF_DATA, "Apple binary property list", "magic/Magdir/apple")
+NAME("icns", "image/x-icns", "", "icns", OF_DATA, "Mac OS X icon", "magic/Magdir/images")
+NAME("ani", "application/x-navi-animation", "", "ani", OF_DATA, "RIFF (little-endian) data, animated cursor", "magic/Magdir/riff")
+NAME("pnm", "image/x-portable-anymap", "", "", OF_DATA, "Netpbm image data", "magic/Magdir/images")
+NAME("xpm", "image/x-xpixmap", "", "xpm", OF_DATA, "X pixmap image", "magic/Magdir/images")
+NAME("glb", "model/gltf-binary", "", "glb", OF_DATA, "glTF binary model", "magic/Magdir/cad")
+NAME("blend", "application/x-blender", "", "blend", OF_DATA, "Blender3D", "magic/Magdir/blender")
+NAME("au", "audio/basic", "", "au", OF_DATA, "Sun/NeXT audio data", "magic/Magdir/audio")
+NAME("aifc", "audio/x-aifc", "audio/x-aiff", "", OF_DATA, "IFF data, AIFF-C compressed audio", "magic/Magdir/iff")
+NAME("wv", "audio/x-wavpack", "", "", OF_DATA, "WavPack Lossless Audio", "magic/Magdir/audio")
+NAME("mpc", "audio/x-musepack", "", "", OF_DATA, "Musepack audio", "magic/Magdir/audio")
+NAME("voc", "audio/x-voc", "audio/x-unknown", "", OF_DATA, "Creative Labs voice data", "magic/Magdir/audio")
+NAME("m3u8", "application/vnd.apple.mpegurl", "text/plain", "", OF_TEXT, "M3U playlist", "magic/Magdir/audio")
+NAME("chm", "application/vnd.ms-htmlhelp", "", "chm", OF_DATA, "MS Windows HtmlHelp Data", "magic/Magdir/msdos")
+NAME("ttc", "font/collection", "font/ttf", "ttc", OF_DATA, "TrueType font collection data", "magic/Magdir/fonts")
+NAME("ics", "text/calendar", "", "ics", OF_TEXT, "vCalendar calendar file", "magic/Magdir/misctools")
+NAME("vcf", "text/vcard", "", "vcf/vcard", OF_TEXT, "vCard visiting card", "magic/Magdir/misctools")
+NAME("vtt", "text/vtt", "", "vtt", OF_TEXT, "WebVTT subtitles", "magic/Magdir/subtitle")
+NAME("srt", "application/x-subrip", "", "srt", OF_TEXT, "SubRip", "magic/Magdir/subtitle")
+NAME("lzh", "application/x-lzh-compressed", "", "lzh/lha", OF_DATA, "LHa archive data", "magic/Magdir/archive")
+NAME("3gp", "video/3gpp", "", "", OF_DATA, "ISO Media, MPEG v4 system, 3GPP", "magic/Magdir/animation")
+NAME("3g2", "video/3gpp2", "", "", OF_DATA, "ISO Media, MPEG v4 system, 3GPP2", "magic/Magdir/animation")
+NAME("f4v", "video/x-f4v", "video/mp4", "", OF_DATA, "ISO Media, Adobe Flash Video", "magic/Magdir/animation")
+NAME("m4b", "audio/x-m4b", "audio/mp4", "", OF_DATA, "ISO Media, Apple iTunes audio book", "magic/Magdir/animation")
+NAME("cr3", "image/x-canon-cr3", "", "cr3", OF_DATA, "ISO Media, Canon CR3 raw image", "magic/Magdir/animation")
+NAME("heics", "image/heic-sequence", "", "", OF_DATA, "ISO Media, HEIF Image Sequence", "magic/Magdir/animation")
+NAME("safetensors", "application/x-safetensors", "", "safetensors", OF_DATA, "safetensors model", "none")
+NAME("hdf5", "application/x-hdf5", "", "h5/hdf5/hdf/he5", OF_DATA, "Hierarchical Data Format (version 5) data", "magic/Magdir/images")
+NAME("bdb", "application/x-dbm", "", "", OF_DATA, "Berkeley DB", "magic/Magdir/database")
+NAME("vdi", "application/x-vdi-disk", "", "vdi", OF_DATA, "VirtualBox Disk Image", "magic/Magdir/virtual")
+NAME("dbf", "application/vnd.dbf", "application/x-dbf", "dbf", OF_DATA, "dBase table", "magic/Magdir/database")
+NAME("ext2", "application/x-ext-filesystem", "", "", OF_DATA, "Linux extended filesystem data", "magic/Magdir/linux")
+NAME("ts", "video/mp2t", "video/MP2T", "ts", OF_DATA, "MPEG transport stream data", "magic/Magdir/animation")
+NAME("ndjson", "application/x-ndjson", "", "", OF_TEXT, "New Line Delimited JSON text data", "src/is_json.c")
+NAME("json", "application/json", "", "", OF_TEXT, "JSON text data", "src/is_json.c")
+NAME("txt", "text/plain", "", "", OF_PLAIN_TEXT, "text", "src/encoding.c")
+NAME("otg", "application/vnd.oasis.opendocument.graphics-template", "", "", OF_DATA, "OpenDocument Drawing Template", "magic/Magdir/archive")
+NAME("sxw", "application/vnd.sun.xml.writer", "", "", OF_DATA, "OpenOffice.org 1.x Writer document", "magic/Magdir/archive")
+NAME("jpm", "image/jpm", "", "", OF_DATA, "JPEG 2000 Part 6 (JPM)", "magic/Magdir/animation")
+NAME("mj2", "video/mj2", "", "", OF_DATA, "JPEG 2000 Part 3 (MJ2)", "none")
+NAME("djvm", "image/vnd.djvu+multipage", "image/vnd.djvu", "", OF_DATA, "DjVu multiple page document", "none")
+NAME("spx", "audio/x-speex+ogg", "audio/ogg", "", OF_DATA, "Ogg data, Speex audio", "magic/Magdir/vorbis")
+NAME("pfa", "application/x-font-type1", "application/postscript", "", OF_TEXT, "PostScript Type 1 font text", "magic/Magdir/fonts")
+NAME("cab", "application/x-installshield", "", "", OF_DATA, "InstallShield CAB", "magic/Magdir/archive")
+NAME("srpm", "application/x-source-rpm", "application/x-rpm", "", OF_DATA, "RPM source package", "magic/Magdir/rpm")
+NAME("ktx", "image/ktx", "", "", OF_DATA, "Khronos KTX texture", "none")
+NAME("ktx2", "image/ktx2", "", "", OF_DATA, "Khronos KTX2 texture", "none")
+NAME("astc", "image/astc", "", "", OF_DATA, "ASTC texture", "none")
+NAME("exr", "image/x-exr", "", "", OF_DATA, "OpenEXR image data", "magic/Magdir/images")
+NAME("hdr", "image/vnd.radiance", "", "", OF_DATA, "Radiance HDR image data", "magic/Magdir/images")
+NAME("pcx", "image/vnd.zbrush.pcx", "image/x-pcx", "", OF_DATA, "PCX image data", "magic/Magdir/images")
+NAME("sgi", "image/x-sgi", "", "", OF_DATA, "SGI image data", "magic/Magdir/images")
+NAME("ras", "image/x-sun-raster", "", "", OF_DATA, "Sun raster image data", "none")
+NAME("xwd", "image/x-xwindowdump", "", "", OF_DATA, "X-Window screen dump image data", "magic/Magdir/images")
+NAME("cur", "image/x-win-bitmap", "", "", OF_DATA, "MS Windows cursor resource", "magic/Magdir/msdos")
+NAME("flif", "image/flif", "", "", OF_DATA, "FLIF image data", "magic/Magdir/flif")
+NAME("mng", "video/x-mng", "", "", OF_DATA, "MNG video data", "magic/Magdir/animation")
+NAME("j2c", "image/x-jp2-codestream", "", "", OF_DATA, "JPEG 2000 codestream", "magic/Magdir/jpeg")
+NAME("psp", "image/x-paintshoppro", "", "", OF_DATA, "Paint Shop Pro Image File", "magic/Magdir/images")
+NAME("miff", "image/x-miff", "", "", OF_DATA, "MIFF image data", "magic/Magdir/images")
+NAME("dpx", "image/dpx", "image/x-dpx", "", OF_DATA, "DPX image data", "magic/Magdir/images")
+NAME("x3f", "image/x-sigma-x3f", "image/x-x3f", "", OF_DATA, "Foveon X3F raw image data", "magic/Magdir/images")
+NAME("crw", "image/x-canon-crw", "", "", OF_DATA, "Canon CIFF raw image data", "magic/Magdir/images")
+NAME("gbr", "image/x-gimp-gbr", "", "", OF_DATA, "GIMP brush data", "magic/Magdir/gimp")
+NAME("pat", "image/x-gimp-pat", "", "", OF_DATA, "GIMP pattern data", "magic/Magdir/gimp")
+NAME("pgf", "image/x-pgf", "", "", OF_DATA, "Progressive Graphics image data", "magic/Magdir/pgf")
+NAME("3ds", "image/x-3ds", "", "", OF_DATA, "3D Studio model", "magic/Magdir/cad")
+NAME("ilbm", "image/x-ilbm", "", "", OF_DATA, "IFF data", "magic/Magdir/iff")
+NAME("it", "audio/x-it", "audio/x-mod", "", OF_DATA, "Impulse Tracker module sound data", "magic/Magdir/audio")
+NAME("xm", "audio/x-xm", "audio/x-mod", "", OF_DATA, "Fasttracker II module sound data", "magic/Magdir/audio")
+NAME("mtm", "audio/x-mtm", "", "", OF_DATA, "Multitracker module", "magic/Magdir/audio")
+NAME("med", "audio/x-med", "", "", OF_DATA, "OctaMED Pro music file", "magic/Magdir/audio")
+NAME("mo3", "audio/x-mo3", "", "", OF_DATA, "MOdule music file", "magic/Magdir/audio")
+NAME("sid", "audio/prs.sid", "", "", OF_DATA, "PlaySID music file", "magic/Magdir/audio")
+NAME("nsf", "audio/x-nsf", "", "", OF_DATA, "NES Sound File", "magic/Magdir/audio")
+NAME("ra", "audio/x-pn-realaudio", "", "", OF_DATA, "RealAudio sound file", "magic/Magdir/audio")
+NAME("rm", "application/vnd.rn-realmedia", "", "", OF_DATA, "RealMedia file", "magic/Magdir/audio")
+NAME("dff", "audio/x-dff", "", "", OF_DATA, "DSDIFF audio bitstream data", "magic/Magdir/audio")
+NAME("mmf", "application/vnd.smaf", "", "", OF_DATA, "Yamaha SMAF file", "none")
+NAME("imy", "text/x-imelody", "", "", OF_TEXT, "iMelody Ringtone Format", "none")
+NAME("mxf", "application/mxf", "", "", OF_DATA, "Material exchange container format", "magic/Magdir/animation")
+NAME("wtv", "video/x-ms-wtv", "", "", OF_DATA, "Windows Television DVR Media", "none")
+NAME("lzo", "application/x-lzop", "", "", OF_DATA, "lzop compressed data", "magic/Magdir/compress")
+NAME("lrz", "application/x-lrzip", "", "", OF_DATA, "LRZIP compressed data", "magic/Magdir/compress")
+NAME("alz", "application/x-alz", "", "", OF_DATA, "ALZ archive data", "magic/Magdir/archive")
+NAME("qp", "application/x-qpress", "", "", OF_DATA, "qpress compressed data", "magic/Magdir/compress")
+NAME("bsdiff", "application/x-bsdiff", "", "", OF_DATA, "bsdiff patch file", "none")
+NAME("qed", "application/x-qed-disk", "", "", OF_DATA, "QEMU QED Image", "magic/Magdir/virtual")
+NAME("adf", "application/x-amiga-disk-format", "", "", OF_DATA, "Amiga DOS disk", "magic/Magdir/amigaos")
+NAME("fds", "application/x-fds-disk", "", "", OF_DATA, "Famicom Disk System disk image", "magic/Magdir/console")
+NAME("sqlite2", "application/x-sqlite2", "", "", OF_DATA, "SQLite 2.x database", "magic/Magdir/sql")
+NAME("hdf4", "application/x-hdf", "", "", OF_DATA, "Hierarchical Data Format", "magic/Magdir/images")
+NAME("lwp", "application/vnd.lotus-wordpro", "", "", OF_DATA, "Lotus WordPro", "magic/Magdir/msdos")
+NAME("hlp", "application/winhlp", "application/winhelp", "", OF_DATA, "MS Windows 3.1 help", "magic/Magdir/windows")
+NAME("indd", "application/x-indesign", "", "", OF_DATA, "Adobe InDesign Document", "none")
+NAME("tnef", "application/vnd.ms-tnef", "", "", OF_DATA, "Transport Neutral Encapsulation Format", "magic/Magdir/mail")
+NAME("dvi", "application/x-dvi", "", "", OF_DATA, "TeX DVI file", "magic/Magdir/tex")
+NAME("pack200", "application/x-java-pack200", "", "", OF_DATA, "JAR compressed by pack200", "magic/Magdir/cafebabe")
+NAME("pfb", "application/x-font-type1", "font/x-postscript-pfb", "", OF_DATA, "PostScript Type 1 font program data", "magic/Magdir/fonts")
+NAME("jks", "application/x-java-keystore", "", "", OF_DATA, "Java KeyStore", "magic/Magdir/java")
+NAME("jceks", "application/x-java-jce-keystore", "", "", OF_DATA, "Java JCE KeyStore", "magic/Magdir/java")
+NAME("n64", "application/x-n64-rom", "", "", OF_DATA, "Nintendo 64 ROM image", "magic/Magdir/console")
+NAME("lnx", "application/x-atari-lynx-rom", "", "", OF_DATA, "Lynx cartridge", "magic/Magdir/console")
+NAME("chd", "application/x-mame-chd", "", "", OF_DATA, "MAME CHD compressed hard disk image", "none")
+NAME("wad", "application/x-doom-wad", "", "", OF_DATA, "doom WAD data", "magic/Magdir/games")
+NAME("bps", "application/x-bps-patch", "", "", OF_DATA, "BPS patch file", "none")
+NAME("ips", "application/x-ips-patch", "", "", OF_DATA, "IPS patch file", "none")
+NAME("psw", "application/x-pocket-word", "", "", OF_DATA, "Pocket Word document or template", "magic/Magdir/rtf")
+NAME("r3d", "video/x-red-r3d", "", "", OF_DATA, "REDCode Video", "none")
+NAME("icc", "application/vnd.iccprofile", "", "", OF_DATA, "ICC color profile", "magic/Magdir/icc")

@@ -19,7 +19,7 @@ const char *magic_buffer(magic_t it, const void *bytes, size_t len);
 const char *magic_descriptor(magic_t it, int fd);
 const char *magic_error(magic_t it);
 
-enum { ROUNDS = 100000, MOST = 4096, FILES_OF = 16, TEXTS_OF = 8 };
+enum { ROUNDS = 20000, MOST = 4096, FILES_OF = 16, TEXTS_OF = 8 };
 static const int FLAGS[] = {0, MAGIC_MIME_TYPE, MAGIC_MIME_ENCODING, MAGIC_MIME, MAGIC_EXTENSION, MAGIC_APPLE, MAGIC_NO_CHECK_SOFT, MAGIC_MIME | MAGIC_NO_CHECK_ENCODING};
 static uint64_t state = 0x9E3779B97F4A7C15;
 static long wrong;
