@@ -1,6 +1,7 @@
-use Rattle.infer_formats.proofs.Common.{◌+◌, ◌++◌, None, Some, inr, refl, IsPart}
+use Rattle.infer_formats.proofs.Common.{arith, ◌+◌, ◌++◌, None, Some, inr, refl, false≢true, IsPart}
 use Rattle.infer_formats.proofs.FrontLemmas.{front_grows}
 use Rattle.infer_formats.proofs.MarkupLemmas.{no_part, part_lasts, past_part}
+use Rattle.infer_formats.proofs.SubsetLemmas.{close_within}
 use Rattle.infer_formats.proofs.markup.prolog.past_doctype.Goals as goal
 
 pub returns-in-Some-clause-ends : goal.returns-in-Some-clause-ends
@@ -26,3 +27,15 @@ returns-in-None-clause-ends c = record {
   leads = λ more at to. (λ l. l, λ l. l);
   ends = no_part c.args.buf.now c.args.place None c.requires.no_misc (λ none. c.in-None.ensures);
 }
+
+pub returns-in-Some-clause-starts : goal.returns-in-Some-clause-starts
+returns-in-Some-clause-starts c = c.miscs_end-stop.ensures.starts
+
+pub returns-in-None-clause-starts : goal.returns-in-None-clause-starts
+returns-in-None-clause-starts c = (λ yes. absurd (false≢true yes), λ tag. absurd (c.requires.no_tag tag))
+
+pub overflow_add-doctype : goal.overflow_add-doctype
+overflow_add-doctype c = let within = close_within _ _ _ c.in-Some.ensures.closes in omega arith
+
+pub miscs_end-stop-requires : goal.miscs_end-stop-requires
+miscs_end-stop-requires c = let within = close_within _ _ _ c.in-Some.ensures.closes in omega arith
