@@ -180,7 +180,6 @@ impl<C: Chain> Outlined<C> {
 }
 
 /// The first row of Office in ZIP archives that accepts `buf`.
-#[tactic(auto, using(crate::proofs::CandidateLemmas::in_turn), unfolding(crate::specs::Table::table))]
 fn office_row(buf: &[u8]) -> Option<usize>
     ensures { IsFirstAmong (RowHas (Accepts buf.now)) (DOCX ∷ XLSX ∷ PPTX ∷ []) result }
 {
