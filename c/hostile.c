@@ -6,9 +6,6 @@
 #include <stdio.h>
 #include <string.h>
 
-#ifndef INFER_ROUNDS
-#define INFER_ROUNDS 20000
-#endif
 enum { ROOM = 40960, GROWN = 16384, LONG = 8192, ROUNDS = INFER_ROUNDS };
 static unsigned char *end; /* of the room, right before the page that may not be touched */
 static struct infer_named_answer *answer; /* in a room of its own */
