@@ -138,11 +138,11 @@ pub fn named_of(name: &[u8], buf: &[u8]) -> Named
 
 /// Asks what this name and the bytes tell.
 #[derive(Drop)]
-pub struct Under<'a> {
+pub struct WithName<'a> {
     pub name: &'a [u8],
 }
 
-impl Identify for Under<'_> {
+impl Identify for WithName<'_> {
     type Answer = Named;
 
     ghost identifies = { λ s. IsNamed s.name.now };

@@ -33,7 +33,7 @@ mod table;
 
 pub use bytes::{Kind, Lead};
 use infer::{FRONT, Fault, Type, Watched, identify_opened, identify_path, identify_reader};
-use join::Under;
+use join::WithName;
 pub use join::{Named, Standing, Told};
 pub use odd::Oddities;
 pub use own::{NamedBy, named_by};
@@ -68,7 +68,7 @@ pub fn named_from_reader<A: Allocator, R: Read>(
     requires { fault_of r.old ≡ None }
     ensures { IdentifiesReader R.remaining FRONT (IsNamed name.now) r.old r.new result }
 {
-    identify_reader(&Under { name }, alloc, r, FRONT)
+    identify_reader(&WithName { name }, alloc, r, FRONT)
 }
 
 /// [`named_from_reader`] with `n` bytes in place of 8192, of which there are from 1 to 65536.
@@ -83,7 +83,7 @@ pub fn named_from_reader_within<A: Allocator, R: Read>(
     requires most { n ≤ 65536 }
     ensures { IdentifiesReader R.remaining n (IsNamed name.now) r.old r.new result }
 {
-    identify_reader(&Under { name }, alloc, r, n)
+    identify_reader(&WithName { name }, alloc, r, n)
 }
 
 /// What a path, as a name, and the first 8192 bytes of its file tell, or all if it has fewer. It opens the file, reserves
@@ -92,7 +92,7 @@ pub fn named_from_path<R: Files, A: Allocator>(rt: &R, alloc: A, path: &str) -> 
     ensures { IdentifiesSome FRONT (IsNamed path.now) result }
 {
     identify_path(
-        &Under {
+        &WithName {
             name: path.as_bytes(),
         },
         rt,
@@ -114,7 +114,7 @@ pub fn named_from_path_within<R: Files, A: Allocator>(
     ensures { IdentifiesSome n (IsNamed path.now) result }
 {
     identify_path(
-        &Under {
+        &WithName {
             name: path.as_bytes(),
         },
         rt,
@@ -135,7 +135,7 @@ pub fn named_from_opened<A: Allocator, R: Read>(
     requires { IfOk opened.old (λ r. fault_of r ≡ None) }
     ensures { IdentifiesOpened R.remaining n (IsNamed name.now) opened.old opened.new result }
 {
-    identify_opened(&Under { name }, room, opened, n)
+    identify_opened(&WithName { name }, room, opened, n)
 }
 
 /// The key of the name, and `None` exactly if it has none.
