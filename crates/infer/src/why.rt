@@ -1,5 +1,6 @@
 //! The bytes of a buffer that decide its answer.
-ghost use Rattle.std.specs.Prelude.{◌≡◌, ◌↔◌, ◌+◌, ◌<◌, ◌≤◌, IfSome, IsTrue, Some};
+ghost use Rattle.std.specs.Prelude.{◌≡◌, ◌↔◌, ◌+◌, ◌<◌, ◌≤◌, List, ℕ, IfSome, IsTrue, Some};
+ghost use Rattle.infer.specs.Buffer.{IsBuffer};
 ghost use Rattle.infer.specs.Evidence.{Decides, IsHeld, IsSearch, IsTold, TellsFirst, TellsRow, most_of, most_of_all};
 ghost use Rattle.infer.specs.First.{IsFirstOf};
 ghost use Rattle.infer.specs.Row.{Accepts};
@@ -7,7 +8,7 @@ ghost use Rattle.infer.specs.Table.{signature_of, table};
 ghost use Rattle.infer.specs.declared.why.TheConstants.{MOST_OF_CANDIDATES};
 ghost use Rattle.infer_evidence.specs.declared.search.TheConstants.{MOST_OF_A_SEARCH};
 ghost use Rattle.infer.specs.Walks.{IsFirstAmong, RowHas};
-ghost use Rattle.infer_evidence.specs.Evidence.{IsOf};
+ghost use Rattle.infer_evidence.specs.Evidence.{AgreesOn, IsOf};
 
 use crate::answers::position;
 use crate::ask::question::accepts;
@@ -41,6 +42,16 @@ impl Told for Acceptance {
     }
 }
 
+/// Whether the bytes at the front that are asked for already tell that a row does not accept the buffer.
+fn is_told_refused(told: &Acceptance, buf: &[u8], evidence: &Evidence) -> bool
+    ensures { IsTrue result → (c : List ℕ) → IsBuffer c → AgreesOn evidence.now buf.now c
+        → (RowHas (Accepts c) told.now.row ↔ RowHas (Accepts buf.now) told.now.row) }
+{
+    infer_sig::laws::growth();
+    infer_deep::laws::growth();
+    !told.accepts && told.is_told(&buf[..evidence.front().min(buf.len())])
+}
+
 /// Asks for the shortest front that tells of the row, and for the whole buffer if none does.
 fn weigh_front(told: &Acceptance, buf: &[u8], evidence: &mut Evidence)
     ensures tells { TellsRow evidence.old evidence.new buf.now told.now.row }
@@ -49,6 +60,9 @@ fn weigh_front(told: &Acceptance, buf: &[u8], evidence: &mut Evidence)
 {
     infer_sig::laws::growth();
     infer_deep::laws::growth();
+    if is_told_refused(told, buf, evidence) {
+        return;
+    }
     match shortest_front(told, buf) {
         Some(len) => evidence.ask_front(Range::new(0, len, Some(told.row)), told.accepts),
         None => {

@@ -41,6 +41,10 @@ same_around e r around b c h =
     let same : IsSame b c outer = subst (IsSame b c) around.3 (h.same around.0 outer around.2) in
     (h, λ k lt. let here = around.4 k lt in subst (λ p. (p < length c) × (get_or c p 0 ≡ get_or b p 0)) (sym here.2) (same here.0 here.1))
 
+-- what is the same in each range is so in that with a number
+pub same_read : (e : Evidence) (xs : List Range) (i : ℕ) (r : Range) → xs ≡ ranges_of e → i < length xs → r ≡ get_or xs i r → (b c : List ℕ) → AgreesOn e b c → IsSame b c r
+same_read e xs i r all lt found b c h = subst (IsSame b c) (sym found) (subst (All (IsSame b c)) (sym all) h.same i r lt)
+
 -- of bytes in a row one is each from the first to the last
 pub in_a_row : (b c : List ℕ) (r : Range) → r.step ≡ 1 → IsSame b c r → (k : ℕ) → r.place ≤ k → k < r.place + r.len → (k < length c) × (get_or c k 0 ≡ get_or b k 0)
 in_a_row b c r one same k low high =

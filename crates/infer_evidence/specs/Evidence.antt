@@ -1,5 +1,5 @@
 -- Which bytes of a buffer decide.
-use Rattle.std.specs.Prelude.{◌≡◌, ◌+◌, ◌*◌, ◌<◌, ◌≤◌, ℕ, zero, suc, List, Option, None, Some, All, IsTrue, length, slice_index, take}
+use Rattle.std.specs.Prelude.{◌≡◌, ◌+◌, ◌*◌, ◌<◌, ◌≤◌, ◌⊎◌, ℕ, zero, suc, List, Option, None, Some, All, IsTrue, length, slice_index, take}
 use Rattle.infer_evidence.specs.declared.ranges.Evidence.{Evidence}
 use Rattle.infer_evidence.specs.declared.ranges.Range.{Range}
 use Rattle.infer_evidence.specs.declared.ranges.TheConstants.{MOST_RANGES}
@@ -41,6 +41,10 @@ pub record AgreesOn (e : Evidence) (b c : List ℕ) : Type 0 where
   pub same : All (IsSame b c) (ranges_of e)
   pub long : e.least ≤ length c
   pub exact : IsTrue e.exact → length c ≡ length b
+
+-- c does so, or is b
+abbrev pub IsLike : Evidence → List ℕ → List ℕ → Type 0
+IsLike e b c = AgreesOn e b c ⊎ (c ≡ b)
 
 -- the range is inside the buffer
 abbrev pub IsInside : List ℕ → Range → Type 0

@@ -114,10 +114,39 @@ fn number(row: Option<usize>) -> u32
     }
 }
 
+/// Of how many places at the front the evidence finds at once whether a range has them.
+const NEAR: usize = 64;
+
+/// As many more places are told apart among those that are far.
+const FAR: usize = 32;
+
+/// How many ranges are kept to look at first, each by its number: one of each near place, and one of all far ones that are not
+/// told apart.
+const HINTS: usize = NEAR + FAR;
+
+/// Keeps the number of a range with bytes in a row, which is the next, at each near place that it has, or at its first if that
+/// is far.
+#[inline(always)]
+fn mark(hints: &mut [u8; HINTS], range: &Range, number: u8) {
+    if range.step != 1 {
+        return;
+    }
+    if range.place >= NEAR {
+        hints[NEAR + range.place % FAR] = number;
+        return;
+    }
+    let end = range.place.saturating_add(range.len).min(NEAR);
+    for place in range.place..end {
+        hints[place] = number;
+    }
+}
+
 /// What decides: ranges of a buffer, the least length that is needed, and whether another length is not enough.
 #[derive(Drop)]
 pub struct Evidence {
     ranges: [Range; MOST_RANGES],
+    /// Where to look first for the range with a byte. Nothing is taken from here without a look at that range.
+    hints: [u8; HINTS],
     count: usize,
     least: usize,
     exact: bool,
@@ -132,6 +161,7 @@ impl Evidence {
     {
         Evidence {
             ranges: [Range::blank(); MOST_RANGES],
+            hints: [0; HINTS],
             count: 0,
             least: 0,
             exact: false,
@@ -178,10 +208,51 @@ impl Evidence {
         self.exact = false;
     }
 
+    /// Whether the range that was asked for last with the first byte of this one has all its bytes.
+    #[inline(always)]
+    fn has_near(&self, range: &Range) -> bool
+        ensures { IsTrue result → Any (IsAround range.now) (ranges_of self.now) }
+    {
+        let slot = if range.place < NEAR {
+            range.place
+        } else {
+            NEAR + range.place % FAR
+        };
+        match self.ranges().get(usize::from(self.hints[slot])) {
+            Some(other) => is_around(other, range),
+            None => false,
+        }
+    }
+
+    /// How many bytes at the front a range has that was asked for last with the first of them.
+    pub fn front(&self) -> usize
+        ensures { (b c : List ℕ) → AgreesOn self.now b c → HasSame b c 0 result }
+    {
+        match self.ranges().get(usize::from(self.hints[0])) {
+            Some(range) if range.place == 0 && range.step == 1 => range.len,
+            _ => 0,
+        }
+    }
+
+    /// Whether a range that is asked for has the byte at the place. Of a far place that may stay untold.
+    #[inline(always)]
+    pub fn is_asked(&self, place: usize) -> bool
+        ensures { IsTrue result → (b c : List ℕ) → AgreesOn self.now b c → HasSame b c place 1 }
+    {
+        self.has_near(&Range::new(place, 1, None))
+    }
+
     /// Whether a range that is asked for has all bytes of this one.
     fn has(&self, range: &Range) -> bool
         ensures { IsTrue result → Any (IsAround range.now) (ranges_of self.now) }
     {
+        if self.has_near(range) {
+            return true;
+        }
+        // The last range with a near byte has it.
+        if range.len == 1 && range.place < NEAR {
+            return false;
+        }
         for other in self.ranges() {
             if is_around(other, range) {
                 return true;
@@ -206,6 +277,7 @@ impl Evidence {
             self.count = self.count.saturating_add(1);
             return;
         }
+        mark(&mut self.hints, &range, self.count as u8);
         self.ranges[self.count] = range;
         self.count += 1;
     }

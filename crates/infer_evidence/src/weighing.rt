@@ -1,7 +1,7 @@
 //! The bytes of a buffer by which a fixed signature accepts it, or does not.
 ghost use Rattle.std.specs.Prelude.{◌≡◌, ◌↔◌, ◌+◌, ◌<◌, ◌≤◌, ℕ, List, All, Any, IfSome, IsTrue, None, length, slice_index, true};
 ghost use Rattle.infer_deep.specs.Open.{AgreesAt};
-ghost use Rattle.infer_evidence.specs.Evidence.{AgreesOn, IsInside, IsOf, IsSame};
+ghost use Rattle.infer_evidence.specs.Evidence.{AgreesOn, IsInside, IsLike, IsOf, IsSame};
 ghost use Rattle.infer_evidence.specs.Listed.{signature_listed};
 ghost use Rattle.infer_evidence.specs.Weighed.{Differs, HasAlternative, HasPart, HasParts, IsSameTo, StandsNone, most_ranges};
 ghost use Rattle.infer_evidence.specs.declared.signature.Part.TheVariants as parts;
@@ -310,14 +310,79 @@ pub fn refuse<P: AsPart>(
     }
 }
 
-/// The first alternative that the buffer has.
-fn fitting<'a>(signature: &'a [Alternative], buf: &[u8]) -> Option<&'a Alternative>
+/// The byte at the place, if a range that is asked for has it.
+#[inline(always)]
+fn asked_byte(place: usize, buf: &[u8], evidence: &Evidence) -> Option<u8>
+    ensures { IfSome result (λ x. (c : List ℕ) → IsLike evidence.now buf.now c
+        → (place < length c) × (slice_index c place ≡ x)) }
+{
+    match buf.get(place) {
+        Some(byte) if evidence.is_asked(place) => Some(*byte),
+        _ => None,
+    }
+}
+
+/// Whether the buffer lacks the part, and bytes that are asked for already tell it: the first that it asks for.
+#[inline(always)]
+fn is_told_lacking(part: &Part, buf: &[u8], evidence: &Evidence) -> bool
+    ensures { IsTrue result → (c : List ℕ) → IsLike evidence.now buf.now c
+        → ¬ HasPart c part.now }
+{
+    match part {
+        Part::Text(place, text) => {
+            match (text.first(), asked_byte(*place, buf, evidence)) {
+                (Some(first), Some(byte)) => byte != *first,
+                _ => false,
+            }
+        }
+        Part::Byte(place, set) => match asked_byte(*place, buf, evidence) {
+            Some(byte) => !allows(set, byte),
+            None => false,
+        },
+        Part::AnyText(..) => false,
+    }
+}
+
+/// Whether the buffer is too short for the alternative or lacks what that asks first, and what is asked for already tells it.
+#[inline(always)]
+fn is_told(alternative: &Alternative, buf: &[u8], evidence: &Evidence) -> bool
+    ensures { IsTrue result → (c : List ℕ) → IsLike evidence.now buf.now c
+        → ¬ HasAlternative c alternative.now }
+{
+    if evidence.is_exact() && buf.len() < alternative.least {
+        return true;
+    }
+    match alternative.parts.first() {
+        Some(part) => is_told_lacking(part, buf, evidence),
+        None => false,
+    }
+}
+
+/// Whether the buffer lacks each alternative, and what is asked for already tells it.
+fn all_told(signature: &[Alternative], buf: &[u8], evidence: &Evidence) -> bool
+    ensures { IsTrue result → (c : List ℕ) → IsLike evidence.now buf.now c
+        → All (λ a. ¬ HasAlternative c a) signature.now }
+{
+    for alternative in signature {
+        if !is_told(alternative, buf, evidence) {
+            return false;
+        }
+    }
+    true
+}
+
+/// The first alternative that the buffer has. What is told already costs no more than a look.
+fn fitting<'a>(
+    signature: &'a [Alternative],
+    buf: &[u8],
+    evidence: &Evidence,
+) -> Option<&'a Alternative>
     ensures some { IfSome result (λ a. HasAlternative buf.now a.now) }
     ensures among { IfSome result (λ a. Any (λ other. other ≡ a.now) signature.now) }
     ensures none { result ≡ None → All (λ a. ¬ HasAlternative buf.now a) signature.now }
 {
     for alternative in signature {
-        if fits(alternative.least, alternative.parts, buf) {
+        if !is_told(alternative, buf, evidence) && fits(alternative.least, alternative.parts, buf) {
             return Some(alternative);
         }
     }
@@ -340,6 +405,20 @@ fn refused_alone(signature: &[Alternative], buf: &[u8], row: Option<usize>) -> O
     }
 }
 
+/// Asks for that by which the buffer lacks the alternative, unless it is told already.
+#[inline(always)]
+fn refuse_one(alternative: &Alternative, buf: &[u8], row: Option<usize>, evidence: &mut Evidence)
+    requires { ¬ HasAlternative buf.now alternative.now }
+    ensures tells { (c : List ℕ) → AgreesOn evidence.new buf.now c → AgreesOn evidence.old buf.now c
+        × ¬ HasAlternative c alternative.now }
+    ensures inside { IsOf evidence.old buf.now → IsOf evidence.new buf.now }
+    ensures few { evidence.new.count ≤ evidence.old.count + 1 }
+{
+    if !is_told(alternative, buf, evidence) {
+        refuse(alternative.least, alternative.parts, buf, row, evidence);
+    }
+}
+
 /// Asks for that by which the buffer lacks each of the alternatives.
 fn refuse_all(signature: &[Alternative], buf: &[u8], row: Option<usize>, evidence: &mut Evidence)
     requires { All (λ a. ¬ HasAlternative buf.now a) signature.now }
@@ -349,7 +428,7 @@ fn refuse_all(signature: &[Alternative], buf: &[u8], row: Option<usize>, evidenc
     ensures few { evidence.new.count ≤ evidence.old.count + length signature.now }
 {
     for alternative in signature {
-        refuse(alternative.least, alternative.parts, buf, row, evidence);
+        refuse_one(alternative, buf, row, evidence);
     }
 }
 
@@ -370,11 +449,14 @@ pub fn weigh(
         ≤ evidence.old.count + most_ranges (signature_listed signature.now) }
 {
     laws::by_place();
+    if all_told(signature, buf, evidence) {
+        return false;
+    }
     if let Some(range) = refused_alone(signature, buf, row) {
         evidence.ask(range);
         return false;
     }
-    match fitting(signature, buf) {
+    match fitting(signature, buf, evidence) {
         Some(alternative) => {
             accept(alternative.least, alternative.parts, buf, row, evidence);
             true

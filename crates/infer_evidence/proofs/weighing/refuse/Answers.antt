@@ -24,3 +24,6 @@ returns-else-least-buf-clause-tells g c = λ b agrees.
         | else-least-buf-via-then-least-buf+in-None-1 w ↦ λ h. c.requires (w.if-least-buf.true, w.lacking.ensures.none (search rules))
       ],
     )
+
+pub returns-in-Some-lacking-clause-inside : goal.returns-in-Some-lacking-clause-inside
+returns-in-Some-lacking-clause-inside g c = λ of. c.ask-2.ensures.inside c.args.buf.now (search rules) c.refused.ensures.inside

@@ -1,6 +1,24 @@
-use Rattle.infer_evidence.proofs.Common.{arith, List, false≢true, refl, ℕ}
+use Rattle.infer_evidence.proofs.Common.{arith, inl, inr, List, false≢true, refl, ℕ}
 use Rattle.infer_evidence.proofs.ListedLemmas.{alternatives_within, by_none, by_one, parts_within, signature_told}
 use Rattle.infer_evidence.proofs.weighing.weigh.Goals as goal
+
+pub returns-then-all_told-clause-answer : goal.returns-then-all_told-clause-answer
+returns-then-all_told-clause-answer c =
+    let told = signature_told c.by_place.ensures c.args.buf.now c.args.signature.now in
+    let none = by_none _ _ (c.all_told.ensures c.if-all_told.true c.args.buf.now (inr refl)) in
+    (λ yes. absurd (false≢true yes), λ h. absurd (none (told.0 h)))
+
+pub returns-then-all_told-clause-tells : goal.returns-then-all_told-clause-tells
+returns-then-all_told-clause-tells c =
+    let told = λ (b : List ℕ). signature_told c.by_place.ensures b c.args.signature.now in
+    let refused = c.all_told.ensures c.if-all_told.true in
+    λ b agrees. (
+      agrees,
+      (
+        λ h. absurd (by_none _ _ (refused b (inl agrees)) ((told b).0 h)),
+        λ h. absurd (by_none _ _ (refused c.args.buf.now (inr refl)) ((told c.args.buf.now).0 h)),
+      ),
+    )
 
 pub returns-in-Some-clause-answer : goal.returns-in-Some-clause-answer
 returns-in-Some-clause-answer c =
