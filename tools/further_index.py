@@ -146,7 +146,7 @@ OUTLINES = {
     "DirectoryTagAndMake": [{0: {0x49}, 1: {0x49}}, {0: {0x4D}, 1: {0x4D}}],
     "Animated": [{0: {0x89}, 1: {0x50}, 2: {0x4E}, 3: {0x47}}],
     "Dbase": [{0: {0x02, 0x03, 0x30, 0x31, 0x32, 0x43, 0x63, 0x83, 0x8B, 0xCB, 0xF5}, 12: {0}, 13: {0}}],
-    "TarChecksum": [{148: set(range(0x20, 0x38))}],
+    "TarChecksum": [{148: {0x20, *range(0x30, 0x38)}}],
     "Program": [{0: {0x23}, 1: {0x21}}],
     "Root": MARKUP,
     "RootWith": MARKUP,
@@ -346,6 +346,27 @@ def picked(place, byte, asked):
     return list(entries(of_each_row(own), (place, byte), others))
 
 
+def nearest(outline, beside=()):
+    """The entries of an outline at its nearest place that allows few bytes, but for those beside it, or at that with the fewest."""
+    few = [place for place, allowed in outline.items() if len(allowed) <= MOST_BYTES and place not in beside]
+    place = min(few) if few else fewest(outline)
+    return {(place, byte) for byte in outline[place]}
+
+
+def led(rows):
+    """What rules out the rows of no parent but those of texts, in their order: of each first byte the entries of those that allow
+    it, and the entries of those that ask nothing of it. The nearest bytes rule out most."""
+    first, beside = [[] for _ in range(256)], []
+    for number, row in enumerate(rows):
+        asked = row.outlines(TEXTS) if not row.parent else []
+        for byte, entries in enumerate(first):
+            own = [nearest(it | {0: {byte}}, {0}) for it in asked if byte in it.get(0, ())]
+            entries += [(*it, number) for it in sorted(set().union(*own))]
+        others = [nearest(it) for it in asked if 0 not in it]
+        beside += [(*it, number) for it in sorted(set().union(*others))]
+    return first, beside
+
+
 def listed(some):
     return "(" + ", ".join(" ".join(in_words(it)) for it in some) + ")"
 
@@ -465,17 +486,12 @@ def lists(rows, parents):
         yield from (f"    {it}" for it in in_lines_of_code(*((name, takes) if name in LISTED else ("Nothing", [])), "", ","))
     yield "];"
     yield BELOW_OTHERS.format(in_list_of(apart(ways)), arms(apart(ways), "below_{}()"))
-    found = list(spots(rows))
-    some = [it for _, by_byte in found for it in by_byte]
-    starts = list(itertools.accumulate((len(it) for it in some), initial=0))
-    yield f"pub(crate) static SPOTS: [Spot; {len(found)}] ="
-    yield f"    spots!{bracketed(f'{place} {256 * k}' for k, (place, _) in enumerate(found))};"
-    yield f"\npub(crate) static STARTS: [u16; {len(starts)}] = starts!["
-    yield from (f"    {' '.join(map(str, starts[at : at + 64]))}" for at in range(0, len(starts), 64))
-    yield "];"
-    yield f"\npub(crate) static ENTRIES: [Entry; {starts[-1]}] = picked!["
-    yield from in_lines((" ".join(in_words(it)) for it in itertools.chain(*some)), 16)
-    yield "];"
+    found, (first, beside) = list(spots(rows)), led(rows)
+    yield from spans("", found)
+    yield ""
+    yield from spans("LED_", [(0, first)])
+    yield ""
+    yield from entries_of("BESIDE", beside)
     yield "\npub(crate) static TEXTS: Texts = Texts {"
     yield from last(rows)
     yield "};"
@@ -484,6 +500,27 @@ def lists(rows, parents):
     yield f"    roots: {rooted(own)},"
     yield f"    keys: keyed!{bracketed(said for _, said in told_by(own, 'FirstKey'))},"
     yield "};"
+
+
+def spans(name, found):
+    """The places of spots, and of all their bytes where the entries of each begin, and the entries."""
+    some = [it for _, by_byte in found for it in by_byte]
+    starts = list(itertools.accumulate((len(it) for it in some), initial=0))
+    places = bracketed(f"{place} {256 * k}" for k, (place, _) in enumerate(found))
+    line = f"pub(crate) static {name}SPOTS: [Spot; {len(found)}] ="
+    yield from [f"{line} spots!{places};"] if len(found) == 1 else [line, f"    spots!{places};"]
+    yield f"\npub(crate) static {name}STARTS: [u16; {len(starts)}] = starts!["
+    yield from (f"    {' '.join(map(str, starts[at : at + 64]))}" for at in range(0, len(starts), 64))
+    yield "];\n"
+    yield from entries_of(f"{name}ENTRIES", itertools.chain(*some))
+
+
+def entries_of(name, some):
+    """A list of entries."""
+    some = [*some]
+    yield f"pub(crate) static {name}: [Entry; {len(some)}] = picked!["
+    yield from in_lines((" ".join(in_words(it)) for it in some), 16)
+    yield "];"
 
 
 def arms(numbers, call):

@@ -1,6 +1,6 @@
 -- By the index just those rows are found that widen an answer.
-use Rattle.std.proofs.lemmas.Bool.{ltb-true, or_cases}
-use Rattle.infer_more.proofs.Common.{◌≡◌, ◌↔◌, ℕ, zero, suc, ◌+◌, ◌<◌, ◌≤◌, ◌==◌, inl, inr, ◌⊎◌, Bool, true, false, IsTrue, List, [], ◌∷◌, Option, None, Some, length, get_or, ap, sym, ◌∙◌, subst, arith, refl, ◌&&◌, ◌||◌, slice_index, nat_le, nat_lt, list_all, list_any, option_map_or, cases_lt, eqb-true, leb-true, get_or_default, slice_get_cases, Bor, IsJson, IsJsonLines, BeginsElement, IsRootElement, IsXmlSpace, there, IsProgram, IsOneOf, IsPackageWith, applications, accepts, fits, stands, StandsByPlace, IsBuffer, is_listed, HasTagText, IsFoundBelow, IsLeast, IsNamed, IsOfProgram, IsRootedBy, IsRooted, IsRowOf, IsTried, ascends, candidates, is_covered, is_plain, is_tried_parentless, is_true_below, named_row, rooted_row, tried_parentless, lines, Further, Accepted, Fits, related, json_lines, json_text, package_with, plain_text, program, root, root_with, further, Widens, WidensAt, Nothing, Named, Parentless, Rooted, FURTHER_COUNT, and_from, bucket_of, class_id, if◌then◌else◌, not, eq-eqb}
+use Rattle.std.proofs.lemmas.Bool.{ltb-true, or_cases, or_left, or_right}
+use Rattle.infer_more.proofs.Common.{◌≡◌, ◌↔◌, ℕ, zero, suc, ◌+◌, ◌++◌, ◌<◌, ◌≤◌, ◌==◌, inl, inr, ◌⊎◌, Bool, true, false, IsTrue, List, [], ◌∷◌, Option, None, Some, length, get_or, ap, sym, ◌∙◌, subst, arith, refl, ◌&&◌, ◌||◌, slice_index, nat_le, nat_lt, list_all, list_any, option_map_or, cases_lt, eqb-true, leb-true, get_or_default, slice_get_cases, Bor, IsJson, IsJsonLines, BeginsElement, IsRootElement, IsXmlSpace, there, IsProgram, IsOneOf, IsPackageWith, applications, accepts, fits, stands, StandsByPlace, IsBuffer, is_listed, HasTagText, IsFoundBelow, IsLeast, IsNamed, IsOfProgram, IsRootedBy, IsRooted, IsRowOf, IsTried, ascends, candidates, is_covered, is_plain, is_tried_parentless, is_true_below, named_row, rooted_row, tried_parentless, lines, Further, Accepted, Fits, related, json_lines, json_text, package_with, plain_text, program, root, root_with, further, Widens, WidensAt, Nothing, Named, Parentless, Rooted, FURTHER_COUNT, and_from, bucket_of, class_id, if◌then◌else◌, not, eq-eqb}
 use Rattle.std.specs.Prelude.{slice_get}
 use Rattle.std.proofs.lemmas.List.Sums.{AllPass-from_list_all}
 use Rattle.infer_deep.specs.ClassId.{HasClassId}
@@ -14,20 +14,21 @@ use Rattle.infer_formats.specs.Tiff.{HasTag}
 use Rattle.infer_formats.specs.Markup.{HasInTag, MayBeRooted}
 use Rattle.infer_sig.specs.Signature as fixed
 use Rattle.infer_sig.proofs.OccurrenceLemmas.{not_both}
-use Rattle.infer_more.specs.Index.{AllApplications, AreClassIds, AreWaysBelow, EachIsTold, EachParentlessIsFound, FindsBelow, FindsParentless, IsFoundParentless, IsKeyed, IsKeyedBy, IsTold, IsWayBelow, IsTextRow, HasKeyValue, MayBeTold, all_ascend, are_keyed, are_rooted, are_roots_of, are_texts, are_true, asks_class_id, asks_folder, asks_key, asks_program, asks_root, below_at, bucket_by, has_byte, has_named, has_rooted, keyed_row, roots_of, is_application, is_child, is_found_below, is_found_parentless, is_in_class_ids, is_in_folders, is_in_keys, is_in_programs, is_in_roots, is_json, is_lines, is_of_name, is_of_tag, is_row_below, is_row_parentless, is_row_parentless_found, is_row_with, is_text_row, is_told, is_tried_below, bucket_at, same, same_text}
+use Rattle.infer_more.specs.Index.{AllApplications, AreClassIds, AreWaysBelow, EachIsLed, EachIsTold, EachParentlessIsFound, FindsBelow, FindsLed, FindsParentless, IsFoundParentless, IsKeyed, IsKeyedBy, IsTold, IsWayBelow, IsTextRow, HasKeyValue, MayBeTold, all_ascend, are_keyed, are_rooted, are_roots_of, are_texts, are_true, asks_class_id, asks_folder, asks_key, asks_program, asks_root, below_at, bucket_by, has_byte, has_named, has_rooted, keyed_row, roots_of, is_application, is_child, is_found_below, is_found_parentless, is_in_class_ids, is_in_folders, is_in_keys, is_in_programs, is_in_roots, is_json, is_lines, is_of_name, is_of_tag, is_row_below, is_row_parentless, is_row_parentless_found, is_row_with, is_text_row, is_told, is_tried_below, bucket_at, same, same_text}
 use Rattle.infer_notation.specs.Alternative.{Alternative}
 use Rattle.infer_more.specs.declared.index.Below as below
 use Rattle.infer_more.specs.declared.index.Below.TheVariants.{ClassIds, Entries, Packages, Programs, Roots, Tagged}
 use Rattle.infer_more.specs.declared.index.Entry.{Entry}
 use Rattle.infer_more.specs.declared.index.Keyed.{Keyed}
+use Rattle.infer_more.specs.declared.index.Led.{Led}
 use Rattle.infer_more.specs.declared.index.Texts.{Texts}
 use Rattle.infer_more.specs.declared.index.Told.{Told}
-use Rattle.infer_more.proofs.IndexLemmas.{both_left, both_right, covered_here, parentless_here}
+use Rattle.infer_more.proofs.IndexLemmas.{both_left, both_right, covered_here, listed_left, listed_right, parentless_here}
 use Rattle.infer_more.proofs.LeastLemmas.{least_both, least_late, least_same, read_at}
 use Rattle.infer_more.proofs.OutlineLemmas.{has_lines, small_bytes}
 use Rattle.infer_more.proofs.NearLemmas.{element_by, element_is, near, near_is}
 use Rattle.infer_more.proofs.TableLemmas.{NoRowFails, each_row}
-use Rattle.infer_more.specs.Index.{entries_at, entries_by}
+use Rattle.infer_more.specs.Index.{entries_at, entries_by, is_led, led_rows, text_rows}
 use Rattle.infer_more.specs.Wider.{IsWidest}
 use Rattle.std.proofs.Common.{ap₂}
 
@@ -128,6 +129,38 @@ module _ (by_place : (place : ℕ) (t buf : List ℕ) → IsTrue (stands place t
     | inl e ↦ parentless_here by_place index b i l (both_left (is_tried_parentless (entries_at index) index.spots.now i l) _ h) e
     | inr e ↦ line_tried_parentless index some (both_right (is_tried_parentless (entries_at index) index.spots.now i l) _ h) e
   ]
+
+  -- or few bytes leave it
+  line_led : (led : Led) (some : List fixed.Alternative)
+      → IsTrue (list_all (λ l. is_tried_parentless (entries_at led.index) led.index.spots.now i l || is_covered i l led.beside.now) some) → IsTrue (accepts some b)
+      → IsTrue (is_listed (tried_parentless led.index b ++ candidates b led.beside.now) i)
+  line_led led [] h k = absurd (cc)
+  line_led led (l ∷ some) h k =
+      let here = is_tried_parentless (entries_at led.index) led.index.spots.now i l in
+      elim (or_cases (fits b l) _ k) [
+        | inl e ↦ elim (or_cases here _ (both_left (here || is_covered i l led.beside.now) _ h)) [
+          | inl at_spot ↦ listed_left (tried_parentless led.index b) _ i (parentless_here by_place led.index b i l at_spot e)
+          | inr other ↦ listed_right (tried_parentless led.index b) _ i (covered_here by_place b i l led.beside.now other e)
+        ]
+        | inr e ↦ line_led led some (both_right (here || is_covered i l led.beside.now) _ h) e
+      ]
+
+  text_listed : (t : Texts) (a : Alternative) → IsTrue (is_text_row t i a) → IsTrue (is_listed (text_rows t) i)
+  text_listed t (related json_lines) h = or_left (t.lines == i) _ h
+  text_listed t (related json_text) h = or_right (t.lines == i) _ (or_left (t.json == i) _ h)
+  text_listed t (related plain_text) h = or_right (t.lines == i) _ (or_right (t.json == i) _ (or_left (t.plain == i) _ h))
+  text_listed t other h = absurd (cc)
+
+  led_by : (led : Led) (signature : List Alternative) → IsTrue (list_all (is_led (entries_at led.index) led.index.spots.now led.beside.now led.index.texts i) signature) → Accepted signature b
+      → IsTrue (is_listed (led_rows led b) i)
+  led_by led [] h k = absurd (k)
+  led_by led (a ∷ signature) h (inr k) =
+      led_by led signature (both_right (is_led (entries_at led.index) led.index.spots.now led.beside.now led.index.texts i a) _ h) k
+  led_by led (a ∷ signature) h (inl k) =
+      elim (or_cases (is_text_row led.index.texts i a) _ (both_left (is_led (entries_at led.index) led.index.spots.now led.beside.now led.index.texts i a) _ h)) [
+        | inl text ↦ listed_right (tried_parentless led.index b ++ candidates b led.beside.now) _ i (text_listed led.index.texts a text)
+        | inr rows ↦ listed_left (tried_parentless led.index b ++ candidates b led.beside.now) _ i (line_led led (lines a) rows (has_lines leads b a (λ plain. small) k))
+      ]
 
   tried : (entries : List Entry) (a : Alternative) → IsTrue (is_tried_below i entries a) → Fits a b → IsTrue (is_listed (candidates b entries) i)
   tried entries a h k = line_tried entries (lines a) h (has_lines leads b a (λ plain. small) k)
@@ -476,6 +509,17 @@ module _ (by_place : (place : ℕ) (t buf : List ℕ) → IsTrue (stands place t
     | inr (past, none) ↦ absurd (let lt = w.0 in omega arith)
   ]
 
+  pub finds_led : (led : Led) → EachIsLed led → FindsLed led
+  finds_led led each = record {
+    left = λ b all i w. elim (slice_get_cases further i).1 [
+      | inl (r, within, found, same_row) ↦
+          let holds : Widens None b r = subst (Widens None b) same_row (w.1 r) in
+          let own = parentless_by i r found within (is_led (entries_at led.index) led.index.spots.now led.beside.now led.index.texts) each.left holds.0 in
+          led_by by_place leads b (small_bytes b all) i led r.signature own holds.1
+      | inr (past, none) ↦ absurd (let lt = w.0 in omega arith)
+    ];
+  }
+
   pub all_below : (parent : ℕ) (way : below.Below) → IsWayBelow parent way → FindsBelow parent way
   all_below parent way each b all i = (widens_below b parent way i each.told, finds_below parent way each b all i)
 
@@ -546,6 +590,13 @@ each_parentless index none texts =
       found = λ i lt. each_row _ (subst (λ entries. NoRowFails (λ i r. is_row_parentless (is_found_parentless entries index.spots.now index.texts i) r.parent r)) same none) i;
       texts = texts;
     }
+
+pub each_led : (led : Led)
+    → NoRowFails (λ i r. is_row_parentless (is_led (entries_near led.index.entries.now led.index.starts.now) led.index.spots.now led.beside.now led.index.texts i) r.parent r)
+    → EachIsLed led
+each_led led none =
+    let same : entries_near led.index.entries.now led.index.starts.now ≡ entries_at led.index = ap₂ entries_by (near_is led.index.entries.now) (element_is led.index.starts.now) in
+    record { left = λ i lt. each_row _ (subst (λ entries. NoRowFails (λ i r. is_row_parentless (is_led entries led.index.spots.now led.beside.now led.index.texts i) r.parent r)) same none) i }
 
 pub each_told : (told : Told) → NoRowFails (λ i r. is_row_parentless (is_told told i) r.parent r) → IsTrue (are_rooted told.roots.now)
     → IsTrue (are_keyed told.keys.now) → EachIsTold told

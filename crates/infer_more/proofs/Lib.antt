@@ -35,4 +35,5 @@ pub mod DescribedLemmas
 pub mod OwnSizeLemmas
 pub mod AnswerLineLemmas
 pub mod WhyLemmas
-pub mod TriedLemmas
+pub mod LedLemmas
+pub mod RuledLemmas

@@ -37,11 +37,6 @@ pub front_tells : (i : ℕ) (b c : List ℕ) (n : ℕ) → IsBuffer b → IsBuff
 front_tells i b c n bytes others le told same =
     buffers_with (IsAlikeAt i) b c n bytes others le same (λ v w of more. alike_with (slice_get further i) (take n b) v w of more told)
 
--- a buffer is not accepted that begins with what no bytes make accepted
-pub never_with : (xs : List signature.Alternative) (b c : List ℕ) (n : ℕ) → IsBuffer b → IsBuffer c → n ≤ length b → ¬ MayBecome (Accepted xs) (take n b)
-    → ((k : ℕ) → k < n → (k < length c) × (get_or c k 0 ≡ get_or b k 0)) → ¬ Accepted xs c
-never_with xs b c n bytes others le never same = buffers_with (λ y z. ¬ Accepted xs z) b c n bytes others le same (λ v w of more h. never (w, more, h))
-
 alike_itself : (o : Option Further) (b : List ℕ) → MatchOption o (Unit {0}) (λ r. Accepted r.signature b ↔ Accepted r.signature b)
 alike_itself None b = tt
 alike_itself (Some r) b = (λ h. h, λ h. h)
@@ -195,21 +190,3 @@ module _ (parent : Option ℕ) (i : ℕ) where
 -- what never holds does so alike
 pub never_alike : {P Q : Type 0} → ¬ P → ¬ Q → P ↔ Q
 never_alike p q = (λ h. absurd (p h), λ h. absurd (q h))
-
--- of one number more it is known
-pub none_more : (P : ℕ → Type 0) (i : ℕ) → ((k : ℕ) → k < i → ¬ P k) → ¬ P i → (k : ℕ) → k < i + 1 → ¬ P k
-none_more P i before here k lt p = elim (cases_lt k i) [
-  | inl less ↦ before k less p
-  | inr more ↦ here (let e : k ≡ i = omega arith in subst P e p)
-]
-
--- the first of the rows that widen
-pub first_widens : (parent : Option ℕ) (b : List ℕ) (i : ℕ) → ((k : ℕ) → k < i → ¬ WidensAt parent b k) → WidensAt parent b i → IsFirst (Widens parent b) further i
-first_widens parent b i before here = record {
-  within = here.0;
-  here = here.1;
-  before = λ k d low lt p. before k lt (let within = here.0 in omega arith, HoldsAt-read (Widens parent b) further k d (let within = here.0 in omega arith) p);
-}
-
-pub none_widens : (parent : Option ℕ) (b : List ℕ) (i : ℕ) → length further ≤ i → ((k : ℕ) → k < i → ¬ WidensAt parent b k) → IsFirstOf (Widens parent b) further None
-none_widens parent b i all before k d low lt p = before k (omega arith) (lt, HoldsAt-read (Widens parent b) further k d lt p)

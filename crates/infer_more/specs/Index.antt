@@ -27,6 +27,7 @@ use Rattle.infer_more.specs.declared.index.Below as below
 use Rattle.infer_more.specs.declared.index.Below.TheVariants.{ClassIds, Entries, Nothing, Packages, Programs, Roots, Tagged}
 use Rattle.infer_more.specs.declared.index.Entry.{Entry}
 use Rattle.infer_more.specs.declared.index.Keyed.{Keyed}
+use Rattle.infer_more.specs.declared.index.Led.{Led}
 use Rattle.infer_more.specs.declared.index.Named.{Named}
 use Rattle.infer_more.specs.declared.index.Parentless.{Parentless}
 use Rattle.infer_more.specs.declared.index.Rooted.{Rooted}
@@ -80,6 +81,14 @@ tried_at index b s = candidates b (picked index b s)
 
 abbrev pub tried_parentless : Parentless → List ℕ → List ℕ
 tried_parentless index b = all_of (tried_at index b) index.spots.now
+
+-- the rows of texts
+abbrev pub text_rows : Texts → List ℕ
+text_rows t = t.lines ∷ t.json ∷ t.plain ∷ []
+
+-- the rows without a parent that few bytes of the buffer leave
+abbrev pub led_rows : Led → List ℕ → List ℕ
+led_rows led b = (tried_parentless led.index b ++ candidates b led.beside.now) ++ text_rows led.index.texts
 
 -- how the rows below built-in row i are told
 abbrev pub below_at : List below.Below → ℕ → below.Below
@@ -178,6 +187,23 @@ IsFoundBelow (Packages entries folders) parent b i =
     IsTried (Some parent) b (candidates b entries.now) i ⊎ IsNamed (λ folder. IsPackageWith folder b) folders.now i
 IsFoundBelow (Tagged entries tag other tagged) parent b i =
     IsTried (Some parent) b (candidates b entries.now) i ⊎ ((HasTag tag b ⊎ HasTag other b) × IsTried (Some parent) b (candidates b tagged.now) i)
+
+-- the rows that a list names
+abbrev pub rows_in : {A : Type 0} → (A → ℕ) → List A → List ℕ
+rows_in row xs = all_of (λ e. row e ∷ []) xs
+
+abbrev pub rows_in_each : {A : Type 0} → (A → ℕ) → List (Bor (List A)) → List ℕ
+rows_in_each row lists = all_of (λ list. rows_in row list.now) lists
+
+-- and a way below a built-in row, but for those of entries whose bytes the buffer lacks
+abbrev pub rows_of : below.Below → List ℕ → List ℕ
+rows_of Nothing b = []
+rows_of (Entries entries) b = candidates b entries.now
+rows_of (ClassIds entries ids) b = candidates b entries.now ++ rows_in named_row ids.now
+rows_of (Programs entries lists) b = candidates b entries.now ++ rows_in_each named_row lists.now
+rows_of (Roots roots) b = rows_in_each rooted_row roots.now
+rows_of (Packages entries folders) b = candidates b entries.now ++ rows_in named_row folders.now
+rows_of (Tagged entries tag other tagged) b = candidates b entries.now ++ candidates b tagged.now
 
 -- row i is that of the text that the buffer is
 abbrev pub IsTextRow : Texts → List ℕ → ℕ → Type 0
@@ -294,6 +320,11 @@ is_text_row t i (related json_lines) = t.lines == i
 is_text_row t i (related json_text) = t.json == i
 is_text_row t i (related plain_text) = t.plain == i
 is_text_row t i other = false
+
+-- or each buffer that fits it is left by few bytes
+abbrev pub is_led : (ℕ → List Entry) → List Spot → List Entry → Texts → ℕ → Alternative → Bool
+is_led entries spots beside texts i a =
+    is_text_row texts i a || list_all (λ l. is_tried_parentless entries spots i l || is_covered i l beside) (lines a)
 
 -- it asks for a root or for a first key
 abbrev pub is_of_name : Alternative → Bool
@@ -440,6 +471,14 @@ pub record EachIsTold (told : Told) : Type 0 where
   pub found : (i : ℕ) → i < length further → IsTrue (is_row_parentless_found (is_told told) i)
   pub roots : IsTrue (are_rooted told.roots.now)
   pub keys : IsTrue (are_keyed told.keys.now)
+
+-- and few bytes leave each row without a parent of a buffer that its signature accepts
+pub record EachIsLed (led : Led) : Type 0 where
+  pub left : (i : ℕ) → i < length further → IsTrue (is_row_parentless_found (is_led (entries_at led.index) led.index.spots.now led.beside.now led.index.texts) i)
+
+-- few bytes leave each row that widens no answer
+pub record FindsLed (led : Led) : Type 0 where
+  pub left : (b : List ℕ) → IsBuffer b → (i : ℕ) → WidensAt None b i → IsTrue (is_listed (led_rows led b) i)
 
 -- just the rows that widen that answer are found
 abbrev pub FindsBelow : ℕ → below.Below → Type 0

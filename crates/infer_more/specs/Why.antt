@@ -1,5 +1,5 @@
 -- Which bytes of a buffer decide its wider answer.
-use Rattle.std.specs.Prelude.{◌↔◌, ◌≤◌, ◌⊎◌, ℕ, IfSome, IsTrue, List, Option, MatchOption, length, slice_get, take}
+use Rattle.std.specs.Prelude.{◌≡◌, ◌↔◌, ◌≤◌, ◌⊎◌, ℕ, IfSome, IsTrue, List, Option, MatchOption, length, nat_lt, slice_get, slice_index, take}
 use Rattle.infer_deep.specs.Signatures.{MayBecome}
 use Rattle.infer_evidence.specs.Evidence.{AgreesOn}
 use Rattle.infer_evidence.specs.declared.ranges.Evidence.{Evidence}
@@ -8,7 +8,8 @@ use Rattle.infer_formats.specs.Open.{Stays}
 use Rattle.infer.specs.Buffer.{IsBuffer}
 use Rattle.infer_notation.specs.Alternative.{Accepted, Alternative}
 use Rattle.infer_more.specs.Table.{further}
-use Rattle.infer_more.specs.Wider.{IsWider}
+use Rattle.infer_more.specs.Index.{IsLeast, IsTried}
+use Rattle.infer_more.specs.Wider.{IsWider, WidensAt}
 use Rattle.infer_evidence.specs.Weighed.{HasParts}
 use Rattle.infer_sig.specs.Signature.{has_part}
 use Rattle.infer_more.specs.Listed.{part_listed, pieces_of}
@@ -16,6 +17,7 @@ use Rattle.infer_more.specs.declared.listed.Alternative as code
 use Rattle.infer_more.specs.declared.listed.Alternative.TheVariants.{BinaryBytes, Bytes, Related}
 use Rattle.infer_more.specs.declared.listed.Bytes as listed
 use Rattle.infer_more.specs.declared.listed.Piece.{Piece}
+use Rattle.infer_more.specs.declared.why.Question.{Question}
 use Rattle.infer_more.specs.declared.why.RootRead.{RootRead}
 
 -- every buffer that agrees with b on the evidence has this wider answer
@@ -41,6 +43,18 @@ IsToldAt i b = MatchOption (slice_get further i) (Unit {0}) (λ r. IsTold r.sign
 -- the root element that was read is that of b, and the front tells it
 abbrev pub IsRootRead : RootRead → List ℕ → Type 0
 IsRootRead read b = IsRootOf read.root b × IfSome read.front (λ n. (n ≤ length b) × TellsRoot (take n b))
+
+-- c has the byte of b at the place, or both end before it
+abbrev pub IsSameAt : ℕ → List ℕ → List ℕ → Type 0
+IsSameAt place b c = (nat_lt place (length c) ≡ nat_lt place (length b)) × (slice_index c place ≡ slice_index b place)
+
+-- no row before the least widens the answer of the buffer
+abbrev pub IsQuestion : Question → Type 0
+IsQuestion q = IsRootRead q.read q.buf.now × ((i : ℕ) → WidensAt q.parent q.buf.now i → q.least ≤ i)
+
+-- nor, of these, that of c
+abbrev pub IsRuledOut : Question → List ℕ → List ℕ → Type 0
+IsRuledOut q rows c = IsLeast (IsTried q.parent c rows) q.least q.least
 
 -- the buffer has what the piece asks
 abbrev pub HasPiece : Piece → List ℕ → Type 0

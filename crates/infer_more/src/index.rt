@@ -1,7 +1,7 @@
 //! Which further rows are tried of a buffer, so that few are. At a spot the buffer's own byte picks entries. An entry names a
 //! row and one more byte that it asks, so that a row is tried whole only where the buffer has that byte too. Rows that ask for
 //! a name, or for the first key of an object, are found by it, which is read once for all of them.
-ghost use Rattle.infer_more.specs.Index.{EachIsTold, EachParentlessIsFound, FindsBelow, FindsParentless, IsWayBelow};
+ghost use Rattle.infer_more.specs.Index.{EachIsTold, EachParentlessIsFound, FindsBelow, FindsLed, FindsParentless, IsWayBelow};
 
 /// A row, by its number among the further rows, that is tried only if a buffer has the byte at the place.
 pub(crate) struct Entry {
@@ -70,6 +70,14 @@ pub(crate) struct Parentless {
     pub starts: &'static [u16],
     pub entries: &'static [Entry],
     pub texts: Texts,
+}
+
+/// The rows without a parent by few bytes that rule them out: the first byte picks the entries of those that allow it, and beside
+/// them stand those that ask nothing of it. The texts rule out themselves.
+#[derive(Clone, Copy)]
+pub(crate) struct Led {
+    pub index: Parentless,
+    pub beside: &'static [Entry],
 }
 
 /// The rows without a parent that are told by the root of markup or by the first key of an object, which is looked for once
@@ -164,7 +172,9 @@ mod generated;
 pub(crate) mod search;
 
 pub use generated::FURTHER_COUNT;
-use generated::{ENTRIES, SPOTS, STARTS, TEXTS, TOLD, told_below};
+use generated::{
+    BESIDE, ENTRIES, LED_ENTRIES, LED_SPOTS, LED_STARTS, SPOTS, STARTS, TEXTS, TOLD, told_below,
+};
 
 /// How the rows below this built-in row are told: in a way by which just those are found that widen its answer.
 #[inline(always)]
@@ -208,6 +218,23 @@ pub(crate) fn told_without_parent() -> &'static Told
     ensures { EachIsTold result.now }
 {
     &TOLD
+}
+
+/// The rows without a parent, by what rules them out.
+pub(crate) fn all_led() -> Led
+    ensures { FindsLed result }
+{
+    infer_formats::laws::leads();
+    infer_sig::laws::by_place();
+    Led {
+        index: Parentless {
+            spots: &LED_SPOTS,
+            starts: &LED_STARTS,
+            entries: &LED_ENTRIES,
+            texts: TEXTS,
+        },
+        beside: &BESIDE,
+    }
 }
 
 /// A law: by an index that has each row without a parent, and by the names of those that are told by one, just those are found

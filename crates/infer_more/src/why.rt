@@ -1,25 +1,28 @@
 //! The bytes of a buffer that decide its wider answer.
-ghost use Rattle.std.specs.Prelude.{◌≡◌, ◌↔◌, ◌+◌, ◌<◌, ◌≤◌, ℕ, List, All, Any, IfSome, IsTrue, Some, false, length, slice_get, take};
+ghost use Rattle.std.specs.Prelude.{[], ◌∷◌, ◌≡◌, ◌↔◌, ◌+◌, ◌<◌, ◌≤◌, ℕ, List, All, Any, IfSome, IsTrue, Some, false, length, slice_get, take};
 ghost use Rattle.infer.specs.First.{IsFirstOf};
 ghost use Rattle.infer.specs.declared.table.rows.TheConstants.{ROW_COUNT};
 ghost use Rattle.infer_evidence.specs.Evidence.{AgreesOn, IsOf};
 ghost use Rattle.infer_formats.specs.Markup.{TellsByRoot, TellsRoot};
 ghost use Rattle.infer_notation.specs.Alternative.{Accepted, Fits};
-ghost use Rattle.infer_more.specs.Index.{FindsBelow, ascends, entry_row};
-ghost use Rattle.infer_more.specs.declared.index.Below.TheVariants as ways;
+ghost use Rattle.infer_more.specs.Index.{IsLeast, all_of, candidate, led_rows, rows_of, tried_at, tried_parentless};
 ghost use Rattle.infer_more.specs.Listed.{alternative_listed, row_listed, signature_listed};
 ghost use Rattle.infer_more.specs.Open.{is_row_sound};
 ghost use Rattle.infer_more.specs.Row.{is_row_closed};
 ghost use Rattle.infer_more.specs.Table.{further};
-ghost use Rattle.infer_more.specs.Why.{Decides, HasBytes, HasPiece, IsAlikeAt, IsRootRead, IsTold, IsToldAt, LacksBytes, Tells};
+ghost use Rattle.infer_more.specs.Why.{Decides, HasBytes, HasPiece, IsAlikeAt, IsQuestion, IsRootRead, IsRuledOut, IsSameAt, IsTold, IsToldAt, LacksBytes, Tells};
 ghost use Rattle.infer_more.specs.Wider.{IsWider, IsWidest, Widens, WidensAt};
 ghost use Rattle.infer_more.specs.declared.index.generated.TheConstants.{FURTHER_COUNT};
 ghost use Rattle.infer_more.specs.declared.listed.Alternative.TheVariants as listed;
 
 use crate::decided::is_stable;
-use crate::index::{Below, Entry, FURTHER_COUNT, way_below};
+use crate::index::search::{has_byte, least_widening, may_be_told, span_picked};
+use crate::index::{
+    Below, Entry, FURTHER_COUNT, Led, Named, Parentless, Rooted, Spot, all_led, way_below,
+};
 use crate::listed::{
     Alternative, Bytes, FurtherRow, Piece, alternatives_of, asked, pieces_of, relation_at, row_at,
+    stretch,
 };
 use crate::open::may_become_accepted;
 use crate::signature;
@@ -93,13 +96,23 @@ struct RootRead<'a> {
     front: Option<usize>,
 }
 
-fn read_root<'a>(buf: &'a [u8]) -> RootRead<'a>
+fn read_root<'a>(parent: Option<usize>, buf: &'a [u8]) -> RootRead<'a>
     ensures { IsRootRead result buf.now }
 {
     RootRead {
         root: root_of(buf),
-        front: shortest_front(&RootTold, buf),
+        front: root_front(parent, buf),
     }
+}
+
+/// The length of that front. Without a parent no row asks for a root element of a buffer that begins otherwise.
+fn root_front(parent: Option<usize>, buf: &[u8]) -> Option<usize>
+    ensures { IfSome result (λ n. (n ≤ length buf.now) × TellsRoot (take n buf.now)) }
+{
+    if parent.is_none() && !may_be_told(buf) {
+        return None;
+    }
+    shortest_front(&RootTold, buf)
 }
 
 /// Whether a buffer with this root element, or with none, has what the alternative asks. `None` if that is not told by it.
@@ -218,13 +231,13 @@ fn weigh_row(
 {
     infer_sig::laws::by_place();
     let signature = alternatives_of(row);
-    if lacks_bytes(signature, buf) {
-        refuse_all(signature, i, buf, evidence);
-        return false;
-    }
     if let Some(bytes) = bytes_held(signature, buf) {
         accept(bytes.least, pieces_of(bytes), buf, number(i), evidence);
         return true;
+    }
+    if lacks_bytes(signature, buf) {
+        refuse_all(signature, i, buf, evidence);
+        return false;
     }
     if let Some(accepts) = accepts_root(signature, &read.root) {
         ask_front(read.front, &Acceptance { i, accepts }, buf, evidence);
@@ -234,49 +247,6 @@ fn weigh_row(
     let told = Acceptance { i, accepts };
     ask_front(shortest_front(&told, buf), &told, buf, evidence);
     accepts
-}
-
-/// Whether the first byte tells that the row does not accept the buffer, and asks for it if so. It does of most rows, and the
-/// evidence that there is no built-in answer asks for it already.
-#[tactic(auto, using(crate::proofs::NamedLemmas::row_passes, crate::proofs::TableLemmas::all_sound))]
-#[inline(always)]
-fn refuse_by_first(row: &FurtherRow, i: usize, buf: &[u8], evidence: &mut Evidence) -> bool
-    requires { slice_get further i ≡ Some (row_listed row.now) }
-    ensures answer { IsTrue result → ¬ Accepted (row_listed row.now).signature buf.now }
-    ensures tells { Tells evidence.old evidence.new buf.now
-        (λ c. IsTrue result → ¬ Accepted (row_listed row.now).signature c) }
-    ensures inside { IsOf evidence.old buf.now → IsOf evidence.new buf.now }
-{
-    if buf.is_empty() || may_become_accepted(alternatives_of(row), &buf[..1]) {
-        return false;
-    }
-    evidence.ask(Range::new(0, 1, number(i)));
-    true
-}
-
-/// The same as [`weigh_row`]. Most rows without a parent cost no more than a look at the first byte.
-#[inline(always)]
-fn weigh_led(
-    row: &FurtherRow,
-    i: usize,
-    buf: &[u8],
-    read: &RootRead<'_>,
-    evidence: &mut Evidence,
-) -> bool
-    requires rooted { IsRootRead read.now buf.now }
-    requires closed { IsTrue (is_row_closed (row_listed row.now)) }
-    requires listed { slice_get further i ≡ Some (row_listed row.now) }
-    ensures answer { IsTrue result ↔ Accepted (row_listed row.now).signature buf.now }
-    ensures tells { Tells evidence.old evidence.new buf.now (IsAlikeAt i buf.now) }
-    ensures inside { IsOf evidence.old buf.now → IsOf evidence.new buf.now }
-{
-    if row.parent.is_some() {
-        return weigh_row(row, i, buf, read, evidence);
-    }
-    if refuse_by_first(row, i, buf, evidence) {
-        return false;
-    }
-    weigh_row(row, i, buf, read, evidence)
 }
 
 /// Whether the row has this parent.
@@ -303,96 +273,218 @@ fn weigh_at(
     ensures inside { IsOf evidence.old buf.now → IsOf evidence.new buf.now }
 {
     match row_at(i) {
-        Some(row) => has_parent(row, parent) && weigh_led(row, i, buf, read, evidence),
+        Some(row) => has_parent(row, parent) && weigh_row(row, i, buf, read, evidence),
         None => false,
     }
 }
 
+/// Asks for the byte at the place, which tells of this row, and for the length if there is none.
+fn ask_byte(place: usize, row: Option<usize>, buf: &[u8], evidence: &mut Evidence)
+    ensures tells { Tells evidence.old evidence.new buf.now (IsSameAt place buf.now) }
+    ensures inside { IsOf evidence.old buf.now → IsOf evidence.new buf.now }
+{
+    if place >= buf.len() {
+        evidence.ask_exact();
+        return;
+    }
+    if evidence.is_asked(place) {
+        return;
+    }
+    evidence.ask(Range::new(place, 1, row));
+}
+
+/// Which rows are ruled out: those that could widen this answer of a buffer, and stand before the one that does.
+#[derive(Drop)]
+struct Question<'a> {
+    parent: Option<usize>,
+    /// The least row that widens it, or their count.
+    least: usize,
+    buf: &'a [u8],
+    read: RootRead<'a>,
+}
+
+/// Asks for what tells that further row `i` does not widen the answer, if it stands before the one that does.
+fn rule_out(i: usize, asked: &Question<'_>, evidence: &mut Evidence)
+    requires { IsQuestion asked.now }
+    ensures tells { Tells evidence.old evidence.new asked.now.buf.now
+        (IsRuledOut asked.now (i ∷ [])) }
+    ensures inside { IsOf evidence.old asked.now.buf.now → IsOf evidence.new asked.now.buf.now }
+{
+    if i < asked.least {
+        weigh_at(i, asked.parent, asked.buf, &asked.read, evidence);
+    }
+}
+
+/// What names a row that is ruled out.
+trait Ruled {
+    // The row, if the buffer may have it.
+    ghost rows: { Self → List ℕ → List ℕ };
+
+    /// Asks for what tells that the row does not widen the answer, if it stands before the one that does.
+    fn rule_out(&self, asked: &Question<'_>, evidence: &mut Evidence)
+        requires { IsQuestion asked.now }
+        ensures tells { Tells evidence.old evidence.new asked.now.buf.now
+            (λ c. IsRuledOut asked.now (rows self.now c) c) }
+        ensures inside { IsOf evidence.old asked.now.buf.now
+            → IsOf evidence.new asked.now.buf.now };
+}
+
+impl Ruled for Entry {
+    ghost rows = { λ e c. candidate c e };
+
+    fn rule_out(&self, asked: &Question<'_>, evidence: &mut Evidence) {
+        let i = usize::from(self.row);
+        if i >= asked.least {
+            return;
+        }
+        // Below an answer few rows stand, and each is told by what it asks first.
+        if asked.parent.is_some() || has_byte(asked.buf, self.place, self.byte) {
+            rule_out(i, asked, evidence);
+            return;
+        }
+        ask_byte(self.place as usize, number(i), asked.buf, evidence);
+    }
+}
+
+impl Ruled for Named {
+    ghost rows = { λ e c. e.row ∷ [] };
+
+    fn rule_out(&self, asked: &Question<'_>, evidence: &mut Evidence) {
+        rule_out(usize::from(self.row), asked, evidence);
+    }
+}
+
+impl Ruled for Rooted {
+    ghost rows = { λ e c. e.row ∷ [] };
+
+    fn rule_out(&self, asked: &Question<'_>, evidence: &mut Evidence) {
+        rule_out(usize::from(self.row), asked, evidence);
+    }
+}
+
+/// Asks for what tells that none of these rows widens the answer, of those that stand before the one that does.
+fn rule_out_each<R: Ruled>(list: &[R], asked: &Question<'_>, evidence: &mut Evidence)
+    requires { IsQuestion asked.now }
+    ensures tells { Tells evidence.old evidence.new asked.now.buf.now
+        (λ c. IsRuledOut asked.now (all_of (λ e. R.rows e c) list.now) c) }
+    ensures inside { IsOf evidence.old asked.now.buf.now → IsOf evidence.new asked.now.buf.now }
+{
+    for named in list {
+        named.rule_out(asked, evidence);
+    }
+}
+
+/// The same of each list.
+fn rule_out_lists<R: Ruled>(lists: &[&[R]], asked: &Question<'_>, evidence: &mut Evidence)
+    requires { IsQuestion asked.now }
+    ensures tells { Tells evidence.old evidence.new asked.now.buf.now
+        (λ c. IsRuledOut asked.now (all_of (λ list. all_of (λ e. R.rows e c) list.now) lists.now)
+        c) }
+    ensures inside { IsOf evidence.old asked.now.buf.now → IsOf evidence.new asked.now.buf.now }
+{
+    for list in lists {
+        rule_out_each(list, asked, evidence);
+    }
+}
+
+/// The same of the rows of this way.
+fn rule_out_way(way: &Below, asked: &Question<'_>, evidence: &mut Evidence)
+    requires { IsQuestion asked.now }
+    ensures tells { Tells evidence.old evidence.new asked.now.buf.now
+        (λ c. IsRuledOut asked.now (rows_of way.now c) c) }
+    ensures inside { IsOf evidence.old asked.now.buf.now → IsOf evidence.new asked.now.buf.now }
+{
+    match way {
+        Below::Nothing => {}
+        Below::Entries(entries) => rule_out_each(entries, asked, evidence),
+        Below::ClassIds(entries, names) | Below::Packages(entries, names) => {
+            rule_out_each(entries, asked, evidence);
+            rule_out_each(names, asked, evidence);
+        }
+        Below::Programs(entries, names) => {
+            rule_out_each(entries, asked, evidence);
+            rule_out_lists(names, asked, evidence);
+        }
+        Below::Roots(roots) => rule_out_lists(roots, asked, evidence),
+        Below::Tagged(entries, _, _, tagged) => {
+            rule_out_each(entries, asked, evidence);
+            rule_out_each(tagged, asked, evidence);
+        }
+    }
+}
+
+/// The same of the rows that the buffer's own byte picks at the spot, for which it asks.
+fn rule_out_picked(index: &Parentless, spot: &Spot, asked: &Question<'_>, evidence: &mut Evidence)
+    requires { IsQuestion asked.now }
+    ensures tells { Tells evidence.old evidence.new asked.now.buf.now
+        (λ c. IsRuledOut asked.now (tried_at index.now c spot.now) c) }
+    ensures inside { IsOf evidence.old asked.now.buf.now → IsOf evidence.new asked.now.buf.now }
+{
+    ask_byte(spot.place as usize, None, asked.buf, evidence);
+    if let Some(span) = span_picked(index, spot, asked.buf) {
+        rule_out_each(stretch(index.entries, span), asked, evidence);
+    }
+}
+
+/// The same of those that are picked at each spot.
+fn rule_out_spotted(index: &Parentless, asked: &Question<'_>, evidence: &mut Evidence)
+    requires { IsQuestion asked.now }
+    ensures tells { Tells evidence.old evidence.new asked.now.buf.now
+        (λ c. IsRuledOut asked.now (tried_parentless index.now c) c) }
+    ensures inside { IsOf evidence.old asked.now.buf.now → IsOf evidence.new asked.now.buf.now }
+{
+    for spot in index.spots {
+        rule_out_picked(index, spot, asked, evidence);
+    }
+}
+
+/// The same of the rows without a parent.
+fn rule_out_led(led: &Led, asked: &Question<'_>, evidence: &mut Evidence)
+    requires { IsQuestion asked.now }
+    ensures tells { Tells evidence.old evidence.new asked.now.buf.now
+        (λ c. IsRuledOut asked.now (led_rows led.now c) c) }
+    ensures inside { IsOf evidence.old asked.now.buf.now → IsOf evidence.new asked.now.buf.now }
+{
+    rule_out_spotted(&led.index, asked, evidence);
+    rule_out_each(led.beside, asked, evidence);
+    let texts = led.index.texts;
+    rule_out(usize::from(texts.lines), asked, evidence);
+    rule_out(usize::from(texts.json), asked, evidence);
+    rule_out(usize::from(texts.plain), asked, evidence);
+}
+
+/// The same of all rows.
+fn rule_out_all(asked: &Question<'_>, evidence: &mut Evidence)
+    requires { IsQuestion asked.now }
+    ensures tells { Tells evidence.old evidence.new asked.now.buf.now
+        (λ c. IsLeast (WidensAt asked.now.parent c) asked.now.least asked.now.least) }
+    ensures inside { IsOf evidence.old asked.now.buf.now → IsOf evidence.new asked.now.buf.now }
+{
+    match asked.parent {
+        Some(row) => rule_out_way(way_below(row), asked, evidence),
+        None => rule_out_led(&all_led(), asked, evidence),
+    }
+}
+
 /// The first further row that widens this answer, and asks for what tells that it is.
-fn widen(
-    parent: Option<usize>,
-    buf: &[u8],
-    read: &RootRead<'_>,
-    evidence: &mut Evidence,
-) -> Option<usize>
-    requires { IsRootRead read.now buf.now }
+fn widen(parent: Option<usize>, buf: &[u8], evidence: &mut Evidence) -> Option<usize>
     ensures first { IsFirstOf (Widens parent buf.now) further result }
     ensures bound { IfSome result (λ i. i < FURTHER_COUNT) }
     ensures tells { Tells evidence.old evidence.new buf.now
         (λ c. IsFirstOf (Widens parent c) further result) }
     ensures inside { IsOf evidence.old buf.now → IsOf evidence.new buf.now }
 {
-    for i in 0..FURTHER_COUNT {
-        if weigh_at(i, parent, buf, read, evidence) {
-            return Some(i);
-        }
-    }
-    None
-}
-
-/// The same of an answer below which just the rows of these entries stand: no other is looked at.
-fn widen_tried(
-    parent: usize,
-    entries: &[Entry],
-    buf: &[u8],
-    read: &RootRead<'_>,
-    evidence: &mut Evidence,
-) -> Option<usize>
-    requires rooted { IsRootRead read.now buf.now }
-    requires ascend { IsTrue (ascends entry_row entries.now) }
-    requires finds { FindsBelow parent (ways.Entries entries) }
-    ensures first { IsFirstOf (Widens (Some parent) buf.now) further result }
-    ensures bound { IfSome result (λ i. i < FURTHER_COUNT) }
-    ensures tells { Tells evidence.old evidence.new buf.now
-        (λ c. IsFirstOf (Widens (Some parent) c) further result) }
-    ensures inside { IsOf evidence.old buf.now → IsOf evidence.new buf.now }
-{
-    for entry in entries {
-        let i = entry.row as usize;
-        if weigh_at(i, Some(parent), buf, read, evidence) {
-            return Some(i);
-        }
-    }
-    None
-}
-
-/// The same of this built-in answer.
-fn widen_below(
-    parent: usize,
-    buf: &[u8],
-    read: &RootRead<'_>,
-    evidence: &mut Evidence,
-) -> Option<usize>
-    requires { IsRootRead read.now buf.now }
-    ensures first { IsFirstOf (Widens (Some parent) buf.now) further result }
-    ensures bound { IfSome result (λ i. i < FURTHER_COUNT) }
-    ensures tells { Tells evidence.old evidence.new buf.now
-        (λ c. IsFirstOf (Widens (Some parent) c) further result) }
-    ensures inside { IsOf evidence.old buf.now → IsOf evidence.new buf.now }
-{
-    match way_below(parent) {
-        Below::Entries(entries) => widen_tried(parent, entries, buf, read, evidence),
-        _ => widen(Some(parent), buf, read, evidence),
-    }
-}
-
-/// The same of any answer.
-fn widen_any(
-    parent: Option<usize>,
-    buf: &[u8],
-    read: &RootRead<'_>,
-    evidence: &mut Evidence,
-) -> Option<usize>
-    requires { IsRootRead read.now buf.now }
-    ensures first { IsFirstOf (Widens parent buf.now) further result }
-    ensures bound { IfSome result (λ i. i < FURTHER_COUNT) }
-    ensures tells { Tells evidence.old evidence.new buf.now
-        (λ c. IsFirstOf (Widens parent c) further result) }
-    ensures inside { IsOf evidence.old buf.now → IsOf evidence.new buf.now }
-{
-    match parent {
-        Some(row) => widen_below(row, buf, read, evidence),
-        None => widen(None, buf, read, evidence),
+    let asked = Question {
+        parent,
+        least: least_widening(parent, buf),
+        buf,
+        read: read_root(parent, buf),
+    };
+    rule_out_all(&asked, evidence);
+    if weigh_at(asked.least, parent, buf, &asked.read, evidence) {
+        Some(asked.least)
+    } else {
+        None
     }
 }
 
@@ -441,7 +533,7 @@ pub fn evidence(buf: &[u8], evidence: &mut Evidence) -> Option<usize>
     if !may_widen(parent) {
         return parent;
     }
-    let found = widen_any(parent, buf, &read_root(buf), evidence);
+    let found = widen(parent, buf, evidence);
     if evidence.wanted() > MOST_RANGES {
         ask_whole(buf, evidence);
     }

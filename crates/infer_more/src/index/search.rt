@@ -39,7 +39,7 @@ static NOTHING: Below = Below::Nothing;
 
 /// Whether the buffer has the byte at the place.
 #[inline(always)]
-fn has_byte(buf: &[u8], place: u32, byte: u8) -> bool
+pub(crate) fn has_byte(buf: &[u8], place: u32, byte: u8) -> bool
     ensures { result ≡ has_byte buf.now place byte }
 {
     match buf.get(place as usize) {
@@ -80,7 +80,7 @@ fn least_each(entries: &[Entry], parent: Option<usize>, buf: &[u8], before: usiz
 
 /// Where the entries stand that the buffer's own byte picks at the spot, if it picks some.
 #[inline(always)]
-fn span_picked(index: &Parentless, spot: &Spot, buf: &[u8]) -> Option<listed::Span>
+pub(crate) fn span_picked(index: &Parentless, spot: &Spot, buf: &[u8]) -> Option<listed::Span>
     ensures { option_map_or (λ s. stretch index.now.entries.now s.start s.count) result []
         ≡ picked index.now buf.now spot.now }
 {
@@ -207,7 +207,7 @@ fn least_plain(texts: &Texts, buf: &[u8], before: usize) -> usize
 
 /// Whether the first byte is one with which markup or an object may begin: a no is certain.
 #[inline(always)]
-fn may_be_told(buf: &[u8]) -> bool
+pub(crate) fn may_be_told(buf: &[u8]) -> bool
     ensures { MayBeTold buf.now → IsTrue result }
 {
     match buf.first() {
@@ -568,14 +568,34 @@ pub(super) fn below_at(ways: &'static [Below], i: usize) -> &'static Below
     }
 }
 
-/// [`found`] of a row below which others are told in this way.
+/// The least row that widens this answer, below which others are told in this way, or their count.
 #[inline(never)]
+fn least_in(way: &Below, row: usize, buf: &[u8]) -> usize
+    requires each { IsWayBelow row way.now }
+    requires finds { FindsBelow row way.now }
+    ensures { IsLeast (WidensAt (Some row) buf.now) FURTHER_COUNT result }
+{
+    least_found(way, row, buf)
+}
+
+/// The least row that widens this answer, or their count.
+pub(crate) fn least_widening(parent: Option<usize>, buf: &[u8]) -> usize
+    ensures { IsLeast (WidensAt parent buf.now) FURTHER_COUNT result }
+{
+    match parent {
+        Some(row) => least_in(way_below(row), row, buf),
+        None => least_parentless(buf),
+    }
+}
+
+/// [`found`] of a row below which others are told in this way.
+#[inline(always)]
 fn found_in(way: &Below, row: usize, buf: &[u8]) -> usize
     requires each { IsWayBelow row way.now }
     requires finds { FindsBelow row way.now }
     ensures { IsWidened (Some row) buf.now (Some result) }
 {
-    let least = least_found(way, row, buf);
+    let least = least_in(way, row, buf);
     if least < FURTHER_COUNT {
         ROW_COUNT + least
     } else {

@@ -6,12 +6,12 @@ use Rattle.infer_more.proofs.why.weigh_at.Goals as goal
 pub returns-then-has_parent-clause-answer : goal.returns-then-has_parent-clause-answer
 returns-then-has_parent-clause-answer c =
     let wide = widens_accepted c.args.parent c.args.i _ (sym c.in-Some.ensures.listed) (c.has_parent.ensures.0 c.if-has_parent.true) c.args.buf.now in
-    let answer = c.weigh_led.ensures.answer in
+    let answer = c.weigh_row.ensures.answer in
     (λ yes. wide.0 (answer.0 yes), λ w. answer.1 (wide.1 w))
 
 pub returns-then-has_parent-clause-tells : goal.returns-then-has_parent-clause-tells
 returns-then-has_parent-clause-tells c = λ b bytes agrees.
-    let told = c.weigh_led.ensures.tells b bytes agrees in
+    let told = c.weigh_row.ensures.tells b bytes agrees in
     (told.0, widens_alike c.args.parent c.args.i c.args.buf.now b told.1)
 
 pub returns-else-has_parent-clause-answer : goal.returns-else-has_parent-clause-answer
