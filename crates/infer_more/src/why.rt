@@ -480,12 +480,10 @@ fn widen(parent: Option<usize>, buf: &[u8], evidence: &mut Evidence) -> Option<u
         buf,
         read: read_root(parent, buf),
     };
+    // Its own bytes come first, since they rule out most others, which then have no range.
+    let widens = weigh_at(asked.least, parent, buf, &asked.read, evidence);
     rule_out_all(&asked, evidence);
-    if weigh_at(asked.least, parent, buf, &asked.read, evidence) {
-        Some(asked.least)
-    } else {
-        None
-    }
+    if widens { Some(asked.least) } else { None }
 }
 
 /// Whether some further row may widen this answer: one that stands below it or, if there is no answer, below none.
