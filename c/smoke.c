@@ -413,7 +413,7 @@ static void evidences(void) {
     evidence("4@0 png, 1@60 mobi, 300@0 apng, 4", infer_more_evidence, png, sizeof png);
     evidence("2@0 exe, 2+", infer_evidence, "MZ", 2);
     /* S and d are no bytes of "%PDF", so it stands nowhere. */
-    evidence("2@0 ps, 1@8 webp, 5@0 heif, 2@3/4 pdf, 2", infer_evidence, "%!PS-Adobe", 10);
+    evidence("2@0 ps, 5@0 heif, 2@3/4 pdf, 2", infer_evidence, "%!PS-Adobe", 10);
     evidence("5@257 tar, 1@0 -, 1@60 mobi, 1@1 png, 1@8 webp, 5@0 heif, 1@12 mov, 262+", infer_evidence, ustar, sizeof ustar);
 }
 
