@@ -5,18 +5,17 @@ from texts import refuse, text_of
 
 NAMES = "bindings/libmagic/src/names.h"
 CALLERS = "bindings/libmagic/callers.tsv"
-LINE = re.compile(r'NAME\("([^"]*)", "([^"]*)", "([^"]*)", "([^"]*)", (\w+), "([^"\\]*)", "([^"\\]*)"\)')
+LINE = re.compile(r'NAME\("([^"]+)", "([^"]+)", "[^"]*", "[^"]*", OF_(?:DATA|TEXT|SCRIPT|PLAIN_TEXT|ELF), "[^"\\]+", "[^"\\]+"\)')
 
 
 def named():
-    """The extension and the MIME type of each line, with its number."""
+    """The MIME type and the extension of each line behind the comment, with its number."""
     found = []
-    for number, line in enumerate(text_of(NAMES).splitlines(), 1):
-        if line.startswith("NAME") and not LINE.fullmatch(line):
+    comment, _, lines = text_of(NAMES).partition("*/\n")
+    for number, line in enumerate(lines.splitlines(), comment.count("\n") + 2):
+        if not (name := LINE.fullmatch(line)):
             refuse(NAMES, number, "this is no NAME of an extension, a MIME type, libmagic's MIME type and extensions, OF_DATA or its like, a description and a source")
-        if line.startswith("NAME"):
-            extension, mime_type, *_ = LINE.fullmatch(line).groups()
-            found.append((number, (mime_type, extension)))
+        found.append((number, (name[2], name[1])))
     return found
 
 
