@@ -21,16 +21,6 @@ def arms(allowed):
     return [names[tuple(rows)] for rows in allowed], dict(of_arm)
 
 
-def of_class(allowed, group, group_of):
-    """Lines of the arms with the same candidates of a class, each with these, as the dispatch has them."""
-    together = {}
-    for arm, rows in arms(allowed)[1].items():
-        together.setdefault(shared(it for it in rows if group_of[it] == group), []).append(arm)
-    for rows, names in together.items():
-        yield from (f"            {' '.join(names[at : at + 24])}" for at in range(0, len(names), 24))
-        yield f"                ({rows})"
-
-
 def shared(rows):
     text = " ".join(rows)
     for some in SHARED:

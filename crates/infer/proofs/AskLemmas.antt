@@ -1,11 +1,8 @@
 -- A walk over the candidates of a buffer: which numbers they are, where it ends, and which it asks.
-use Rattle.infer.proofs.Common.{MatchOption, HoldsAt, Bor, subst, ◌≡◌, ◌<◌, ◌≤◌, ◌+◌, cases_lt, filter_more, slice_get_past, list_any, ℕ, zero, suc, Bool, true, false, ◌&&◌, List, [], ◌∷◌, ◌++◌, length, get_or, take, sym, ◌∙◌, ap, arith, refl, leb, Option, Some, None, inl, inr, IsTrue, ◌↔◌, ◌==◌, eq-eqb, eqb-true, All, AllPairs, AllWithin, filter, slice_get, option_map_or, nat_tests, length-take-le, count_by-le-length, length-filter, get_or-range_with_len, length-range_with_len, range_with_len, BuiltIn, allows_first, candidates, candidates_of, numbers_from, Row, table, MOST_CANDIDATES, ROW_COUNT, IsFirstAmong, asked_rows, count_asked, is_listed, is_asked, is_not_above, Bor}
-use Rattle.std.proofs.Math.Bool.{and-true}
+use Rattle.infer.proofs.Common.{MatchOption, HoldsAt, Bor, subst, ◌≡◌, ◌<◌, ◌≤◌, ◌+◌, filter_more, ℕ, zero, suc, Bool, true, false, ◌&&◌, List, [], ◌∷◌, ◌++◌, length, get_or, take, sym, ◌∙◌, ap, arith, refl, leb, Option, Some, None, inl, inr, IsTrue, ◌↔◌, All, AllPairs, AllWithin, filter, slice_get, option_map_or, nat_tests, length-take-le, count_by-le-length, length-filter, get_or-range_with_len, length-range_with_len, range_with_len, BuiltIn, allows_first, candidates, candidates_of, numbers_from, Row, table, MOST_CANDIDATES, ROW_COUNT, IsFirstAmong, asked_rows, count_asked, is_asked, is_not_above, RowHas, IsAsked, HasGiven, bytes_eq, bytes_eq-Decides, Takes, Accepts, Triple, append-nil, cond}
 use Rattle.std.proofs.lemmas.Grind.{get_or_default_zero}
 use Rattle.std.proofs.lemmas.List.Elements.{All-filter, filter_agree}
-use Rattle.std.proofs.lemmas.List.Folds.{list_any_at}
 use Rattle.std.proofs.lemmas.List.Kept.{AllPairs-filter}
-use Rattle.std.proofs.lemmas.Map.Views.{any-filter_same}
 use Rattle.std.proofs.lemmas.Option.{slice_get_cases}
 use Rattle.std.specs.Option.{option_copied}
 use Rattle.infer.proofs.TableLemmas.{length-table}
@@ -41,24 +38,6 @@ numbered test = numbered_from test (row_passes test) table 0 (λ k. ap (row_pass
 filter_twice : (p q : ℕ → Bool) (ns : List ℕ) → filter p (filter q ns) ≡ filter (λ i. q i && p i) ns
 filter_twice p q [] = refl
 filter_twice p q (n ∷ ns) = let rest = filter_twice p q ns in grind (arith)
-
--- numbers that pass p, of rows that pass t, are those that pass q, of rows that pass u
-pub filtered_alike : (t u : Row BuiltIn → Bool) (p q : ℕ → Bool) → ((i : ℕ) → (row_passes t i && p i) ≡ (row_passes u i && q i))
-    → filter p (numbers_from t 0 table) ≡ filter q (numbers_from u 0 table)
-filtered_alike t u p q same = grind (arith, numbered, filter_twice, filter_agree)
-
--- a row is listed exactly if it passes
-pub listed_row : (test : Row BuiltIn → Bool) (i : ℕ) → is_listed (numbers_from test 0 table) i ≡ row_passes test i
-listed_row test i =
-    ap (λ ns. is_listed ns i) (numbered test)
-    ∙ any-filter_same (λ k. k == i) (row_passes test) (row_passes test i) (λ k e. ap (row_passes test) (eqb-true k i e)) numbers
-    ∙ elim (cases_lt i (length table)) [
-      | inl lt ↦
-          let there : list_any (λ k. k == i) numbers ≡ true
-          = list_any_at (λ k. k == i) numbers i 0 (omega (arith, count_numbers)) (eq-eqb (get_or numbers i 0) i (read_number i 0 lt)) in
-          rw (there, and-true (row_passes test i)) refl
-      | inr past ↦ rw (slice_get_past table i past) refl
-    ]
 
 -- ---- where it ends
 
@@ -140,22 +119,57 @@ module _ (test : Row BuiltIn → Bool) (rs : List ℕ) (same : rs ≡ numbers_fr
       (λ j m a. grind (arith, nat_tests, rise.1 j k d)) (λ j m a. grind (arith, nat_tests, rise.1 k j d)) in
       ap (filter p) (sym front) ∙ filter_twice p (λ j. leb j (get_or rs k d)) rs
 
--- ---- a walk that asks every candidate
+-- ---- a walk that asks the candidates with an extension, or all of them
 
-module _ (b rs : List ℕ) (same : rs ≡ candidates_of b) where
+-- whether the row is one that the walk asks for
+pub asked_row : (w : Option (Bor (List ℕ))) (i : ℕ) → RowHas (IsAsked (HasGiven w)) i ↔ IsTrue (is_asked w i)
+asked_row None i = asked_any (slice_get table i)
+  where
+    asked_any : (o : Option (Row BuiltIn)) → MatchOption o ⊥ (λ r. Unit {0}) ↔ IsTrue (option_map_or (λ r. true) o false)
+    asked_any None = (λ h. absurd h, λ h. absurd (cc))
+    asked_any (Some r) = (λ h. refl, λ h. tt)
+asked_row (Some extension) i = asked_text (slice_get table i)
+  where
+    asked_text : (o : Option (Row BuiltIn)) → MatchOption o ⊥ (λ r. r.shows.extension ≡ extension.now)
+        ↔ IsTrue (option_map_or (λ r. bytes_eq r.shows.extension extension.now) o false)
+    asked_text None = (λ h. absurd h, λ h. absurd (cc))
+    asked_text (Some r) = let (from, to) = bytes_eq-Decides r.shows.extension extension.now in (to, from)
+
+pub takes_both : (asked : Triple → Type 0) (b : List ℕ) (i : ℕ) → RowHas (Takes asked b) i ↔ (RowHas (IsAsked asked) i × RowHas (Accepts b) i)
+takes_both asked b i = both (slice_get table i)
+  where
+    both : (o : Option (Row BuiltIn)) → MatchOption o ⊥ (Takes asked b) ↔ (MatchOption o ⊥ (IsAsked asked) × MatchOption o ⊥ (Accepts b))
+    both None = (λ h. absurd h, λ h. absurd h.0)
+    both (Some r) = (λ h. h, λ h. h)
+
+not_true : (t : Bool) → ¬ IsTrue t → t ≡ false
+not_true true not = absurd (not refl)
+not_true false not = refl
+
+module _ (w : Option (Bor (List ℕ))) (b rs : List ℕ) (same : rs ≡ candidates_of b) where
   pub placed : rs ≡ numbers_from (may_take b) 0 table
   placed = same ∙ sym (candidates_numbered b)
 
   pub candidate_row : (k d : ℕ) → k < length rs → get_or rs k d < ROW_COUNT
   candidate_row = (rise (may_take b) rs placed).0
 
-  pub candidate_asked : (k d : ℕ) → k < length rs → filter (is_asked None) (take k rs) ++ get_or rs k d ∷ [] ≡ filter (is_asked None) (take (k + 1) rs)
-  candidate_asked k d l =
-      let row = candidate_row k d l in let more = filter_more (is_asked None) rs k d l in grind (arith, length-table, slice_get_cases)
+  one_more : (k d : ℕ) → k < length rs → (t : Bool) → is_asked w (get_or rs k d) ≡ t
+      → filter (is_asked w) (take (k + 1) rs) ≡ filter (is_asked w) (take k rs) ++ cond t (get_or rs k d ∷ []) []
+  one_more k d l t e =
+      filter_more (is_asked w) rs k d l ∙ ap (λ t. filter (is_asked w) (take k rs) ++ cond t (get_or rs k d ∷ []) []) e
 
-  pub candidates_asked : (k d : ℕ) → k < length rs → filter (is_asked None) (take (k + 1) rs) ≡ asked_rows None b (Some (get_or rs k d))
+  pub candidate_asked : (k d : ℕ) → k < length rs → RowHas (IsAsked (HasGiven w)) (get_or rs k d)
+      → filter (is_asked w) (take k rs) ++ get_or rs k d ∷ [] ≡ filter (is_asked w) (take (k + 1) rs)
+  candidate_asked k d l asked = sym (one_more k d l true ((asked_row w (get_or rs k d)).0 asked))
+
+  pub candidate_passed : (k d : ℕ) → k < length rs → ¬ RowHas (IsAsked (HasGiven w)) (get_or rs k d)
+      → filter (is_asked w) (take k rs) ≡ filter (is_asked w) (take (k + 1) rs)
+  candidate_passed k d l not =
+      sym (one_more k d l false (not_true (is_asked w (get_or rs k d)) (λ t. not ((asked_row w (get_or rs k d)).1 t))) ∙ append-nil _)
+
+  pub candidates_asked : (k d : ℕ) → k < length rs → filter (is_asked w) (take (k + 1) rs) ≡ asked_rows w b (Some (get_or rs k d))
   candidates_asked k d l =
-      asked_up_to (may_take b) rs placed (is_asked None) k d l ∙ ap (filter (λ j. leb j (get_or rs k d) && is_asked None j)) same
+      asked_up_to (may_take b) rs placed (is_asked w) k d l ∙ ap (filter (λ j. leb j (get_or rs k d) && is_asked w j)) same
 
--- what a walk that asks every candidate is proved by
-pub ruleset every_asked = (candidate_asked, candidate_row, candidates_asked, few_asked, found_among, get_or_default_zero, none_among)
+-- what such a walk is proved by
+pub ruleset walk_asked = (candidate_asked, candidate_passed, candidate_row, candidates_asked, few_asked, found_among, get_or_default_zero, none_among, takes_both)

@@ -1,5 +1,5 @@
 -- The first of the candidates that has a property is the first row of the table that has it.
-use Rattle.infer.proofs.Common.{◌≡◌, ◌<◌, ◌≤◌, ◌+◌, ◌++◌, ℕ, zero, suc, Bool, true, false, false≢true, List, [], ◌∷◌, length, subst, arith, IsTrue, refl, ◌∙◌, Option, Some, None, MatchOption, inl, inr, is_some, ◌↔◌, slice_get, AllWithin, HoldsAt, ne_eqb, AllWithin-more, AllWithin-none, AllWithin-upto, none_from_all_within, option_map_or, range_with_len, BuiltIn, IsFirstOf, NoneHas, SomeHas, Leads, candidates_of, numbers_from, Row, Accepts, table, IsFirstAmong, RowHas, Takes, TellsSome, WalksFindFirst, row_numbered, ROW_COUNT, HasGiven, Triple}
+use Rattle.infer.proofs.Common.{◌≡◌, ◌<◌, ◌≤◌, ◌+◌, ◌++◌, ℕ, zero, suc, Bool, true, false, false≢true, List, [], ◌∷◌, length, subst, arith, IsTrue, refl, ◌∙◌, Option, Some, None, MatchBool, MatchOption, inl, inr, is_some, ◌↔◌, slice_get, AllWithin, HoldsAt, ne_eqb, AllWithin-more, AllWithin-none, AllWithin-upto, none_from_all_within, option_map_or, range_with_len, BuiltIn, IsFirstOf, NoneHas, SomeHas, Leads, candidates_of, numbers_from, Row, Accepts, table, IsFirstAmong, RowHas, Takes, WalksFindFirst, row_numbered, ROW_COUNT, HasGiven, Triple}
 use Rattle.infer.proofs.AskLemmas.{candidates_numbered, count_numbers, first_kept, found_among, may_take, none_among, numbered, numbers, read_number, row_passes}
 use Rattle.infer.proofs.ListLemmas.{HoldsAt-read}
 use Rattle.infer.proofs.OrderLemmas.{some_row}
@@ -74,25 +74,6 @@ module _ (P : ℕ → Type 0) (ys : List ℕ) where
   found_past (x ∷ xs) o (inl h) rest = absurd (let no = h.1 in cc)
   found_past (x ∷ xs) o (inr h) rest = inr (h.0, found_past xs o h.1 rest)
 
-some_behind : (P : ℕ → Type 0) (n : ℕ) (ns : List ℕ) → ¬ P n → (i : ℕ) → i < length (n ∷ ns) → HoldsAt P (n ∷ ns) i → SomeHas P ns
-some_behind P n ns not zero lt at = absurd (not (at 0))
-some_behind P n ns not (suc i) lt at = (i, omega arith, at)
-
--- whether one of them has the property
-some_of_among : (P : ℕ → Type 0) (ns : List ℕ) (o : Option ℕ) (r : Bool) → r ≡ is_some o → IsFirstAmong P ns o → IsTrue r ↔ SomeHas P ns
-unfolding IsFirstAmong
-some_of_among P [] o r e none = (λ t. absurd (cc), λ some. absurd (omega (arith, some.1)))
-some_of_among P (n ∷ ns) o r e (inl (h, same)) = (λ t. (0, omega arith, λ d. h), λ some. e ∙ rw same refl)
-some_of_among P (n ∷ ns) o r e (inr (not, rest)) =
-    let behind = some_of_among P ns o r e rest in (
-      λ t. let (i, lt, at) = behind.0 t in (suc i, omega arith, at),
-      λ some. behind.1 (some_behind P n ns not some.0 some.1 some.2),
-    )
-
-pub some_among : (b ns : List ℕ) (o : Option ℕ) (r : Bool) → r ≡ is_some o → IsFirstAmong (RowHas (Accepts b)) ns o → TellsSome ns b r
-unfolding TellsSome
-some_among b ns o r e first = some_of_among (RowHas (Accepts b)) ns o r e first
-
 -- what is told of a buffer is so of another of which the row says the same
 pub alike : {P Q : Type 0} {r : Bool} → IsTrue r ↔ P → P ↔ Q → IsTrue r ↔ Q
 alike told same = ((λ h. same.0 (told.0 h)), (λ h. told.1 (same.1 h)))
@@ -146,3 +127,12 @@ module _ (leads : (s : BuiltIn) → Leads s) (blank : NoneHas (Accepts []) table
     λ h. first_of_every b table o (first_of_buffer (HasGiven None) b (candidates_of b) o refl h),
     λ first. (walk_first (HasGiven None) b o).1 (grind arith),
   )
+
+  -- some row takes the buffer exactly if one of its candidates does
+  pub some_of_candidates : (asked : Triple → Type 0) (b cs : List ℕ) (r : Bool) → cs ≡ candidates_of b
+      → MatchBool r (SomeHas (RowHas (Takes asked b)) cs) (NoneHas (RowHas (Takes asked b)) cs) → IsTrue r ↔ SomeHas (Takes asked b) table
+  some_of_candidates asked b cs true same (k, lt, at) =
+      let found = (read_has (Takes asked b) table _).0 (at 0) in (λ _. (_, found.0, found.1), λ _. refl)
+  some_of_candidates asked b cs false same none =
+      let nowhere = first_of_buffer asked b cs None same (none_among (RowHas (Takes asked b)) cs none) in
+      (λ no. absurd (cc), λ some. absurd (none_from_all_within (Takes asked b) table nowhere some))

@@ -23,14 +23,12 @@ pub use Rattle.infer.specs.Questions.{HasClass, HasExtension, HasMimeType, IsAsk
 pub use Rattle.infer.specs.Row.{Accepts, Row, shows}
 pub use Rattle.infer.specs.Rows.{custom_rows, AnyAccepts, kept_row, rows, custom_row, Signature}
 pub use Rattle.infer.specs.Samples.{sample_of, zeros, HoldsSample, put, padded}
-unfoldable pub use Rattle.infer.specs.Slots.{rows_in, HoldAsked, ListSlots}
-pub use Rattle.infer.specs.Slots.{slot_of, extension_of, mime_type_of}
 unfoldable pub use Rattle.infer.specs.Table.{table, signature_of}
 pub use Rattle.infer.specs.Table.{row}
 pub use Rattle.infer.specs.Triple.{Triple, triple_of}
-unfoldable pub use Rattle.infer.specs.Walks.{IsFirstAmong, TellsSome}
+unfoldable pub use Rattle.infer.specs.Walks.{IsFirstAmong}
 pub use Rattle.infer.specs.Walks.{HasGiven, RowHas, Takes, WalksFindFirst}
-pub use Rattle.infer.specs.Walks.{asked_rows, count_asked, is_asked, is_listed, is_not_above, row_numbered}
+pub use Rattle.infer.specs.Walks.{asked_rows, count_asked, is_asked, is_not_above, row_numbered}
 pub use Rattle.infer.specs.Watched.{IsDue, fault_of, inner}
 pub use Rattle.infer.specs.declared.beginnings.Beginning.{Beginning}
 pub use Rattle.infer.specs.declared.beginnings.Beginning.TheVariants.{OpenBox, Compound, Archive, Frame, White, Mark}

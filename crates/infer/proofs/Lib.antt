@@ -14,9 +14,7 @@ pub mod ArrivalLemmas
 pub mod SampleLemmas
 pub mod BreakLemmas
 pub mod CandidateLemmas
-pub mod ClassLemmas
 pub mod AskLemmas
-pub mod SlotLemmas
 pub mod DecidedLemmas
 pub mod FirstByteLemmas
 pub mod EvidenceLemmas

@@ -1,5 +1,6 @@
 -- The table's length, and what its rows have.
-use Rattle.infer.proofs.Common.{IsTrue, Bool, TellsAccepted, subst, sym, ◌≡◌, ◌↔◌, ℕ, [], length, refl, Option, None, Some, MatchOption, option_map_or, slice_get, table, ROW_COUNT, BuiltIn, fixed, Row, signature_of, RowHas, List, IsAccepted, Accepts}
+use Rattle.infer.proofs.Common.{ap, number_of, row_listed, IsTrue, Bool, TellsAccepted, subst, sym, ◌≡◌, ◌↔◌, ℕ, [], length, refl, Option, None, Some, MatchOption, option_map_or, slice_get, table, ROW_COUNT, BuiltIn, fixed, Row, signature_of, RowHas, List, IsAccepted, Accepts}
+use Rattle.infer.specs.declared.table.built_in.BuiltInRow.{BuiltInRow}
 
 pub length-table : length table ≡ ROW_COUNT
 unfolding table
@@ -19,6 +20,11 @@ module _ (Q : BuiltIn → Type 0) (never : ¬ Q (fixed [])) where
 
 pub row_accepts : (b : List ℕ) (i : ℕ) → IsAccepted (signature_of i) b ↔ RowHas (Accepts b) i
 row_accepts b i = signature_has (λ s. IsAccepted s b) (λ h. absurd (cc)) i
+
+-- a row has the signature that its name has
+pub named_signature : (i : ℕ) (r : BuiltInRow) → slice_get table i ≡ Some (row_listed r) → signature_of i ≡ signature_of (number_of r.row)
+unfolding signature_of
+named_signature i r e = ap (λ o. option_map_or (λ r. r.signature) o (fixed [])) e
 
 -- what tells whether a signature accepts is true exactly if it does
 pub accepted_as_told : (s : BuiltIn) (b : List ℕ) (r : Bool) → TellsAccepted s b r → IsTrue r ↔ IsAccepted s b

@@ -45,5 +45,4 @@ pub mod Evidence
 pub mod Laws
 pub mod Samples
 pub mod Listed
-pub mod Slots
 pub mod Arrivals

@@ -1,11 +1,11 @@
 -- The first of some rows, named by their numbers, and which were asked.
-use Rattle.std.specs.Prelude.{◌≡◌, ◌↔◌, ◌==◌, ◌⊎◌, ◌&&◌, ℕ, Bool, IsTrue, true, false, List, [], ◌∷◌, Option, None, Some, MatchOption, length, nat_le, if◌then◌else◌}
-use Rattle.std.specs.List.{filter, list_any, slice_get}
+use Rattle.std.specs.Prelude.{◌≡◌, ◌↔◌, ◌==◌, ◌⊎◌, ◌&&◌, ℕ, Bool, true, false, List, [], ◌∷◌, Option, None, Some, MatchOption, length, nat_le, if◌then◌else◌}
+use Rattle.std.specs.List.{filter, slice_get}
 use Rattle.std.specs.Option.{option_map_or}
 use Rattle.std.specs.Str.{bytes_eq}
 use denote.Ref.{Bor}
 use Rattle.infer.specs.BuiltIn.{BuiltIn}
-use Rattle.infer.specs.First.{IsFirstOf, SomeHas}
+use Rattle.infer.specs.First.{IsFirstOf}
 use Rattle.infer.specs.Leads.{candidates_of}
 use Rattle.infer.specs.Questions.{IsAsked}
 use Rattle.infer.specs.Row.{Row, Accepts}
@@ -34,17 +34,9 @@ unfoldable pub IsFirstAmong : (ℕ → Type 0) → List ℕ → Option ℕ → T
 IsFirstAmong P [] o = o ≡ None
 IsFirstAmong P (i ∷ is) o = (P i × (o ≡ Some i)) ⊎ ((¬ P i) × IsFirstAmong P is o)
 
--- it is told whether one of the rows with these numbers accepts the buffer
-unfoldable pub TellsSome : List ℕ → List ℕ → Bool → Type 0
-TellsSome rows b told = IsTrue told ↔ SomeHas (RowHas (Accepts b)) rows
-
 -- the row with that number of 32 bits, of which the greatest stands for no row
 abbrev pub row_numbered : ℕ → Option ℕ
 row_numbered n = if n == 4294967295 then None else Some n
-
--- the number is one of the list
-abbrev pub is_listed : List ℕ → ℕ → Bool
-is_listed rows i = list_any (λ row. row == i) rows
 
 -- row i is there and is one that a walk asks for
 abbrev pub is_asked : Option (Bor (List ℕ)) → ℕ → Bool

@@ -3,9 +3,9 @@ ghost use Rattle.std.specs.Prelude.{◌≡◌, ◌↔◌, ◌<◌, IfSome, IsFal
 ghost use Rattle.infer.specs.Decided.{CanBeDecided, IsAnswerForGood, IsChangeable, IsDecided, MayBecomeRow};
 ghost use Rattle.infer.specs.Walks.{IsFirstAmong, RowHas};
 
-use crate::ask::question::accepts_at;
+use crate::ask::question::accepts;
 use crate::candidates::dispatch::{arm_of, blank, candidates_at, leads};
-use crate::table::built_in::{may_become_deep, name_at};
+use crate::table::built_in::{may_become_deep, row_at};
 use crate::table::known::known_of;
 use crate::table::rows::ROW_COUNT;
 
@@ -31,7 +31,7 @@ pub fn is_decided(buf: &[u8]) -> bool
         return false;
     };
     match first_open(candidates_at(arm_of(*first)), buf) {
-        Some(row) => accepts_at(row, buf),
+        Some(row) => accepts(buf, row),
         None => true,
     }
 }
@@ -53,24 +53,14 @@ pub fn position_for_good(buf: &[u8]) -> Option<Option<usize>>
     infer_sig::laws::growth();
     infer_deep::laws::growth();
     let first = buf.first()?;
-    match first_awaited(candidates_at(arm_of(*first)), buf) {
-        Some(row) => accepts_at(row, buf).then_some(Some(row)),
+    match first_open(candidates_at(arm_of(*first)), buf) {
+        Some(row) => accepts(buf, row).then_some(Some(row)),
         None => Some(None),
     }
 }
 
 /// The first of the rows that may still accept `buf`.
 fn first_open(rows: &[usize], buf: &[u8]) -> Option<usize>
-    ensures { IsFirstAmong (RowHas (MayBecomeRow buf.now)) rows.now result }
-{
-    let may_become_row = |row: &&usize| -> bool
-        ensures { IsTrue result ↔ RowHas (MayBecomeRow buf.entry.now) row.now.now }
-    { may_become(buf, **row) };
-    rows.iter().find(may_become_row).copied()
-}
-
-/// The same, for the other question: a search that two callers share is compiled into neither, and takes a fourth more.
-fn first_awaited(rows: &[usize], buf: &[u8]) -> Option<usize>
     ensures { IsFirstAmong (RowHas (MayBecomeRow buf.now)) rows.now result }
 {
     let may_become_row = |row: &&usize| -> bool
@@ -99,6 +89,6 @@ fn may_become_at(row: usize, buf: &[u8]) -> bool
     infer_sig::laws::open();
     match known_of(row) {
         Some(own) => infer_evidence::may_become(own.alternatives, buf),
-        None => may_become_deep(name_at(row), buf),
+        None => may_become_deep(row_at(row).row, buf),
     }
 }

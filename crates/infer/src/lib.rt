@@ -11,8 +11,7 @@
 //! [`Fault`] says why they have no answer.
 //!
 //! Each module uses only those before it: `table`, the rows and their types; `ask`, a question and one row;
-//! `candidates`, the rows that a first byte allows, asked in order, and those that a text can name; `answers`, what the
-//! built-in rows answer; `texts`, questions with a text; `decided`, what more bytes can change; `beginnings`, after which
+//! `candidates`, the rows that a first byte allows, asked in order; `answers`, what the built-in rows answer; `texts`, questions with a text; `decided`, what more bytes can change; `beginnings`, after which
 //! they can change it from 1024 bytes on; `why`, which bytes decide it; `read`, the front of a reader; `caller`, an [`Infer`] and its rows; `laws`, facts
 //! about all of these; `samples`.
 #![tactic(auto)]
@@ -40,10 +39,10 @@ pub mod texts;
 mod why;
 
 pub use answers::{get, position, row};
+use ask::question::OfClass;
 pub use ask::question::accepts;
 pub use caller::infer::Infer;
 pub use candidates::asker::{Ask, Asker, is_counted, position_counted, walk};
-use candidates::classes::{App, Archive, Audio, Book, Doc, Font, Image, Video};
 pub use decided::{is_decided, may_become, position_for_good};
 pub use infer_sig::{
     app as app, archive as archive, audio as audio, book as book, doc as doc, font as font,
@@ -148,42 +147,42 @@ pub fn is_mime_supported(mime_type: &str) -> bool
 pub fn is_app(buf: &[u8]) -> bool
     ensures { IsTrue result ↔ SomeBoth (HasClass MatcherType.App) (Accepts buf.now) table }
 {
-    answers::some_of_class::<App>(buf)
+    answers::some(&OfClass(MatcherType::App), buf)
 }
 
 /// Whether some built-in row of the class `Archive` accepts `buf`, which need not be the answer: allow by [`get`].
 pub fn is_archive(buf: &[u8]) -> bool
     ensures { IsTrue result ↔ SomeBoth (HasClass MatcherType.Archive) (Accepts buf.now) table }
 {
-    answers::some_of_class::<Archive>(buf)
+    answers::some(&OfClass(MatcherType::Archive), buf)
 }
 
 /// Whether some built-in row of the class `Audio` accepts `buf`, which need not be the answer: allow by [`get`].
 pub fn is_audio(buf: &[u8]) -> bool
     ensures { IsTrue result ↔ SomeBoth (HasClass MatcherType.Audio) (Accepts buf.now) table }
 {
-    answers::some_of_class::<Audio>(buf)
+    answers::some(&OfClass(MatcherType::Audio), buf)
 }
 
 /// Whether some built-in row of the class `Book` accepts `buf`, which need not be the answer: allow by [`get`].
 pub fn is_book(buf: &[u8]) -> bool
     ensures { IsTrue result ↔ SomeBoth (HasClass MatcherType.Book) (Accepts buf.now) table }
 {
-    answers::some_of_class::<Book>(buf)
+    answers::some(&OfClass(MatcherType::Book), buf)
 }
 
 /// Whether some built-in row of the class `Doc` accepts `buf`, which need not be the answer: allow by [`get`].
 pub fn is_document(buf: &[u8]) -> bool
     ensures { IsTrue result ↔ SomeBoth (HasClass MatcherType.Doc) (Accepts buf.now) table }
 {
-    answers::some_of_class::<Doc>(buf)
+    answers::some(&OfClass(MatcherType::Doc), buf)
 }
 
 /// Whether some built-in row of the class `Font` accepts `buf`, which need not be the answer: allow by [`get`].
 pub fn is_font(buf: &[u8]) -> bool
     ensures { IsTrue result ↔ SomeBoth (HasClass MatcherType.Font) (Accepts buf.now) table }
 {
-    answers::some_of_class::<Font>(buf)
+    answers::some(&OfClass(MatcherType::Font), buf)
 }
 
 /// Whether some built-in row of the class `Image` accepts `buf`, which need not be the answer: allow by [`get`].
@@ -194,12 +193,12 @@ pub fn is_font(buf: &[u8]) -> bool
 pub fn is_image(buf: &[u8]) -> bool
     ensures { IsTrue result ↔ SomeBoth (HasClass MatcherType.Image) (Accepts buf.now) table }
 {
-    answers::some_of_class::<Image>(buf)
+    answers::some(&OfClass(MatcherType::Image), buf)
 }
 
 /// Whether some built-in row of the class `Video` accepts `buf`, which need not be the answer: allow by [`get`].
 pub fn is_video(buf: &[u8]) -> bool
     ensures { IsTrue result ↔ SomeBoth (HasClass MatcherType.Video) (Accepts buf.now) table }
 {
-    answers::some_of_class::<Video>(buf)
+    answers::some(&OfClass(MatcherType::Video), buf)
 }

@@ -3,4 +3,3 @@ pub mod built_in;
 pub mod file_type;
 pub mod known;
 pub mod rows;
-pub mod slots;

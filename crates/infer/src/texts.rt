@@ -7,32 +7,31 @@ ghost use Rattle.infer.specs.Table.{table};
 
 use crate::answers::{has, some};
 use crate::ask::question::{WithExtension, WithMimeType};
-use crate::candidates::slots::{rows_for_extension, rows_for_mime_type};
 
 /// Whether some built-in row with this extension accepts `buf`, as [`is`](crate::is) answers.
 pub fn is(buf: &[u8], extension: &[u8]) -> bool
     ensures { IsTrue result ↔ SomeBoth (HasExtension extension.now) (Accepts buf.now) table }
 {
-    some(rows_for_extension(extension), WithExtension(extension), buf)
+    some(&WithExtension(extension), buf)
 }
 
 /// Whether some built-in row with this MIME type accepts `buf`, as [`is_mime`](crate::is_mime) answers.
 pub fn is_mime(buf: &[u8], mime_type: &[u8]) -> bool
     ensures { IsTrue result ↔ SomeBoth (HasMimeType mime_type.now) (Accepts buf.now) table }
 {
-    some(rows_for_mime_type(mime_type), WithMimeType(mime_type), buf)
+    some(&WithMimeType(mime_type), buf)
 }
 
 /// Whether some built-in row has this extension.
 pub fn is_supported(extension: &[u8]) -> bool
     ensures { IsTrue result ↔ SomeHas (HasExtension extension.now) table }
 {
-    has(rows_for_extension(extension), WithExtension(extension))
+    has(&WithExtension(extension))
 }
 
 /// Whether some built-in row has this MIME type.
 pub fn is_mime_supported(mime_type: &[u8]) -> bool
     ensures { IsTrue result ↔ SomeHas (HasMimeType mime_type.now) table }
 {
-    has(rows_for_mime_type(mime_type), WithMimeType(mime_type))
+    has(&WithMimeType(mime_type))
 }

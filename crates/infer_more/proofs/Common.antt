@@ -38,7 +38,6 @@ pub use Rattle.infer.specs.Row.{Accepts}
 pub use Rattle.infer.specs.Samples.{put, with_parts, zeros}
 unfoldable pub use Rattle.infer.specs.Table.{table}
 pub use Rattle.infer.specs.Triple.{Triple}
-pub use Rattle.infer.specs.Walks.{is_listed}
 pub use Rattle.infer.specs.declared.table.file_type.MatcherType.{MatcherType}
 pub use Rattle.infer.specs.declared.table.rows.TheConstants.{ROW_COUNT}
 pub use Rattle.infer_deep.proofs.PlaceLemmas.{OccursAt-append}
@@ -79,7 +78,7 @@ pub use Rattle.infer_more.specs.Ended.{ended_shown}
 pub use Rattle.infer_more.specs.Entries.{left_lines, row_lines}
 pub use Rattle.infer_more.specs.Index.{HasTagText, IsFoundBelow, IsLeast, IsNamed, IsOfProgram, IsRooted, IsRootedBy}
 pub use Rattle.infer_more.specs.Index.{IsRowOf, IsTried, ascends, candidate, candidates, has_byte}
-pub use Rattle.infer_more.specs.Index.{is_covered, is_plain, is_settled, is_tried_parentless}
+pub use Rattle.infer_more.specs.Index.{is_covered, is_listed, is_plain, is_settled, is_tried_parentless}
 pub use Rattle.infer_more.specs.Index.{is_true_below, named_row, bucket_of, rooted_row, tried_parentless}
 pub use Rattle.infer_more.specs.Laws.{AllLast, IsLost, is_dark, is_filled, is_lasting}
 unfoldable pub use Rattle.infer_more.specs.Line.{class_of, is_built_in, is_mime_type, row_of}

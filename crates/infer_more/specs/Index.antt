@@ -14,7 +14,6 @@ use Rattle.infer_formats.specs.Zip.{IsPackageWith, applications, IsOneOf}
 use Rattle.infer_sig.specs.Signature as fixed
 use Rattle.infer_sig.specs.Signature.{at_least, any_of, between, all_but, Part, text, any_text, byte, allows}
 use Rattle.infer.specs.Buffer.{IsBuffer}
-use Rattle.infer.specs.Walks.{is_listed}
 use Rattle.infer_more.specs.Outline.{lines}
 use Rattle.infer_more.specs.Listed.{stretch}
 use Rattle.infer_more.specs.Row.{Further}
@@ -34,6 +33,10 @@ use Rattle.infer_more.specs.declared.index.Rooted.{Rooted}
 use Rattle.infer_more.specs.declared.index.Spot.{Spot}
 use Rattle.infer_more.specs.declared.index.Texts.{Texts}
 use Rattle.infer_more.specs.declared.index.Told.{Told}
+
+-- the number is one of the list
+abbrev pub is_listed : List ℕ → ℕ → Bool
+is_listed rows i = list_any (λ row. row == i) rows
 
 -- the buffer has the byte at the place
 abbrev pub has_byte : List ℕ → ℕ → ℕ → Bool

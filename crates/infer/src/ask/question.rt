@@ -1,14 +1,12 @@
-//! What is asked for, and of one row: the rows with one extension or MIME type.
-ghost use Rattle.std.specs.Prelude.{◌≡◌, ◌↔◌, ◌<◌, IsTrue};
-ghost use Rattle.infer.specs.Listed.{number_of};
+//! What is asked for, and of one row: the rows with one extension, MIME type or class.
+ghost use Rattle.std.specs.Prelude.{◌≡◌, ◌↔◌, IsTrue};
 ghost use Rattle.infer.specs.Questions.{IsAsked};
 ghost use Rattle.infer.specs.Row.{Accepts};
 ghost use Rattle.infer.specs.Triple.{Triple, triple_of};
-ghost use Rattle.infer.specs.Walks.{RowHas, Takes};
+ghost use Rattle.infer.specs.Walks.{HasGiven, RowHas, Takes};
 
-use crate::table::built_in::{accepts_row, name_at, row_of, rows};
-use crate::table::file_type::FileType;
-use crate::table::rows::{ROW_COUNT, RowName};
+use crate::table::built_in::rows;
+use crate::table::file_type::{FileType, MatcherType};
 
 /// A question, which is known by its type, so that code is made for each.
 pub trait Question {
@@ -21,12 +19,20 @@ pub trait Question {
 }
 
 /// Asks for the rows with this extension. A text that is not UTF-8 is no row's.
-#[derive(Clone, Copy)]
+#[derive(Drop)]
 pub struct WithExtension<'a>(pub &'a [u8]);
 
 /// Asks for the rows with this MIME type. A text that is not UTF-8 is no row's.
-#[derive(Clone, Copy)]
+#[derive(Drop)]
 pub struct WithMimeType<'a>(pub &'a [u8]);
+
+/// Asks for the rows of this class.
+#[derive(Drop)]
+pub struct OfClass(pub MatcherType);
+
+/// Asks for the rows with this extension, and for every row if none is given.
+#[derive(Drop)]
+pub struct IfGiven<'a>(pub Option<&'a str>);
 
 impl Question for WithExtension<'_> {
     ghost asked = { λ q t. t.extension ≡ q.0.now };
@@ -46,6 +52,27 @@ impl Question for WithMimeType<'_> {
     }
 }
 
+impl Question for OfClass {
+    ghost asked = { λ q t. t.class ≡ q.0 };
+
+    #[inline(always)]
+    fn asks_for(&self, file_type: &FileType) -> bool {
+        file_type.matcher_type == self.0
+    }
+}
+
+impl Question for IfGiven<'_> {
+    ghost asked = { λ q t. HasGiven q.0 t };
+
+    #[inline(always)]
+    fn asks_for(&self, file_type: &FileType) -> bool {
+        match self.0 {
+            Some(extension) => file_type.extension == extension,
+            None => true,
+        }
+    }
+}
+
 /// Whether row `row` accepts `buf`. From `ROW_COUNT` on there is no row, and none accepts.
 #[inline(always)]
 pub fn accepts(buf: &[u8], row: usize) -> bool
@@ -55,15 +82,6 @@ pub fn accepts(buf: &[u8], row: usize) -> bool
         Some(row) => row.accepts(buf),
         None => false,
     }
-}
-
-/// Whether row `i` accepts `buf`.
-#[inline(always)]
-pub fn accepts_at(i: usize, buf: &[u8]) -> bool
-    requires { i < ROW_COUNT }
-    ensures { IsTrue result ↔ RowHas (Accepts buf.now) i }
-{
-    accepts_row(name_at(i), buf)
 }
 
 /// Whether row `i` is one that the question asks for.
@@ -77,11 +95,13 @@ pub fn is_asked<Q: Question>(i: usize, question: &Q) -> bool
     }
 }
 
-/// Whether the row is one that the question asks for, and accepts `buf`.
-#[tactic(auto, unfolding(crate::specs::Table::signature_of))]
+/// Whether row `i` is one that the question asks for, and accepts `buf`.
 #[inline(always)]
-pub fn takes_row<Q: Question>(row: RowName, question: &Q, buf: &[u8]) -> bool
-    ensures { IsTrue result ↔ RowHas (Takes (Q.asked question.now) buf.now) (number_of row) }
+pub fn takes_row<Q: Question>(i: usize, question: &Q, buf: &[u8]) -> bool
+    ensures { IsTrue result ↔ RowHas (Takes (Q.asked question.now) buf.now) i }
 {
-    question.asks_for(&row_of(row).file_type) && accepts_row(row, buf)
+    match rows().get(i) {
+        Some(row) => question.asks_for(&row.file_type) && row.accepts(buf),
+        None => false,
+    }
 }

@@ -9,23 +9,19 @@ ghost use Rattle.infer.specs.Triple.{triple, triple_of};
 ghost use Rattle.infer.specs.Watched.{fault_of};
 ghost use Rattle.infer.specs.declared.table.file_type.MatcherType.{MatcherType};
 
-use crate::ask::question::{Question, WithExtension, WithMimeType};
+use crate::ask::question::{OfClass, Question, WithExtension, WithMimeType};
 use crate::caller::custom::CustomRow;
-use crate::candidates::classes::{
-    App, Archive, Audio, Book, Class, Custom, Doc, Font, Image, OfClass, Video,
-};
 use crate::read::fault::Fault;
 use crate::read::head::FRONT;
 use crate::read::identify::{
     Identify, identify_opened, identify_path, identify_reader, identify_reader_in,
 };
 use crate::read::watched::Watched;
-use crate::table::file_type::{FileType, Matcher};
+use crate::table::file_type::{FileType, Matcher, MatcherType};
 use crate::{answers, texts};
 use std::alloc::{AllocError, Allocator, Global};
 use std::io;
 use std::io::Read;
-use std::marker::PhantomData;
 use std::rt::Files;
 
 /// Rows to ask: those that were added, in that order, and then the built-in ones.
@@ -282,7 +278,7 @@ impl<A: Allocator> Infer<A> {
         ensures { IsTrue result
             ↔ SomeBoth (HasClass MatcherType.App) (AnyAccepts buf.now) (rows self.now) }
     {
-        self.is_of::<App>(buf)
+        self.is_of(MatcherType::App, buf)
     }
 
     /// Whether some row of the class `Archive` accepts `buf`, which need not be the answer: allow by [`Infer::get`].
@@ -290,7 +286,7 @@ impl<A: Allocator> Infer<A> {
         ensures { IsTrue result
             ↔ SomeBoth (HasClass MatcherType.Archive) (AnyAccepts buf.now) (rows self.now) }
     {
-        self.is_of::<Archive>(buf)
+        self.is_of(MatcherType::Archive, buf)
     }
 
     /// Whether some row of the class `Audio` accepts `buf`, which need not be the answer: allow by [`Infer::get`].
@@ -298,7 +294,7 @@ impl<A: Allocator> Infer<A> {
         ensures { IsTrue result
             ↔ SomeBoth (HasClass MatcherType.Audio) (AnyAccepts buf.now) (rows self.now) }
     {
-        self.is_of::<Audio>(buf)
+        self.is_of(MatcherType::Audio, buf)
     }
 
     /// Whether some row of the class `Book` accepts `buf`, which need not be the answer: allow by [`Infer::get`].
@@ -306,7 +302,7 @@ impl<A: Allocator> Infer<A> {
         ensures { IsTrue result
             ↔ SomeBoth (HasClass MatcherType.Book) (AnyAccepts buf.now) (rows self.now) }
     {
-        self.is_of::<Book>(buf)
+        self.is_of(MatcherType::Book, buf)
     }
 
     /// Whether some row of the class `Doc` accepts `buf`, which need not be the answer: allow by [`Infer::get`].
@@ -314,7 +310,7 @@ impl<A: Allocator> Infer<A> {
         ensures { IsTrue result
             ↔ SomeBoth (HasClass MatcherType.Doc) (AnyAccepts buf.now) (rows self.now) }
     {
-        self.is_of::<Doc>(buf)
+        self.is_of(MatcherType::Doc, buf)
     }
 
     /// Whether some row of the class `Font` accepts `buf`, which need not be the answer: allow by [`Infer::get`].
@@ -322,7 +318,7 @@ impl<A: Allocator> Infer<A> {
         ensures { IsTrue result
             ↔ SomeBoth (HasClass MatcherType.Font) (AnyAccepts buf.now) (rows self.now) }
     {
-        self.is_of::<Font>(buf)
+        self.is_of(MatcherType::Font, buf)
     }
 
     /// Whether some row of the class `Image` accepts `buf`, which need not be the answer: allow by [`Infer::get`].
@@ -330,7 +326,7 @@ impl<A: Allocator> Infer<A> {
         ensures { IsTrue result
             ↔ SomeBoth (HasClass MatcherType.Image) (AnyAccepts buf.now) (rows self.now) }
     {
-        self.is_of::<Image>(buf)
+        self.is_of(MatcherType::Image, buf)
     }
 
     /// Whether some row of the class `Video` accepts `buf`, which need not be the answer: allow by [`Infer::get`].
@@ -338,7 +334,7 @@ impl<A: Allocator> Infer<A> {
         ensures { IsTrue result
             ↔ SomeBoth (HasClass MatcherType.Video) (AnyAccepts buf.now) (rows self.now) }
     {
-        self.is_of::<Video>(buf)
+        self.is_of(MatcherType::Video, buf)
     }
 
     /// Whether some row of the class `Custom` accepts `buf`, which need not be the answer: allow by [`Infer::get`].
@@ -346,15 +342,14 @@ impl<A: Allocator> Infer<A> {
         ensures { IsTrue result
             ↔ SomeBoth (HasClass MatcherType.Custom) (AnyAccepts buf.now) (rows self.now) }
     {
-        self.is_of::<Custom>(buf)
+        self.is_of(MatcherType::Custom, buf)
     }
 
     /// Whether some row of the class accepts the buffer.
-    fn is_of<C: Class>(&self, buf: &[u8]) -> bool
-        ensures { IsTrue result
-            ↔ SomeBoth (HasClass C.CLASS) (AnyAccepts buf.now) (rows self.now) }
+    fn is_of(&self, class: MatcherType, buf: &[u8]) -> bool
+        ensures { IsTrue result ↔ SomeBoth (HasClass class) (AnyAccepts buf.now) (rows self.now) }
     {
-        self.custom_some(&OfClass::<C>(PhantomData), buf) || answers::some_of_class::<C>(buf)
+        self.custom_some(&OfClass(class), buf) || answers::some(&OfClass(class), buf)
     }
 
     /// Whether some added row that is asked for accepts the buffer.

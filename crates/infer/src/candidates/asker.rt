@@ -1,18 +1,15 @@
 //! Rows are asked through an asker, which counts them.
-ghost use Rattle.std.specs.Prelude.{◌≡◌, ◌↔◌, ◌<◌, ◌≤◌, ◌++◌, ◌&&◌, ℕ, List, [], ◌∷◌, Option, None, Some, IfSome, is_some, IsTrue, length, slice_get};
-ghost use Rattle.std.specs.List.{filter};
+ghost use Rattle.std.specs.Prelude.{◌≡◌, ◌↔◌, ◌<◌, ◌≤◌, ◌++◌, ℕ, List, [], ◌∷◌, Option, None, Some, IfSome, is_some, IsTrue, length, slice_get};
 ghost use Rattle.infer.specs.First.{IsFirstOf};
 ghost use Rattle.infer.specs.Leads.{candidates_of};
-ghost use Rattle.infer.specs.Listed.{number_of};
 ghost use Rattle.infer.specs.Questions.{HasExtension, SomeBoth};
 ghost use Rattle.infer.specs.Row.{Accepts};
 ghost use Rattle.infer.specs.Table.{table};
-ghost use Rattle.infer.specs.Walks.{HasGiven, IsFirstAmong, RowHas, Takes, asked_rows, count_asked, is_asked, is_listed};
+ghost use Rattle.infer.specs.Walks.{HasGiven, IsFirstAmong, RowHas, Takes, asked_rows, count_asked};
 
-use crate::ask::question::{WithExtension, accepts_at, is_asked};
-use crate::candidates::dispatch::{arm_of, blank, candidates_at, leads};
-use crate::candidates::slots::rows_for_extension;
-use crate::table::rows::{MOST_CANDIDATES, ROW_COUNT, RowName};
+use crate::ask::question::{IfGiven, accepts, is_asked};
+use crate::candidates::dispatch::{blank, candidates_of, leads};
+use crate::table::rows::{MOST_CANDIDATES, ROW_COUNT};
 
 /// Who asks the built-in rows about one buffer. A contract sees that buffer, and which rows were asked, in order.
 pub trait Ask {
@@ -72,7 +69,7 @@ impl Ask for Asker<'_> {
 
     fn ask(&mut self, i: usize) -> bool {
         self.count += 1;
-        accepts_at(i, self.buf)
+        accepts(self.buf, i)
     }
 }
 
@@ -81,6 +78,7 @@ impl Ask for Asker<'_> {
 ///
 /// Of those rows it asks the candidates of the first byte, which are the rows whose signature allows it there. It
 /// asks them in ascending order up to the answer, which are at most [`MOST_CANDIDATES`], and no other.
+#[tactic(auto, using(crate::proofs::AskLemmas::few_asked))]
 pub fn walk<A: Ask>(asker: &mut A, wanted: Option<&str>) -> Option<usize>
     requires { A.has_asked asker.old [] }
     ensures first { IsFirstAmong (RowHas (Takes (HasGiven wanted.entry) (A.buffer asker.old)))
@@ -89,81 +87,12 @@ pub fn walk<A: Ask>(asker: &mut A, wanted: Option<&str>) -> Option<usize>
     ensures few { count_asked wanted.entry (A.buffer asker.old) result ≤ MOST_CANDIDATES }
     ensures kept { A.buffer asker.new ≡ A.buffer asker.old }
 {
-    match wanted {
-        Some(extension) => walk_extension(asker, extension),
-        None => walk_every(asker),
-    }
-}
-
-/// The first candidate that accepts the asker's buffer.
-#[tactic(auto, using(crate::proofs::AskLemmas::every_asked))]
-fn walk_every<A: Ask>(asker: &mut A) -> Option<usize>
-    requires { A.has_asked asker.old [] }
-    ensures first { IsFirstAmong (RowHas (Takes (HasGiven None) (A.buffer asker.old)))
-        (candidates_of (A.buffer asker.old)) result }
-    ensures asked { A.has_asked asker.new (asked_rows None (A.buffer asker.old) result) }
-    ensures few { count_asked None (A.buffer asker.old) result ≤ MOST_CANDIDATES }
-    ensures kept { A.buffer asker.new ≡ A.buffer asker.old }
-{
-    for row in candidates_of(asker) {
-        if asker.ask(*row) {
+    for row in candidates_of(asker.first()) {
+        if is_asked(*row, &IfGiven(wanted)) && asker.ask(*row) {
             return Some(*row);
         }
     }
     None
-}
-
-/// The first candidate with this extension that accepts the asker's buffer. Only the rows in the text's slot are
-/// compared with it.
-#[tactic(auto, using(crate::proofs::AskLemmas::few_asked))]
-fn walk_extension<A: Ask>(asker: &mut A, extension: &str) -> Option<usize>
-    requires { A.has_asked asker.old [] }
-    ensures first { IsFirstAmong (RowHas
-        (Takes (HasGiven (Some extension.entry)) (A.buffer asker.old)))
-        (candidates_of (A.buffer asker.old)) result }
-    ensures asked { A.has_asked asker.new
-        (asked_rows (Some extension.entry) (A.buffer asker.old) result) }
-    ensures few { count_asked (Some extension.entry) (A.buffer asker.old) result ≤ MOST_CANDIDATES }
-    ensures kept { A.buffer asker.new ≡ A.buffer asker.old }
-{
-    leads();
-    blank();
-    let candidates = candidates_of(asker);
-    for row in rows_for_extension(extension.as_bytes()) {
-        if ask_named(asker, *row, extension, candidates) {
-            return Some(*row as usize);
-        }
-    }
-    None
-}
-
-/// Whether the row has the extension and accepts the buffer. It is asked if it has it and is one of the candidates.
-fn ask_named<A: Ask>(asker: &mut A, row: RowName, extension: &str, candidates: &[usize]) -> bool
-    requires all { candidates.now ≡ candidates_of (A.buffer asker.old) }
-    requires room { (before : List ℕ) × A.has_asked asker.old before × (length before < ROW_COUNT) }
-    ensures answer { IsTrue result
-        ↔ RowHas (Takes (HasGiven (Some extension.entry)) (A.buffer asker.old)) (number_of row) }
-    ensures asked { (before : List ℕ) → A.has_asked asker.old before
-        → A.has_asked asker.new (before ++ filter
-        (λ i. is_asked (Some extension.entry) i && is_listed candidates.now i)
-        (number_of row ∷ [])) }
-    ensures kept { A.buffer asker.new ≡ A.buffer asker.old }
-{
-    leads();
-    blank();
-    let i = row as usize;
-    is_asked(i, &WithExtension(extension.as_bytes())) && candidates.contains(&i) && asker.ask(i)
-}
-
-/// The rows that can accept the asker's buffer, ascending.
-fn candidates_of<A: Ask>(asker: &A) -> &'static [usize]
-    ensures rows { result.now ≡ candidates_of (A.buffer asker.now) }
-    ensures few { length result.now ≤ MOST_CANDIDATES }
-{
-    match asker.first() {
-        Some(first) => candidates_at(arm_of(first)),
-        None => &[],
-    }
 }
 
 /// What a [`walk`] about `buf` answers, and how many rows it asks.

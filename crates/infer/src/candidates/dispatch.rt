@@ -1,14 +1,14 @@
 //! The first byte of a buffer decides which rows are asked: in turn, in a chain of rows, each made straight code of its own.
 #![tactic(auto, using(crate::proofs::CandidateLemmas::in_turn))]
 
-ghost use Rattle.std.specs.Prelude.{◌≡◌, ◌↔◌, ◌≤◌, [], ◌∷◌, ℕ, List, Option, IsTrue, length};
+ghost use Rattle.std.specs.Prelude.{◌≡◌, ◌↔◌, ◌≤◌, [], ◌∷◌, ℕ, List, Option, IsTrue, length, slice_get};
 ghost use Rattle.infer.specs.Arms.{rows_of};
 ghost use Rattle.infer.specs.BuiltIn.{BuiltIn};
 ghost use Rattle.infer.specs.First.{NoneHas};
-ghost use Rattle.infer.specs.Leads.{Leads, candidates};
+ghost use Rattle.infer.specs.Leads.{Leads, candidates, candidates_of};
 ghost use Rattle.infer.specs.Row.{Accepts};
 ghost use Rattle.infer.specs.Table.{table};
-ghost use Rattle.infer.specs.Walks.{IsFirstAmong, RowHas, TellsSome, row_numbered};
+ghost use Rattle.infer.specs.Walks.{IsFirstAmong, RowHas, row_numbered};
 
 use crate::ask::question::accepts;
 use crate::candidates::arms::{ARM_COUNT, Arm, with_candidates, with_first_bytes};
@@ -169,14 +169,6 @@ impl<C: Chain> Outlined<C> {
             None => NO_ROW,
         }
     }
-
-    /// Whether some row of the chain accepts `buf`.
-    #[inline(never)]
-    pub fn some(buf: &[u8]) -> bool
-        ensures { TellsSome C.rows buf.now result }
-    {
-        C::first(buf).is_some()
-    }
 }
 
 /// The first row of Office in ZIP archives that accepts `buf`.
@@ -271,8 +263,6 @@ macro_rules! chain {
     };
 }
 
-pub(crate) use chain;
-
 /// The candidates of each arm, which `rows_of` reads.
 static CANDIDATES: [&[usize]; ARM_COUNT] = with_candidates!(lists);
 
@@ -289,6 +279,17 @@ pub fn candidates_at(arm: Arm) -> &'static [usize]
     ensures few { length result.now ≤ MOST_CANDIDATES }
 {
     with_candidates!(list_at arm)
+}
+
+/// The rows that can accept a buffer with this first byte, ascending, and none without one.
+pub fn candidates_of(first: Option<u8>) -> &'static [usize]
+    ensures rows { (b : List ℕ) → first ≡ slice_get b 0 → result.now ≡ candidates_of b }
+    ensures few { length result.now ≤ MOST_CANDIDATES }
+{
+    match first {
+        Some(first) => candidates_at(arm_of(first)),
+        None => &[],
+    }
 }
 
 /// The number of the first candidate of an arm that accepts `buf`, and [`NO_ROW`] for none.

@@ -120,12 +120,6 @@ macro_rules! with_rows {
     };
 }
 
-macro_rules! names {
-    ([] $($row:ident $class:ident $mime_type:literal $extension:literal $matcher:path, $($may_become:path,)? $len:literal $front:literal $($place:literal $text:literal)?;)*) => {
-        [$(RowName::$row),*]
-    };
-}
-
 macro_rules! rows {
     ([] $($row:ident $class:ident $mime_type:literal $extension:literal $matcher:path, $($may_become:path,)? $len:literal $front:literal $($place:literal $text:literal)?;)*) => {
         [$(BuiltInRow {
@@ -207,20 +201,9 @@ pub(crate) struct Piece {
     pub text: &'static [u8],
 }
 
-static NAMES: [RowName; ROW_COUNT] = with_rows!(names);
-
 static ROWS: [BuiltInRow; ROW_COUNT] = with_rows!(rows);
 
 static SAMPLES: [Pieces; ROW_COUNT] = with_rows!(samples);
-
-/// The name of row `i`. Names have a byte each, so that a row is asked without its texts.
-#[inline(always)]
-pub(crate) fn name_at(i: usize) -> RowName
-    requires { i < ROW_COUNT }
-    ensures { number_of result ≡ i }
-{
-    NAMES[i]
-}
 
 /// The built-in rows, in the order in which they are asked.
 #[tactic(auto, unfolding(crate::specs::Table::signature_of, crate::specs::Table::table))]
@@ -287,12 +270,4 @@ impl BuiltInRow {
     {
         accepts_row(self.row, buf)
     }
-}
-
-/// The row of that name.
-#[inline(always)]
-pub(crate) fn row_of(name: RowName) -> &'static BuiltInRow
-    ensures { slice_get table (number_of name) ≡ Some (row_listed result.now) }
-{
-    row_at(name as usize)
 }

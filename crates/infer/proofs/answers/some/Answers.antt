@@ -1,11 +1,10 @@
-use Rattle.infer.proofs.Common.{Takes}
-use Rattle.infer.proofs.SlotLemmas.{some_alone, some_listed}
+use Rattle.infer.proofs.Common.{rules, tests, YieldsList-from_slice, cases_from_any, RowHas, Takes}
+use Rattle.infer.proofs.CandidateLemmas.{some_of_candidates}
 use Rattle.infer.proofs.answers.some.Goals as goal
 
-pub returns-in-len1 : goal.returns-in-len1
-returns-in-len1 g c =
-    some_alone (Takes (g.Q.Question.asked c.args.question) c.args.buf.now) _ (λ x t. t.0) _ _ _ c.requires c.in-len1.len_at_least c.in-len1.len_below
-    c.takes_row.ensures
-
 pub returns : goal.returns
-returns g c = some_listed (Takes (g.Q.Question.asked c.args.question) c.args.buf.now) _ (λ x t. t.0) _ _ c.requires c.some_among.ensures
+returns g c =
+    let asked = g.Q.Question.asked c.args.question.now in
+    let P = RowHas (Takes asked c.args.buf.now) in
+    some_of_candidates c.leads.ensures c.blank.ensures asked c.args.buf.now _ _ (c.candidates_of.ensures.rows c.args.buf.now (search rules))
+    (cases_from_any _ _ _ P (λ i. ¬ P i) c.any.ensures.ran (YieldsList-from_slice _ c.iter.ensures.rest) (λ x q k. search (rules, tests)) (λ x q k. search (rules, tests)))

@@ -1,7 +1,6 @@
 use Rattle.infer.proofs.Common.{◌≡◌, ◌<◌, length, Some, None, refl, arith, rules}
 use Rattle.infer.proofs.DecidedLemmas.{answer_if_none, changes_by_first, decided_by_first, decided_itself, decided_with_first, empty_changes, empty_open, first_open_row}
 use Rattle.infer.proofs.LawLemmas.{every_lasts}
-use Rattle.infer.proofs.TableLemmas.{length-table}
 use Rattle.infer.proofs.decided.is_decided.Goals as goal
 
 pub returns-in_default : goal.returns-in_default
@@ -13,12 +12,6 @@ returns-in_default c =
       can_be = λ long. absurd (omega (arith, long, empty));
     }
 
-pub accepts_at-requires : goal.accepts_at-requires
-accepts_at-requires c =
-    let long : 0 < length c.args.buf.now = grind (arith) in
-    let first = first_open_row c.leads.ensures c.args.buf.now _ (Some c.in-Some-first_open.row) long (search rules) c.in-Some-first_open.ensures in
-    omega (arith, first.within, length-table)
-
 pub returns-in-Some-first_open : goal.returns-in-Some-first_open
 returns-in-Some-first_open c =
     let long : 0 < length c.args.buf.now = grind (arith) in
@@ -26,8 +19,8 @@ returns-in-Some-first_open c =
     let first = first_open_row c.leads.ensures c.args.buf.now _ (Some row) long (search rules) c.in-Some-first_open.ensures in
     let lasts = every_lasts c.growth.ensures c.growth-2.ensures in
     record {
-      exact = decided_by_first lasts c.args.buf.now row first c.accepts_at.result c.accepts_at.ensures;
-      «open» = λ f. changes_by_first lasts c.args.buf.now row first (λ has. absurd (let t = c.accepts_at.ensures.1 has in cc));
+      exact = decided_by_first lasts c.args.buf.now row first c.accepts.result c.accepts.ensures;
+      «open» = λ f. changes_by_first lasts c.args.buf.now row first (λ has. absurd (let t = c.accepts.ensures.1 has in cc));
       can_be = λ l. decided_with_first lasts c.args.buf.now row first;
     }
 

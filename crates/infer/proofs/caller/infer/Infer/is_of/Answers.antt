@@ -4,4 +4,4 @@ use Rattle.infer.proofs.caller.infer.Infer.is_of.Goals as goal
 
 pub returns-else-custom_some : goal.returns-else-custom_some
 returns-else-custom_some g c =
-    some_of_rest kept_row (λ _ r. HasClass g.C.Class.CLASS r × AnyAccepts c.args.buf.now r) _ _ _ [] [] refl c.if-custom_some.ensures c.some_of_class.ensures
+    some_of_rest kept_row (λ _ r. HasClass c.args.class r × AnyAccepts c.args.buf.now r) _ _ _ [] [] refl c.if-custom_some.ensures c.some.ensures
