@@ -1,5 +1,6 @@
 //! The bytes of a buffer that decide its wider answer.
 ghost use Rattle.std.specs.Prelude.{[], ◌∷◌, ◌≡◌, ◌↔◌, ◌+◌, ◌<◌, ◌≤◌, ℕ, List, All, Any, IfSome, IsTrue, Some, false, length, slice_get, take};
+ghost use Rattle.infer.specs.Buffer.{IsBuffer};
 ghost use Rattle.infer.specs.First.{IsFirstOf};
 ghost use Rattle.infer.specs.declared.table.rows.TheConstants.{ROW_COUNT};
 ghost use Rattle.infer_evidence.specs.Evidence.{AgreesOn, IsOf};
@@ -151,6 +152,14 @@ fn ask_front(front: Option<usize>, told: &Acceptance, buf: &[u8], evidence: &mut
     }
 }
 
+/// Whether the bytes at the front that are asked for already tell that the row does not accept the buffer.
+fn is_told_refused(told: &Acceptance, buf: &[u8], evidence: &Evidence) -> bool
+    ensures { IsTrue result → (c : List ℕ) → IsBuffer c → AgreesOn evidence.now buf.now c
+        → IsAlikeAt told.now.i buf.now c }
+{
+    !told.accepts && told.is_told(&buf[..evidence.front().min(buf.len())])
+}
+
 /// The number of a further row among all.
 fn number(i: usize) -> Option<usize>
     ensures { i < FURTHER_COUNT → result ≡ Some (ROW_COUNT + i) }
@@ -245,7 +254,9 @@ fn weigh_row(
     }
     let accepts = signature::accepts(signature, buf);
     let told = Acceptance { i, accepts };
-    ask_front(shortest_front(&told, buf), &told, buf, evidence);
+    if !is_told_refused(&told, buf, evidence) {
+        ask_front(shortest_front(&told, buf), &told, buf, evidence);
+    }
     accepts
 }
 

@@ -1,0 +1,9 @@
+use Rattle.infer_more.proofs.Common.{arith}
+use Rattle.infer_more.proofs.OutlineLemmas.{buffer_of}
+use Rattle.infer_more.proofs.WhyLemmas.{front_tells}
+use Rattle.infer_more.proofs.why.is_told_refused.Goals as goal
+
+pub returns-then-not-told : goal.returns-then-not-told
+returns-then-not-told c = λ yes b bytes agrees.
+    front_tells c.args.told.now.i c.args.buf.now b c.min.result (buffer_of c.args.buf.now (λ i. omega (arith, c.type_inv.buf i))) bytes (omega arith)
+    (c.is_told.ensures yes) (λ k lt. c.front.ensures c.args.buf.now b agrees k (omega arith) (omega arith))
