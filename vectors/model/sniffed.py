@@ -2,16 +2,21 @@
 """Compares what mime_types and mime_sniff say of generated texts and buffers with a model of the MIME Sniffing Standard, which
 was written from its rules and shares no code with them.
 
-usage: sniffed.py PROGRAM [COUNT] [SEED]. PROGRAM is crates/example as it was built. COUNT texts and COUNT buffers for
-each type that is told, 20,000 if left out, are made from a seed: near the rows, in boxes, elements and frames, or of any
+usage: sniffed.py [COUNT] [SEED]. It asks the library for C by its binding for Python. COUNT texts and COUNT buffers for each
+type that is told, 20,000 if left out, are made from a seed: near the rows, in boxes, elements and frames, or of any
 bytes."""
 import collections
 import os
 import random
 import struct
-import subprocess
 import sys
-import tempfile
+
+TOP = os.path.dirname(os.path.dirname(os.path.dirname(os.path.abspath(__file__))))
+sys.path[:0] = [f"{TOP}/examples", f"{TOP}/bindings/python/src"]
+import support
+
+support.shared_library()
+from infer.mimesniff import MimeType, compute
 
 SEED = 20261128
 WHITE, ENDS = b"\t\n\x0c\r ", b" >"
@@ -203,33 +208,24 @@ def text(rng):
     return rng.choice([b"", b"a/b;", b"text/html;charset=", b' a/b ;c="']) + b"".join(rng.choices(parts, k=rng.randrange(10)))
 
 
-def asked(program, words, buffers):
-    with tempfile.NamedTemporaryFile() as pack:
-        pack.writelines(struct.pack("<I", len(buf)) + buf for buf in buffers)
-        pack.flush()
-        with open(pack.name, "rb") as it:
-            return subprocess.run([program, "types", *words], stdin=it, capture_output=True, check=True).stdout.decode().split("\n")[:-1]
-
-
-def main(program, count="20000", seed=SEED):
-    if not os.path.exists(program):
-        print(f"left out, since there is no {program}: the model of MIME types")
-        print("0 passed, 0 failed, 1 left out")
-        return 0
+def main(count="20000", seed=SEED):
     rng, counted, wrong = random.Random(int(seed)), collections.Counter(), []
-    runs = [(["parse"], [text(rng) for _ in range(int(count))], lambda buf: serialized(buf).decode("latin-1"))]
+
+    def compare(asked, given, answer, wanted):
+        counted[answer] += 1
+        if answer != wanted:
+            wrong.append((asked, given, answer, wanted))
+
+    for _ in range(int(count)):
+        given = text(rng)
+        compare("parse", given, str(MimeType.parse(given) or ""), serialized(given).decode("latin-1"))
     for told in TOLD:
-        for flags in ([], ["nosniff"], ["old"]):
-            model = lambda buf, told=told, flags=flags: computed(told, "nosniff" in flags, "old" in flags, buf) or "as told"
-            runs.append(([told, *flags], [buffer(rng) for _ in range(int(count) // 3)], model))
-    for words, buffers, model in runs:
-        for buf, answer in zip(buffers, asked(program, words, buffers), strict=True):
-            wanted = model(buf)
-            counted[answer] += 1
-            if answer != wanted:
-                wrong.append((words, buf, answer, wanted))
-    for words, buf, answer, wanted in wrong[:20]:
-        print(f"sniffed.py: {' '.join(words)}: {buf[:60]!r}: {answer!r}, and not {wanted!r}")
+        for nosniff, old in ((False, False), (True, False), (False, True)):
+            for _ in range(int(count) // 3):
+                given = buffer(rng)
+                compare((told, nosniff, old), given, compute(given, told, nosniff, old), computed(told, nosniff, old, given) or told)
+    for asked, given, answer, wanted in wrong[:20]:
+        print(f"sniffed.py: {asked}: {given[:60]!r}: {answer!r}, and not {wanted!r}")
     print(f"{sum(counted.values()) - len(wrong)} passed, {len(wrong)} failed")
     return 1 if wrong else 0
 

@@ -16,7 +16,7 @@ fn is_drawing(buf: &[u8]) -> bool
 pub fn run<R: AllocGlobal + Env + Files + Print>(rt: &R) -> io::Result<()> {
     let mut infer = Infer::new();
     infer.add(rt.alloc(), "image/x-drawing", "draw", is_drawing)?;
-    for path in env::args(rt)?.skip(2) {
+    for path in env::args(rt)?.skip(1) {
         match infer.get_from_path(rt, rt.alloc(), path.as_str()) {
             Ok(Some(found)) => println!(rt; "{path}: {found}")?,
             Ok(None) => println!(rt; "{path}: unknown")?,
