@@ -9,6 +9,8 @@ import re
 import textwrap
 from typing import NamedTuple
 
+from further_code import Texts
+from signatures import literal
 from terms import Unread, term_of
 from texts import kept, text_of
 
@@ -19,15 +21,28 @@ ENTRY, TRIED = 8, 40
 HEAD = """//! Made by `tools/tables` from the further rows, the lists of the index: a place, a byte there, and a row, or a name and a
 //! row. Those below each built-in row stand in its order, but for those that are found by names, which have lists of their
 //! own.
-ghost use Rattle.std.specs.Prelude.{{[], ◌∷◌}};
-ghost use Rattle.infer_more.specs.Index.{{AreWaysBelow, IsWayBelow}};
+ghost use Rattle.std.specs.Prelude.{{◌≡◌, [], ◌∷◌}};
+ghost use Rattle.infer_more.specs.Index.{{AreWaysBelow, IsWayBelow, told_texts}};
 
 use crate::index::Below::{{ClassIds, Entries, Nothing, Packages, Programs, Roots, Tagged}};
 use crate::index::search::below_at;
 use crate::index::{{Below, Entry, Keyed, Named, Rooted, Spot, Texts, Told}};
+use crate::listed::{{Span, span}};
 
 /// How many further rows there are.
 pub const FURTHER_COUNT: usize = {};
+
+/// The texts by which rows are told.
+static TOLD_TEXTS: &[u8] =
+    {};
+
+#[tactic(auto, unfolding(crate::specs::Index::told_texts))]
+#[inline(always)]
+pub(super) fn told_texts() -> &'static [u8]
+    ensures {{ result.now ≡ told_texts }}
+{{
+    TOLD_TEXTS
+}}
 
 """
 BELOW_APART = """
@@ -64,10 +79,11 @@ COMPUTED = """-- Made by `tools/tables` from the further rows: computed of each.
 use Rattle.infer_more.proofs.Common.{{{words}refl}}
 use Rattle.infer_more.proofs.Common.{{{names}}}
 use Rattle.infer_more.proofs.FoundLemmas.{{{lemma}}}
+use Rattle.infer_more.specs.Index.{{told_texts}}
 use Rattle.infer_more.proofs.index.generated.{function}.Goals as goal
 
 pub returns : goal.returns
-unfolding {unfolded}
+unfolding told_texts {unfolded}
 returns c = {lemma} {parent}_ refl refl
 """
 TOLD_BELOW = """-- Made by `tools/tables` from the further rows: the other ways stand in one list.
@@ -474,10 +490,16 @@ def last(rows):
         yield f"    {field}: {number},"
 
 
-def lists(rows, parents):
-    """The lists of the index, of rows whose parents stand among the constants of the built-in rows."""
+def in_spans(line, texts):
+    """The line with the span of each of its texts for the text."""
+    return re.sub(TEXT_OF_BYTES, lambda it: texts.span(bytes_of(it[0])), line)
+
+
+def lists(rows, parents, texts):
+    """The lists of the index, of rows whose parents stand among the constants of the built-in rows. Their texts go to these."""
     numbered = list(enumerate(rows))
     ways = [below([(k, row) for k, row in numbered if row.parent == parent]) for parent in parents]
+    ways = [(name, [in_spans(it, texts) for it in takes]) for name, takes in ways]
     for k in apart(ways):
         yield from in_lines_of_code(*ways[k], f"static BELOW_{k}: Below = ")
         yield BELOW_APART.format(k)
@@ -497,8 +519,8 @@ def lists(rows, parents):
     yield "};"
     own = [(k, row) for k, row in numbered if not row.parent]
     yield "\npub(super) static TOLD: Told = Told {"
-    yield f"    roots: {rooted(own)},"
-    yield f"    keys: keyed!{bracketed(said for _, said in told_by(own, 'FirstKey'))},"
+    yield in_spans(f"    roots: {rooted(own)},", texts)
+    yield in_spans(f"    keys: keyed!{bracketed(said for _, said in told_by(own, 'FirstKey'))},", texts)
     yield "};"
 
 
@@ -552,4 +574,6 @@ def computed(rows, parents):
 
 def text(rows, parents):
     """The file of the index."""
-    return HEAD.format(len(rows)) + "\n".join(lists(rows, parents)) + "\n"
+    texts = Texts()
+    lines = "\n".join(lists(rows, parents, texts))
+    return HEAD.format(len(rows), literal(texts.whole)) + lines + "\n"

@@ -14,8 +14,9 @@ use Rattle.infer_formats.specs.Tiff.{HasTag}
 use Rattle.infer_formats.specs.Markup.{HasInTag, MayBeRooted}
 use Rattle.infer_sig.specs.Signature as fixed
 use Rattle.infer_sig.proofs.OccurrenceLemmas.{not_both}
-use Rattle.infer_more.specs.Index.{AllApplications, AreClassIds, AreWaysBelow, EachIsLed, EachIsTold, EachParentlessIsFound, FindsBelow, FindsLed, FindsParentless, IsFoundParentless, IsKeyed, IsKeyedBy, IsTold, IsWayBelow, IsTextRow, HasKeyValue, MayBeTold, all_ascend, are_keyed, are_rooted, are_roots_of, are_texts, are_true, asks_class_id, asks_folder, asks_key, asks_program, asks_root, below_at, bucket_by, has_byte, has_named, has_rooted, keyed_row, roots_of, is_application, is_child, is_found_below, is_found_parentless, is_in_class_ids, is_in_folders, is_in_keys, is_in_programs, is_in_roots, is_json, is_lines, is_of_name, is_of_tag, is_row_below, is_row_parentless, is_row_parentless_found, is_row_with, is_text_row, is_told, is_tried_below, bucket_at, same, same_text}
+use Rattle.infer_more.specs.Index.{AllApplications, AreClassIds, AreWaysBelow, EachIsLed, EachIsTold, EachParentlessIsFound, FindsBelow, FindsLed, FindsParentless, IsFoundParentless, IsKeyed, IsKeyedBy, IsTold, IsWayBelow, IsTextRow, HasKeyValue, MayBeTold, all_ascend, are_keyed, are_rooted, are_roots_of, are_texts, are_true, asks_class_id, asks_folder, asks_key, asks_program, asks_root, below_at, bucket_by, has_byte, has_named, has_rooted, keyed_row, roots_of, is_application, is_child, is_found_below, is_found_parentless, is_in_class_ids, is_in_folders, is_in_keys, is_in_programs, is_in_roots, is_json, is_lines, is_of_name, is_of_tag, is_row_below, is_row_parentless, is_row_parentless_found, is_row_with, is_text_row, is_told, is_tried_below, bucket_at, same, same_text, told_by}
 use Rattle.infer_notation.specs.Alternative.{Alternative}
+use Rattle.infer_more.specs.declared.listed.Span.{Span}
 use Rattle.infer_more.specs.declared.index.Below as below
 use Rattle.infer_more.specs.declared.index.Below.TheVariants.{ClassIds, Entries, Packages, Programs, Roots, Tagged}
 use Rattle.infer_more.specs.declared.index.Entry.{Entry}
@@ -45,8 +46,8 @@ same_true (x ∷ xs) (y ∷ ys) h =
 -- a name that is listed has its row
 listed_name : (P : List ℕ → Type 0) (i : ℕ) (names : List Named) (name : List ℕ) → IsTrue (has_named i names name) → P name → IsNamed P names i
 listed_name P i [] name h p = absurd (cc)
-listed_name P i (e ∷ names) name h p = elim (or_cases (e.row == i && same e.name.now name) _ h) [
-  | inl here ↦ inl (eqb-true e.row i (both_left (e.row == i) _ here), subst P (sym (same_true e.name.now name (both_right (e.row == i) _ here))) p)
+listed_name P i (e ∷ names) name h p = elim (or_cases (e.row == i && same (told_by e.name) name) _ h) [
+  | inl here ↦ inl (eqb-true e.row i (both_left (e.row == i) _ here), subst P (sym (same_true (told_by e.name) name (both_right (e.row == i) _ here))) p)
   | inr later ↦ inr (listed_name P i names name later p)
 ]
 
@@ -66,19 +67,19 @@ abbrev OwnText : List ℕ → Option (List ℕ) → Type 0
 OwnText rest None = Unit {0}
 OwnText rest (Some u) = HasInTag u rest
 
-tag_text : (rest : List ℕ) (t : Option (Bor (List ℕ))) (u : Option (List ℕ)) → IsTrue (same_text t u) → OwnText rest u → HasTagText rest t
+tag_text : (rest : List ℕ) (t : Option Span) (u : Option (List ℕ)) → IsTrue (same_text t u) → OwnText rest u → HasTagText rest t
 tag_text rest None None h p = tt
 tag_text rest None (Some u) h p = absurd (cc)
 tag_text rest (Some t) None h p = absurd (cc)
-tag_text rest (Some t) (Some u) h p = subst (λ own. HasInTag own rest) (sym (same_true t.now u h)) p
+tag_text rest (Some t) (Some u) h p = subst (λ own. HasInTag own rest) (sym (same_true (told_by t) u h)) p
 
 listed_root : (rest : List ℕ) (i : ℕ) (roots : List Rooted) (name : List ℕ) (u : Option (List ℕ)) → IsTrue (has_rooted i roots name u)
     → OwnText rest u → IsRootedBy name rest roots i
 listed_root rest i [] name u h p = absurd (cc)
-listed_root rest i (e ∷ roots) name u h p = elim (or_cases (e.row == i && (same e.name.now name && same_text e.text u)) _ h) [
+listed_root rest i (e ∷ roots) name u h p = elim (or_cases (e.row == i && (same (told_by e.name) name && same_text e.text u)) _ h) [
   | inl here ↦
-      let and_from = both_right (e.row == i) (same e.name.now name && same_text e.text u) here in
-      inl (eqb-true e.row i (both_left (e.row == i) _ here), (same_true e.name.now name (both_left (same e.name.now name) _ and_from), tag_text rest e.text u (both_right (same e.name.now name) _ and_from) p))
+      let and_from = both_right (e.row == i) (same (told_by e.name) name && same_text e.text u) here in
+      inl (eqb-true e.row i (both_left (e.row == i) _ here), (same_true (told_by e.name) name (both_left (same (told_by e.name) name) _ and_from), tag_text rest e.text u (both_right (same (told_by e.name) name) _ and_from) p))
   | inr later ↦ inr (listed_root rest i roots name u later p)
 ]
 
@@ -87,19 +88,19 @@ abbrev OwnValue : List ℕ → Option (List ℕ) → Type 0
 OwnValue rest None = Unit {0}
 OwnValue rest (Some u) = HasValue u rest
 
-key_value : (rest : List ℕ) (t : Option (Bor (List ℕ))) (u : Option (List ℕ)) → IsTrue (same_text t u) → OwnValue rest u → HasKeyValue rest t
+key_value : (rest : List ℕ) (t : Option Span) (u : Option (List ℕ)) → IsTrue (same_text t u) → OwnValue rest u → HasKeyValue rest t
 key_value rest None None h p = tt
 key_value rest None (Some u) h p = absurd (cc)
 key_value rest (Some t) None h p = absurd (cc)
-key_value rest (Some t) (Some u) h p = subst (λ own. HasValue own rest) (sym (same_true t.now u h)) p
+key_value rest (Some t) (Some u) h p = subst (λ own. HasValue own rest) (sym (same_true (told_by t) u h)) p
 
 listed_key : (rest : List ℕ) (i : ℕ) (keys : List Keyed) (key : List ℕ) (u : Option (List ℕ))
-    → IsTrue (list_any (λ e. e.row == i && (same e.key.now key && same_text e.value u)) keys) → OwnValue rest u → IsKeyedBy key rest keys i
+    → IsTrue (list_any (λ e. e.row == i && (same (told_by e.key) key && same_text e.value u)) keys) → OwnValue rest u → IsKeyedBy key rest keys i
 listed_key rest i [] key u h p = absurd (cc)
-listed_key rest i (e ∷ keys) key u h p = elim (or_cases (e.row == i && (same e.key.now key && same_text e.value u)) _ h) [
+listed_key rest i (e ∷ keys) key u h p = elim (or_cases (e.row == i && (same (told_by e.key) key && same_text e.value u)) _ h) [
   | inl here ↦
-      let both = both_right (e.row == i) (same e.key.now key && same_text e.value u) here in
-      inl (eqb-true e.row i (both_left (e.row == i) _ here), (same_true e.key.now key (both_left (same e.key.now key) _ both), key_value rest e.value u (both_right (same e.key.now key) _ both) p))
+      let both = both_right (e.row == i) (same (told_by e.key) key && same_text e.value u) here in
+      inl (eqb-true e.row i (both_left (e.row == i) _ here), (same_true (told_by e.key) key (both_left (same (told_by e.key) key) _ both), key_value rest e.value u (both_right (same (told_by e.key) key) _ both) p))
   | inr later ↦ inr (listed_key rest i keys key u later p)
 ]
 
@@ -301,12 +302,12 @@ module _ (b : List ℕ) where
   fits_program name p (related (program own)) h = subst (λ n. IsProgram n b) (same_true name own h) p
   fits_program name p other h = absurd (cc)
 
-  in_tag : (rest : List ℕ) (t : Option (Bor (List ℕ))) (u : List ℕ) → IsTrue (same_text t (Some u)) → HasTagText rest t → HasInTag u rest
+  in_tag : (rest : List ℕ) (t : Option Span) (u : List ℕ) → IsTrue (same_text t (Some u)) → HasTagText rest t → HasInTag u rest
   in_tag rest None u h p = absurd (cc)
-  in_tag rest (Some t) u h p = subst (λ own. HasInTag own rest) (same_true t.now u h) p
+  in_tag rest (Some t) u h p = subst (λ own. HasInTag own rest) (same_true (told_by t) u h) p
 
   module _ (name rest : List ℕ) (element : IsRootElement name rest b) where
-    fits_root : (own : List ℕ) (t : Option (Bor (List ℕ))) → (own ≡ name) × HasTagText rest t → (a : Alternative) → IsTrue (asks_root own t a) → Fits a b
+    fits_root : (own : List ℕ) (t : Option Span) → (own ≡ name) × HasTagText rest t → (a : Alternative) → IsTrue (asks_root own t a) → Fits a b
     fits_root own t p (related (root other)) h =
         (rest, subst (λ n. IsRootElement n rest b) (sym p.0 ∙ same_true own other (both_left (same own other) _ h)) element)
     fits_root own t p (related (root_with other u)) h = (
@@ -324,12 +325,12 @@ module _ (b : List ℕ) where
   with_value key v rest (dark, inl begins) (left, value) = inl (rest, left, begins, value)
   with_value key v rest (dark, inr (w, e, begins)) (left, value) = inr (w, e, (rest, left, begins, value))
 
-  own_value : (rest : List ℕ) (t : Option (Bor (List ℕ))) (u : List ℕ) → IsTrue (same_text t (Some u)) → HasKeyValue rest t → HasValue u rest
+  own_value : (rest : List ℕ) (t : Option Span) (u : List ℕ) → IsTrue (same_text t (Some u)) → HasKeyValue rest t → HasValue u rest
   own_value rest None u h p = absurd (cc)
-  own_value rest (Some t) u h p = subst (λ own. HasValue own rest) (same_true t.now u h) p
+  own_value rest (Some t) u h p = subst (λ own. HasValue own rest) (same_true (told_by t) u h) p
 
   module _ (key rest : List ℕ) (is : IsFirstKey key rest b) where
-    fits_key : (own : List ℕ) (t : Option (Bor (List ℕ))) → (own ≡ key) × HasKeyValue rest t → (a : Alternative) → IsTrue (asks_key own t a) → Fits a b
+    fits_key : (own : List ℕ) (t : Option Span) → (own ≡ key) × HasKeyValue rest t → (a : Alternative) → IsTrue (asks_key own t a) → Fits a b
     fits_key own t p (related (first_key other)) h =
         with_left other rest (subst (λ n. IsFirstKey n rest b) (sym p.0 ∙ same_true own other (both_left (same own other) _ h)) is)
     fits_key own t p (related (first_key_with other u)) h =
@@ -364,34 +365,34 @@ module _ (b : List ℕ) where
 
   widens_root : (parent : Option ℕ) (roots : List (Bor (List Rooted))) (i : ℕ) → IsTrue (are_roots_of parent roots) → IsRooted b roots i → WidensAt parent b i
   widens_root parent roots i h (name, rest, element, is) =
-      rows_widen rooted_row (λ e. (e.name.now ≡ name) × HasTagText rest e.text) (λ e. asks_root e.name.now e.text) parent b
-      (λ e p. fits_root name rest element e.name.now e.text p) (roots_of roots name) i
-      (listed_in_bucket (list_all (λ e. is_row_with parent (asks_root e.name.now e.text) e.row)) refl _ roots name h) is
+      rows_widen rooted_row (λ e. (told_by e.name ≡ name) × HasTagText rest e.text) (λ e. asks_root (told_by e.name) e.text) parent b
+      (λ e p. fits_root name rest element (told_by e.name) e.text p) (roots_of roots name) i
+      (listed_in_bucket (list_all (λ e. is_row_with parent (asks_root (told_by e.name) e.text) e.row)) refl _ roots name h) is
 
   widens_key : (keys : List Keyed) (i : ℕ) → IsTrue (are_keyed keys) → IsKeyed b keys i → WidensAt None b i
   widens_key keys i h (key, rest, first, is) =
-      rows_widen keyed_row (λ e. (e.key.now ≡ key) × HasKeyValue rest e.value) (λ e. asks_key e.key.now e.value) None b
-      (λ e p. fits_key key rest first e.key.now e.value p) keys i (both_right (ascends keyed_row keys) _ h) is
+      rows_widen keyed_row (λ e. (told_by e.key ≡ key) × HasKeyValue rest e.value) (λ e. asks_key (told_by e.key) e.value) None b
+      (λ e p. fits_key key rest first (told_by e.key) e.value p) keys i (both_right (ascends keyed_row keys) _ h) is
 
   widens_below : (parent : ℕ) (way : below.Below) (i : ℕ) → IsTrue (is_true_below parent way) → IsFoundBelow way parent b i → WidensAt (Some parent) b i
   widens_below parent Nothing i h is = absurd (is)
   widens_below parent (Entries entries) i h is = is.1
   widens_below parent (ClassIds entries ids) i h (inl is) = is.1
   widens_below parent (ClassIds entries ids) i h (inr is) =
-      rows_widen named_row (λ e. HasClassId e.name.now b) (λ e. asks_class_id e.name.now) (Some parent) b (λ e p. fits_class_id e.name.now p) ids.now i
-      (second_of_each (λ e. length e.name.now == 16) (λ e. is_row_with (Some parent) (asks_class_id e.name.now) e.row) ids.now
+      rows_widen named_row (λ e. HasClassId (told_by e.name) b) (λ e. asks_class_id (told_by e.name)) (Some parent) b (λ e p. fits_class_id (told_by e.name) p) ids.now i
+      (second_of_each (λ e. length (told_by e.name) == 16) (λ e. is_row_with (Some parent) (asks_class_id (told_by e.name)) e.row) ids.now
       (both_right (ascends named_row ids.now) _ h)) is
   widens_below parent (Programs entries lists) i h (inl is) = is.1
   widens_below parent (Programs entries lists) i h (inr (name, p, is)) =
-      rows_widen named_row (λ e. e.name.now ≡ name) (λ e. asks_program e.name.now) (Some parent) b
-      (λ e same. fits_program e.name.now (subst (λ n. IsProgram n b) (sym same) p)) (bucket_of lists.now name) i
-      (listed_in_bucket (list_all (λ e. is_row_with (Some parent) (asks_program e.name.now) e.row)) refl _ lists.now name
+      rows_widen named_row (λ e. (told_by e.name) ≡ name) (λ e. asks_program (told_by e.name)) (Some parent) b
+      (λ e same. fits_program (told_by e.name) (subst (λ n. IsProgram n b) (sym same) p)) (bucket_of lists.now name) i
+      (listed_in_bucket (list_all (λ e. is_row_with (Some parent) (asks_program (told_by e.name)) e.row)) refl _ lists.now name
       (both_right (all_ascend named_row lists.now) _ h)) is
   widens_below parent (Roots roots) i h is = widens_root (Some parent) roots.now i (both_right (all_ascend rooted_row roots.now) _ h) is
   widens_below parent (Packages entries folders) i h (inl is) = is.1
   widens_below parent (Packages entries folders) i h (inr is) =
-      rows_widen named_row (λ e. IsPackageWith e.name.now b) (λ e. asks_folder e.name.now) (Some parent) b (λ e p. fits_folder e.name.now p) folders.now i
-      (second_of_each (λ e. is_application e.name.now) (λ e. is_row_with (Some parent) (asks_folder e.name.now) e.row) folders.now
+      rows_widen named_row (λ e. IsPackageWith (told_by e.name) b) (λ e. asks_folder (told_by e.name)) (Some parent) b (λ e p. fits_folder (told_by e.name) p) folders.now i
+      (second_of_each (λ e. is_application (told_by e.name)) (λ e. is_row_with (Some parent) (asks_folder (told_by e.name)) e.row) folders.now
       (both_right (ascends named_row folders.now) _ h)) is
   widens_below parent (Tagged entries tag other tagged) i h (inl is) = is.1
   widens_below parent (Tagged entries tag other tagged) i h (inr (has, is)) = is.1
@@ -455,21 +456,21 @@ one_of t (other ∷ others) h = elim (or_cases (same t other) _ h) [
 
 module _ (parent : ℕ) where
   abbrev is_folder : Named → Bool
-  is_folder e = is_application e.name.now && is_row_with (Some parent) (asks_folder e.name.now) e.row
+  is_folder e = is_application (told_by e.name) && is_row_with (Some parent) (asks_folder (told_by e.name)) e.row
 
   pub all_applications : (entries : Bor (List Entry)) (folders : Bor (List Named)) → IsTrue (is_true_below parent (Packages entries folders)) → AllApplications folders.now
   all_applications entries folders h = λ k d lt.
-      let name = (get_or folders.now k d).name.now in
+      let name = told_by (get_or folders.now k d).name in
       one_of name applications (both_left (is_application name) _ (AllPass-from_list_all is_folder folders.now (both_right (ascends named_row folders.now) _ h) k d lt))
 
 -- each class id has its bytes
 module _ (parent : ℕ) where
   abbrev is_class_id : Named → Bool
-  is_class_id e = length e.name.now == 16 && is_row_with (Some parent) (asks_class_id e.name.now) e.row
+  is_class_id e = length (told_by e.name) == 16 && is_row_with (Some parent) (asks_class_id (told_by e.name)) e.row
 
   pub are_class_ids : (entries : Bor (List Entry)) (ids : Bor (List Named)) → IsTrue (is_true_below parent (ClassIds entries ids)) → AreClassIds ids.now
   are_class_ids entries ids h = λ k d lt.
-      let long = length (get_or ids.now k d).name.now in
+      let long = length (told_by (get_or ids.now k d).name) in
       eqb-true long 16 (both_left (long == 16) _ (AllPass-from_list_all is_class_id ids.now (both_right (ascends named_row ids.now) _ h) k d lt))
 
 -- a row is found by its parent, or without one

@@ -33,6 +33,8 @@ use Rattle.infer_more.specs.declared.index.Rooted.{Rooted}
 use Rattle.infer_more.specs.declared.index.Spot.{Spot}
 use Rattle.infer_more.specs.declared.index.Texts.{Texts}
 use Rattle.infer_more.specs.declared.index.Told.{Told}
+use Rattle.infer_more.specs.declared.index.generated.TheConstants.{TOLD_TEXTS}
+use Rattle.infer_more.specs.declared.listed.Span.{Span}
 
 -- the number is one of the list
 abbrev pub is_listed : List ℕ → ℕ → Bool
@@ -112,6 +114,13 @@ abbrev pub IsRowOf : {A : Type 0} → (A → ℕ) → (A → Type 0) → List A 
 IsRowOf row Q [] i = ⊥
 IsRowOf row Q (e ∷ entries) i = ((row e ≡ i) × Q e) ⊎ IsRowOf row Q entries i
 
+-- the texts by which rows are told, in one
+unfoldable pub told_texts : List ℕ
+told_texts = TOLD_TEXTS.now
+
+abbrev pub told_by : Span → List ℕ
+told_by span = stretch told_texts span.start span.count
+
 abbrev pub named_row : Named → ℕ
 named_row e = e.row
 
@@ -123,7 +132,7 @@ keyed_row e = e.row
 
 -- row i is listed with a name that has P
 abbrev pub IsNamed : (List ℕ → Type 0) → List Named → ℕ → Type 0
-IsNamed P names i = IsRowOf named_row (λ e. P e.name.now) names i
+IsNamed P names i = IsRowOf named_row (λ e. P (told_by e.name)) names i
 
 -- what stands in bucket i
 abbrev pub bucket_at : {A : Type 0} → List (Bor (List A)) → ℕ → List A
@@ -150,26 +159,26 @@ abbrev pub IsOfProgram : List ℕ → List (Bor (List Named)) → ℕ → Type 0
 IsOfProgram b lists i = (name : List ℕ) × IsProgram name b × IsNamed (λ other. other ≡ name) (bucket_of lists name) i
 
 -- the text, if there is one, stands in a tag of which this is the rest
-abbrev pub HasTagText : List ℕ → Option (Bor (List ℕ)) → Type 0
+abbrev pub HasTagText : List ℕ → Option Span → Type 0
 HasTagText rest None = Unit {0}
-HasTagText rest (Some t) = HasInTag t.now rest
+HasTagText rest (Some t) = HasInTag (told_by t) rest
 
 -- row i is listed with the name of that root element and a text in its tag
 abbrev pub IsRootedBy : List ℕ → List ℕ → List Rooted → ℕ → Type 0
-IsRootedBy name rest roots i = IsRowOf rooted_row (λ e. (e.name.now ≡ name) × HasTagText rest e.text) roots i
+IsRootedBy name rest roots i = IsRowOf rooted_row (λ e. (told_by e.name ≡ name) × HasTagText rest e.text) roots i
 
 -- row i is listed with the root element of the buffer
 abbrev pub IsRooted : List ℕ → List (Bor (List Rooted)) → ℕ → Type 0
 IsRooted b buckets i = (name rest : List ℕ) × IsRootElement name rest b × IsRootedBy name rest (roots_of buckets name) i
 
 -- the text, if there is one, is the value behind the colon of a key
-abbrev pub HasKeyValue : List ℕ → Option (Bor (List ℕ)) → Type 0
+abbrev pub HasKeyValue : List ℕ → Option Span → Type 0
 HasKeyValue rest None = Unit {0}
-HasKeyValue rest (Some t) = HasValue t.now rest
+HasKeyValue rest (Some t) = HasValue (told_by t) rest
 
 -- row i is listed with that key and its value
 abbrev pub IsKeyedBy : List ℕ → List ℕ → List Keyed → ℕ → Type 0
-IsKeyedBy key rest keys i = IsRowOf keyed_row (λ e. (e.key.now ≡ key) × HasKeyValue rest e.value) keys i
+IsKeyedBy key rest keys i = IsRowOf keyed_row (λ e. (told_by e.key ≡ key) × HasKeyValue rest e.value) keys i
 
 -- row i is listed with the first key of the object that begins the buffer
 abbrev pub IsKeyed : List ℕ → List Keyed → ℕ → Type 0
@@ -261,19 +270,19 @@ same (x ∷ xs) (y ∷ ys) = x == y && same xs ys
 
 -- row i is listed with the name, or with the root
 abbrev pub has_named : ℕ → List Named → List ℕ → Bool
-has_named i names name = list_any (λ e. e.row == i && same e.name.now name) names
+has_named i names name = list_any (λ e. e.row == i && same (told_by e.name) name) names
 
-abbrev pub same_text : Option (Bor (List ℕ)) → Option (List ℕ) → Bool
+abbrev pub same_text : Option Span → Option (List ℕ) → Bool
 same_text None None = true
 same_text None (Some t) = false
 same_text (Some s) None = false
-same_text (Some s) (Some t) = same s.now t
+same_text (Some s) (Some t) = same (told_by s) t
 
 abbrev pub has_rooted : ℕ → List Rooted → List ℕ → Option (List ℕ) → Bool
-has_rooted i roots name t = list_any (λ e. e.row == i && (same e.name.now name && same_text e.text t)) roots
+has_rooted i roots name t = list_any (λ e. e.row == i && (same (told_by e.name) name && same_text e.text t)) roots
 
 abbrev pub has_keyed : ℕ → List Keyed → List ℕ → Option (List ℕ) → Bool
-has_keyed i keys key value = has_no_quote key && list_any (λ e. e.row == i && (same e.key.now key && same_text e.value value)) keys
+has_keyed i keys key value = has_no_quote key && list_any (λ e. e.row == i && (same (told_by e.key) key && same_text e.value value)) keys
 
 -- each buffer that fits the alternative has row i among those that the entries try
 abbrev pub is_tried_below : ℕ → List Entry → Alternative → Bool
@@ -381,12 +390,12 @@ abbrev pub asks_program : List ℕ → Alternative → Bool
 asks_program name (related (program own)) = same name own
 asks_program name other = false
 
-abbrev pub asks_root : List ℕ → Option (Bor (List ℕ)) → Alternative → Bool
+abbrev pub asks_root : List ℕ → Option Span → Alternative → Bool
 asks_root name t (related (root own)) = same name own && same_text t None
 asks_root name t (related (root_with own u)) = same name own && same_text t (Some u)
 asks_root name t other = false
 
-abbrev pub asks_key : List ℕ → Option (Bor (List ℕ)) → Alternative → Bool
+abbrev pub asks_key : List ℕ → Option Span → Alternative → Bool
 asks_key key t (related (first_key own)) = same key own && same_text t None
 asks_key key t (related (first_key_with own u)) = same key own && same_text t (Some u)
 asks_key key t other = false
@@ -414,26 +423,26 @@ is_application folder = list_any (same folder) applications
 
 -- each of the folders is
 abbrev pub AllApplications : List Named → Type 0
-AllApplications folders = All (λ (e : Named). IsOneOf e.name.now applications) folders
+AllApplications folders = All (λ (e : Named). IsOneOf (told_by e.name) applications) folders
 
 -- each has the 16 bytes of a class id
 abbrev pub AreClassIds : List Named → Type 0
-AreClassIds ids = All (λ (e : Named). length e.name.now ≡ 16) ids
+AreClassIds ids = All (λ (e : Named). length (told_by e.name) ≡ 16) ids
 
 -- each root is one that the row which is told by it asks for
 abbrev pub are_roots_of : Option ℕ → List (Bor (List Rooted)) → Bool
-are_roots_of parent buckets = list_all (λ some. list_all (λ e. is_row_with parent (asks_root e.name.now e.text) e.row) some.now) buckets
+are_roots_of parent buckets = list_all (λ some. list_all (λ e. is_row_with parent (asks_root (told_by e.name) e.text) e.row) some.now) buckets
 
 -- so is each name below that row, and the rows ascend
 abbrev pub is_true_below : ℕ → below.Below → Bool
 is_true_below parent (Entries entries) = ascends entry_row entries.now
 is_true_below parent (ClassIds entries ids) =
-    ascends named_row ids.now && list_all (λ e. length e.name.now == 16 && is_row_with (Some parent) (asks_class_id e.name.now) e.row) ids.now
+    ascends named_row ids.now && list_all (λ e. length (told_by e.name) == 16 && is_row_with (Some parent) (asks_class_id (told_by e.name)) e.row) ids.now
 is_true_below parent (Programs entries lists) =
-    all_ascend named_row lists.now && list_all (λ names. list_all (λ e. is_row_with (Some parent) (asks_program e.name.now) e.row) names.now) lists.now
+    all_ascend named_row lists.now && list_all (λ names. list_all (λ e. is_row_with (Some parent) (asks_program (told_by e.name)) e.row) names.now) lists.now
 is_true_below parent (Roots roots) = all_ascend rooted_row roots.now && are_roots_of (Some parent) roots.now
 is_true_below parent (Packages entries folders) =
-    ascends named_row folders.now && list_all (λ e. is_application e.name.now && is_row_with (Some parent) (asks_folder e.name.now) e.row) folders.now
+    ascends named_row folders.now && list_all (λ e. is_application (told_by e.name) && is_row_with (Some parent) (asks_folder (told_by e.name)) e.row) folders.now
 is_true_below parent other = true
 
 -- and so below each row from that one on
@@ -452,7 +461,7 @@ abbrev pub are_rooted : List (Bor (List Rooted)) → Bool
 are_rooted buckets = all_ascend rooted_row buckets && are_roots_of None buckets
 
 abbrev pub are_keyed : List Keyed → Bool
-are_keyed keys = ascends keyed_row keys && list_all (λ e. is_row_with None (asks_key e.key.now e.value) e.row) keys
+are_keyed keys = ascends keyed_row keys && list_all (λ e. is_row_with None (asks_key (told_by e.key) e.value) e.row) keys
 
 -- in this way each further row below that built-in row is found, and none other
 pub record IsWayBelow (parent : ℕ) (way : below.Below) : Type 0 where

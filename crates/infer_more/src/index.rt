@@ -1,7 +1,10 @@
 //! Which further rows are tried of a buffer, so that few are. At a spot the buffer's own byte picks entries. An entry names a
 //! row and one more byte that it asks, so that a row is tried whole only where the buffer has that byte too. Rows that ask for
 //! a name, or for the first key of an object, are found by it, which is read once for all of them.
-ghost use Rattle.infer_more.specs.Index.{EachIsTold, EachParentlessIsFound, FindsBelow, FindsLed, FindsParentless, IsWayBelow};
+ghost use Rattle.std.specs.Prelude.{◌≡◌};
+ghost use Rattle.infer_more.specs.Index.{EachIsTold, EachParentlessIsFound, FindsBelow, FindsLed, FindsParentless, IsWayBelow, told_by};
+
+use crate::listed::{Span, span, stretch};
 
 /// A row, by its number among the further rows, that is tried only if a buffer has the byte at the place.
 pub(crate) struct Entry {
@@ -13,21 +16,21 @@ pub(crate) struct Entry {
 /// A row, by its number among the further rows, that is told by a name, which may be a class id.
 pub(crate) struct Named {
     pub row: u16,
-    pub name: &'static [u8],
+    pub name: Span,
 }
 
 /// A row that is told by the name of a root element, and by a text in its tag if there is one.
 pub(crate) struct Rooted {
     pub row: u16,
-    pub name: &'static [u8],
-    pub text: Option<&'static [u8]>,
+    pub name: Span,
+    pub text: Option<Span>,
 }
 
 /// A row that is told by the first key of an object, and by its value if there is one.
 pub(crate) struct Keyed {
     pub row: u16,
-    pub key: &'static [u8],
-    pub value: Option<&'static [u8]>,
+    pub key: Span,
+    pub value: Option<Span>,
 }
 
 /// How the rows below a built-in row are told.
@@ -104,42 +107,42 @@ macro_rules! entries {
 }
 
 macro_rules! named {
-    ($($name:literal $row:literal),*) => {
+    ($($name:literal $length:literal $row:literal),*) => {
         &[$(Named {
             row: $row,
-            name: $name,
+            name: span!($name $length),
         }),*]
     };
 }
 
 macro_rules! buckets {
-    ($(($($name:literal $row:literal),*))*) => {
-        &[$(named![$($name $row),*]),*]
+    ($(($($name:literal $length:literal $row:literal),*))*) => {
+        &[$(named![$($name $length $row),*]),*]
     };
 }
 
 macro_rules! rooted {
-    ($($name:literal ($($text:literal)?) $row:literal),*) => {
+    ($($name:literal $length:literal ($($text:literal $long:literal)?) $row:literal),*) => {
         &[$(Rooted {
             row: $row,
-            name: $name,
-            text: text!($($text)?),
+            name: span!($name $length),
+            text: text!($($text $long)?),
         }),*]
     };
 }
 
 macro_rules! roots {
-    ($(($($name:literal ($($text:literal)?) $row:literal),*))*) => {
-        &[$(rooted![$($name ($($text)?) $row),*]),*]
+    ($(($($name:literal $length:literal ($($text:literal $long:literal)?) $row:literal),*))*) => {
+        &[$(rooted![$($name $length ($($text $long)?) $row),*]),*]
     };
 }
 
 macro_rules! keyed {
-    ($($key:literal ($($value:literal)?) $row:literal),*) => {
+    ($($key:literal $length:literal ($($value:literal $long:literal)?) $row:literal),*) => {
         &[$(Keyed {
             row: $row,
-            key: $key,
-            value: text!($($value)?),
+            key: span!($key $length),
+            value: text!($($value $long)?),
         }),*]
     };
 }
@@ -148,8 +151,8 @@ macro_rules! text {
     () => {
         None
     };
-    ($text:literal) => {
-        Some($text)
+    ($text:literal $length:literal) => {
+        Some(span!($text $length))
     };
 }
 
@@ -174,7 +177,16 @@ pub(crate) mod search;
 pub use generated::FURTHER_COUNT;
 use generated::{
     BESIDE, ENTRIES, LED_ENTRIES, LED_SPOTS, LED_STARTS, SPOTS, STARTS, TEXTS, TOLD, told_below,
+    told_texts,
 };
+
+/// The text at a span of those by which rows are told.
+#[inline(always)]
+fn told_by(span: Span) -> &'static [u8]
+    ensures { result.now ≡ told_by span }
+{
+    stretch(told_texts(), span)
+}
 
 /// How the rows below this built-in row are told: in a way by which just those are found that widen its answer.
 #[inline(always)]

@@ -126,6 +126,8 @@ macro_rules! rows {
     };
 }
 
+pub(crate) use span;
+
 mod generated;
 mod relations;
 

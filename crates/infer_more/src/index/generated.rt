@@ -1,15 +1,28 @@
 //! Made by `tools/tables` from the further rows, the lists of the index: a place, a byte there, and a row, or a name and a
 //! row. Those below each built-in row stand in its order, but for those that are found by names, which have lists of their
 //! own.
-ghost use Rattle.std.specs.Prelude.{[], ◌∷◌};
-ghost use Rattle.infer_more.specs.Index.{AreWaysBelow, IsWayBelow};
+ghost use Rattle.std.specs.Prelude.{◌≡◌, [], ◌∷◌};
+ghost use Rattle.infer_more.specs.Index.{AreWaysBelow, IsWayBelow, told_texts};
 
 use crate::index::Below::{ClassIds, Entries, Nothing, Packages, Programs, Roots, Tagged};
 use crate::index::search::below_at;
 use crate::index::{Below, Entry, Keyed, Named, Rooted, Spot, Texts, Told};
+use crate::listed::{Span, span};
 
 /// How many further rows there are.
 pub const FURTHER_COUNT: usize = 931;
+
+/// The texts by which rows are told.
+static TOLD_TEXTS: &[u8] =
+    b"word/xl/ppt/visio/3D/\x84\x10\x0C\0\0\0\0\0\xC0\0\0\0\0\0\0F\x0B\r\x02\0\0\0\0\0\xC0\0\0\0\0\0\0F\x01\x12\x02\0\0\0\0\0\0\xC0\0\0\0\0\0F\x11\x1A\x02\0\0\0\0\0\xC0\0\0\0\0\0\0F\x14\x1A\x02\0\0\0\0\0\xC0\0\0\0\0\0\0F\xD1\xF9\x0C\xC2\xAE\x85\xD1\x11\xAA\xB4\0`\x97\xDAV\x1A:\x8F\xB7t\xC8\xC8\xD1\x11\xBE\x11\0\xC0O\xB6\xFA\xF1\0gaVT\xC1\xCE\x11\x85S\0\xAA\0\xA1\xF9[b\xFE.@\x99\x19\x1B\x10\x99\xAE\x04\x02\x1C\0p\x02\x13\x1A\x02\0\0\0\0\0\xC0\0\0\0\0\0\0FsvgCOLLADAFictionBookFeatureCollectionhttp://www.opengis.net/gmlMPDOntologyhttp://www.w3.org/2002/07/owl#Projecthttp://schemas.microsoft.com/developer/msbuild/2003Sdk=RDFhttp://purl.org/rss/1.0/http://www.w3.org/1999/02/22-rdf-syntax-ns#SCRIBUSUTF8NEWTSTEIhttp://www.tei-c.org/ns/1.0UIversion=Workbookhttp://www.gnumeric.org/v10.dtdX3DXMIamfarticlehttp://docbook.org/ns/docbookabiwordaudacityprojectchapterbusconfigcomponenttype=cmlcatmetadatadocumentapplication/vnd.oasis.opendocument.textdefinitionshttp://schemas.xmlsoap.org/wsdl/descriptionhttp://www.w3.org/ns/wsdldiagramhttp://www.lysator.liu.se/~alla/dia/application/vnd.oasis.opendocument.spreadsheetapplication/vnd.oasis.opendocument.presentationapplication/vnd.oasis.opendocument.graphicscom.apple.InterfaceBuilder3feedhttp://www.w3.org/2005/Atomgpxgrammarhttp://relaxng.org/ns/structure/1.0glade-interfacefontconfiggresourcesgnc-v2htmlhttp://www.w3.org/1999/xhtmlkmljnlpmetalinkurn:ietf:params:xml:ns:metalinkmodelhttp://schemas.microsoft.com/3dmanufacturingmuseScoremathmime-infohttp://www.freedesktop.org/standards/shared-mime-infomoleculehttp://www.xml-cml.org/schemaldmlopmlnzbncxnodename=osmplistpackagehttp://www.idpf.org/2007/opfhttp://maven.apache.org/POM/4.0.0playlisthttp://xspf.org/ns/0/http://audacity.sourceforge.net/xml/pkgmetadatasparqlhttp://www.w3.org/2005/sparql-results#shapehttp://www.daa.com.au/~james/dia-shape-nsstylesheethttp://www.w3.org/1999/XSL/Transformhttp://www.w3.org/2001/XMLSchemahttp://purl.oclc.org/dsdl/schematronscore-partwisescore-timewiserefentrysectionsetschemalistsmilsitemapindexsbmlsupplementalDatattFonttransformhttp://www.w3.org/ns/ttmlurlsetwordDocumenthttp://schemas.microsoft.com/office/word/2003/wordmlxliffxbelxmpmetaxkbConfigRegistryawkbuncjsclispcshcsicljclojuredenodartexpecteclexeclinebelixirfishgawkgjsguilegoshgroovygnuplotgmakegsedjrubyjulialualuajitlittlerluatexmawknodejsnawknftocamlocamlscriptocamlrunoctaveoctave-clipythonpypyperlphppwshpowershellqjsqmlqmlscenerhinorakurakudoracketRscriptrunhaskellrunghcsbclschemescalastackstaptclshtcshtexluautopwishASXAsxSAMIRCCasxhttp://www.w3.org/1998/Math/MathMLsamicellsPointPolygonLineStringMultiPolygonGeometryCollectionbomFormatasset$schemahttps://json-schema.org/draft/2020-12/schemahttps://json-schema.org/draft/2019-09/schemahttp://json-schema.org/draft-07/schema#http://json-schema.org/draft-06/schema#http://json-schema.org/draft-04/schema#http://json-schema.org/draft-03/schema#http://json-schema.org/schema#";
+
+#[tactic(auto, unfolding(crate::specs::Index::told_texts))]
+#[inline(always)]
+pub(super) fn told_texts() -> &'static [u8]
+    ensures { result.now ≡ told_texts }
+{
+    TOLD_TEXTS
+}
 
 static BELOW_21: Below = Tagged(
     entries![262 0x59 752, 11 0x49 753],
@@ -28,7 +41,7 @@ fn below_21() -> &'static Below
 
 static BELOW_67: Below = Packages(
     entries![37 0x4D 4, 39 0x63 4, 3 0x04 5, 38 0x2F 6, 81 0x50 12, 76 0x6D 13, 56 0x61 14, 73 0x63 140, 76 0x70 141, 62 0x77 142, 55 0x62 143, 53 0x63 144, 54 0x76 145, 38 0x78 146, 35 0x6A 147, 3 0x04 148, 78 0x4B 319, 55 0x61 320, 65 0x63 321, 65 0x77 322, 64 0x70 323, 53 0x2E 324, 56 0x6D 325, 56 0x6F 326, 53 0x70 327, 54 0x70 328, 40 0x70 329, 38 0x63 330, 41 0x2E 331, 40 0x6D 332, 3 0x04 333, 3 0x04 334],
-    named![b"word/" 7, b"xl/" 8, b"ppt/" 9, b"visio/" 10, b"3D/" 11],
+    named![0 5 7, 5 3 8, 8 4 9, 12 6 10, 18 3 11],
 );
 
 /// How the rows below built-in row 67 are told.
@@ -41,7 +54,7 @@ fn below_67() -> &'static Below
 
 static BELOW_93: Below = ClassIds(
     entries![15 0x4D 754],
-    named![b"\x84\x10\x0C\0\0\0\0\0\xC0\0\0\0\0\0\0F" 19, b"\x0B\r\x02\0\0\0\0\0\xC0\0\0\0\0\0\0F" 20, b"\x01\x12\x02\0\0\0\0\0\0\xC0\0\0\0\0\0F" 21, b"\x11\x1A\x02\0\0\0\0\0\xC0\0\0\0\0\0\0F" 22, b"\x14\x1A\x02\0\0\0\0\0\xC0\0\0\0\0\0\0F" 22, b"\xD1\xF9\x0C\xC2\xAE\x85\xD1\x11\xAA\xB4\0`\x97\xDAV\x1A" 153, b":\x8F\xB7t\xC8\xC8\xD1\x11\xBE\x11\0\xC0O\xB6\xFA\xF1" 335, b"\0gaVT\xC1\xCE\x11\x85S\0\xAA\0\xA1\xF9[" 336, b"b\xFE.@\x99\x19\x1B\x10\x99\xAE\x04\x02\x1C\0p\x02" 337, b"\x13\x1A\x02\0\0\0\0\0\xC0\0\0\0\0\0\0F" 739],
+    named![21 16 19, 37 16 20, 53 16 21, 69 16 22, 85 16 22, 101 16 153, 117 16 335, 133 16 336, 149 16 337, 165 16 739],
 );
 
 /// How the rows below built-in row 93 are told.
@@ -53,7 +66,7 @@ fn below_93() -> &'static Below
 }
 
 static BELOW_95: Below = Roots(
-    roots![() () () () () () () () () () () () () () () () () () () () () () () () () (b"svg" () 54) () () () () () ()],
+    roots![() () () () () () () () () () () () () () () () () () () () () () () () () (181 3 () 54) () () () () () ()],
 );
 
 /// How the rows below built-in row 95 are told.
@@ -65,7 +78,7 @@ fn below_95() -> &'static Below
 }
 
 static BELOW_96: Below = Roots(
-    roots![() (b"COLLADA" () 677) () (b"FictionBook" () 177, b"FeatureCollection" (b"http://www.opengis.net/gml") 703) () () (b"MPD" () 707) (b"Ontology" (b"http://www.w3.org/2002/07/owl#") 180) (b"Project" (b"http://schemas.microsoft.com/developer/msbuild/2003") 690, b"Project" (b"Sdk=") 690) (b"RDF" (b"http://purl.org/rss/1.0/") 48, b"RDF" (b"http://www.w3.org/1999/02/22-rdf-syntax-ns#") 702, b"SCRIBUSUTF8NEW" () 718) (b"TS" () 179, b"TEI" (b"http://www.tei-c.org/ns/1.0") 687, b"UI" (b"version=") 693) (b"Workbook" (b"http://www.gnumeric.org/v10.dtd") 712) (b"X3D" () 678, b"XMI" () 701) () () () (b"amf" () 679, b"article" (b"http://docbook.org/ns/docbook") 686, b"abiword" () 710, b"audacityproject" () 723) (b"book" (b"http://docbook.org/ns/docbook") 686, b"chapter" (b"http://docbook.org/ns/docbook") 686, b"busconfig" () 694, b"component" (b"type=") 699, b"cml" () 722, b"catmetadata" () 725) (b"document" (b"application/vnd.oasis.opendocument.text") 186, b"definitions" (b"http://schemas.xmlsoap.org/wsdl/") 676, b"description" (b"http://www.w3.org/ns/wsdl") 676, b"diagram" (b"http://www.lysator.liu.se/~alla/dia/") 711, b"document" (b"application/vnd.oasis.opendocument.spreadsheet") 714, b"document" (b"application/vnd.oasis.opendocument.presentation") 715, b"document" (b"application/vnd.oasis.opendocument.graphics") 716, b"document" (b"com.apple.InterfaceBuilder3") 724) (b"feed" (b"http://www.w3.org/2005/Atom") 49, b"gpx" () 51, b"grammar" (b"http://relaxng.org/ns/structure/1.0") 674, b"glade-interface" () 692, b"fontconfig" () 696, b"gresources" () 698, b"gnc-v2" () 717) (b"html" (b"http://www.w3.org/1999/xhtml") 52, b"interface" () 178) (b"kml" () 50, b"jnlp" () 184) (b"metalink" (b"urn:ietf:params:xml:ns:metalink") 182, b"model" (b"http://schemas.microsoft.com/3dmanufacturing") 680, b"museScore" () 682, b"math" () 683, b"mime-info" (b"http://www.freedesktop.org/standards/shared-mime-info") 700, b"metalink" () 708, b"molecule" (b"http://www.xml-cml.org/schema") 722, b"ldml" () 728) (b"opml" () 176, b"nzb" () 183, b"ncx" () 689, b"node" (b"name=") 695, b"osm" () 704) (b"plist" () 53, b"package" (b"http://www.idpf.org/2007/opf") 688, b"project" (b"http://maven.apache.org/POM/4.0.0") 691, b"playlist" (b"http://xspf.org/ns/0/") 705, b"project" (b"http://audacity.sourceforge.net/xml/") 723, b"pkgmetadata" () 726) (b"svg" () 47, b"rss" () 48, b"sparql" (b"http://www.w3.org/2005/sparql-results#") 181, b"shape" (b"http://www.daa.com.au/~james/dia-shape-ns") 185, b"stylesheet" (b"http://www.w3.org/1999/XSL/Transform") 672, b"schema" (b"http://www.w3.org/2001/XMLSchema") 673, b"schema" (b"http://purl.oclc.org/dsdl/schematron") 675, b"score-partwise" () 681, b"score-timewise" () 681, b"refentry" () 686, b"section" (b"http://docbook.org/ns/docbook") 686, b"set" (b"http://docbook.org/ns/docbook") 686, b"schemalist" () 697, b"smil" () 706, b"sitemapindex" () 720, b"sbml" () 721, b"supplementalData" () 728) (b"ttFont" () 187, b"transform" (b"http://www.w3.org/1999/XSL/Transform") 672, b"tt" (b"http://www.w3.org/ns/ttml") 684, b"ui" (b"version=") 693, b"urlset" () 720) (b"wordDocument" (b"http://schemas.microsoft.com/office/word/2003/wordml") 713) (b"xliff" () 685, b"xbel" () 709, b"xmpmeta" () 719, b"xkbConfigRegistry" () 727) () () ()],
+    roots![() (184 7 () 677) () (191 11 () 177, 202 17 (219 26) 703) () () (245 3 () 707) (248 8 (256 30) 180) (286 7 (293 51) 690, 286 7 (344 4) 690) (348 3 (351 24) 48, 348 3 (375 43) 702, 418 14 () 718) (432 2 () 179, 434 3 (437 27) 687, 464 2 (466 8) 693) (474 8 (482 31) 712) (513 3 () 678, 516 3 () 701) () () () (519 3 () 679, 522 7 (529 29) 686, 558 7 () 710, 565 15 () 723) (478 4 (529 29) 686, 580 7 (529 29) 686, 587 9 () 694, 596 9 (605 5) 699, 610 3 () 722, 613 11 () 725) (624 8 (632 39) 186, 671 11 (682 32) 676, 714 11 (725 25) 676, 750 7 (757 36) 711, 624 8 (793 46) 714, 624 8 (839 47) 715, 624 8 (886 43) 716, 624 8 (929 27) 724) (956 4 (960 27) 49, 987 3 () 51, 990 7 (997 35) 674, 1032 15 () 692, 1047 10 () 696, 1057 10 () 698, 1067 6 () 717) (1073 4 (1077 28) 52, 1038 9 () 178) (1105 3 () 50, 1108 4 () 184) (1112 8 (1120 31) 182, 1151 5 (1156 44) 680, 1200 9 () 682, 1209 4 () 683, 1213 9 (1222 53) 700, 1112 8 () 708, 1275 8 (1283 29) 722, 1312 4 () 728) (1316 4 () 176, 1320 3 () 183, 1323 3 () 689, 1326 4 (1330 5) 695, 1335 3 () 704) (1338 5 () 53, 1343 7 (1350 28) 688, 573 7 (1378 33) 691, 1411 8 (1419 21) 705, 573 7 (1440 36) 723, 1476 11 () 726) (181 3 () 47, 367 3 () 48, 1487 6 (1493 38) 181, 1531 5 (1536 41) 185, 1577 10 (1587 36) 672, 300 6 (1623 32) 673, 300 6 (1655 36) 675, 1691 14 () 681, 1705 14 () 681, 1719 8 () 686, 1727 7 (529 29) 686, 1734 3 (529 29) 686, 1737 10 () 697, 1747 4 () 706, 1751 12 () 720, 1763 4 () 721, 1767 16 () 728) (1783 6 () 187, 1789 9 (1587 36) 672, 220 2 (1798 25) 684, 335 2 (466 8) 693, 1823 6 () 720) (1829 12 (1841 52) 713) (1893 5 () 685, 1898 4 () 709, 1902 7 () 719, 1909 17 () 727) () () ()],
 );
 
 /// How the rows below built-in row 96 are told.
@@ -78,7 +91,7 @@ fn below_96() -> &'static Below
 
 static BELOW_97: Below = Programs(
     entries![33 0x76 755, 7 0x42 756],
-    buckets![() (b"awk" 45) (b"bun" 42) (b"cjs" 165, b"clisp" 173, b"csh" 298, b"csi" 301, b"clj" 302, b"clojure" 302) (b"deno" 42, b"dart" 174) (b"expect" 46, b"escript" 170, b"ecl" 173, b"execlineb" 314, b"elixir" 317) (b"fish" 299) (b"gawk" 45, b"gjs" 165, b"guile" 301, b"gosh" 301, b"groovy" 303, b"gnuplot" 310, b"gmake" 311, b"gsed" 312) () () (b"jruby" 41, b"julia" 308) () (b"lua" 44, b"luajit" 44, b"littler" 300, b"luatex" 315) (b"mawk" 45, b"make" 311) (b"node" 42, b"nodejs" 42, b"nawk" 45, b"nft" 175) (b"ocaml" 305, b"ocamlscript" 305, b"ocamlrun" 306, b"octave" 309, b"octave-cli" 309) (b"python" 39, b"pypy" 39, b"perl" 40, b"php" 43, b"pwsh" 316, b"powershell" 316) (b"qjs" 165, b"qml" 166, b"qmlscene" 166) (b"ruby" 41, b"rhino" 165, b"raku" 171, b"rakudo" 171, b"racket" 172, b"Rscript" 300, b"r" 300, b"runhaskell" 307, b"runghc" 307) (b"sbcl" 173, b"scheme" 301, b"scala" 304, b"stack" 307, b"sed" 312, b"stap" 313) (b"tclsh" 46, b"tcsh" 298, b"texlua" 315) (b"utop" 305) () (b"wish" 46) () () () () () () () ()],
+    buckets![() (1926 3 45) (1929 3 42) (1932 3 165, 1935 5 173, 1940 3 298, 1943 3 301, 1946 3 302, 1949 7 302) (1956 4 42, 1960 4 174) (1964 6 46, 715 7 170, 1970 3 173, 1973 9 314, 1982 6 317) (1988 4 299) (1992 4 45, 1996 3 165, 1999 5 301, 2004 4 301, 2008 6 303, 2014 7 310, 2021 5 311, 2026 4 312) () () (2030 5 41, 2035 5 308) () (2040 3 44, 2043 6 44, 2049 7 300, 2056 6 315) (2062 4 45, 2022 4 311) (1326 4 42, 2066 6 42, 2072 4 45, 2076 3 175) (2079 5 305, 2084 11 305, 2095 8 306, 2103 6 309, 2109 10 309) (2119 6 39, 2125 4 39, 2129 4 40, 2133 3 43, 2136 4 316, 2140 10 316) (2150 3 165, 2153 3 166, 2156 8 166) (2031 4 41, 2164 5 165, 2169 4 171, 2173 6 171, 2179 6 172, 2185 7 300, 2 1 300, 2192 10 307, 2202 6 307) (2208 4 173, 2212 6 301, 2218 5 304, 2223 5 307, 2027 3 312, 2228 4 313) (2232 5 46, 2237 4 298, 2241 6 315) (2247 4 305) () (2251 4 46) () () () () () () () ()],
 );
 
 /// How the rows below built-in row 97 are told.
@@ -520,6 +533,6 @@ pub(crate) static TEXTS: Texts = Texts {
 };
 
 pub(super) static TOLD: Told = Told {
-    roots: roots![(b"ASX" () 735, b"Asx" () 735) () () () () () () () (b"Project" (b"http://schemas.microsoft.com/developer/msbuild/2003") 731, b"Project" (b"Sdk=") 731) (b"SAMI" () 190, b"RCC" () 734) () () () () () () (b"asx" () 735) (b"busconfig" () 737) () () () () (b"math" (b"http://www.w3.org/1998/Math/MathML") 189, b"map" (b"version=") 733) (b"node" (b"name=") 736) (b"project" (b"http://maven.apache.org/POM/4.0.0") 732) (b"svg" () 55, b"sami" () 190, b"stylesheet" (b"http://www.w3.org/1999/XSL/Transform") 729, b"schema" (b"http://www.w3.org/2001/XMLSchema") 730, b"smil" () 738) (b"transform" (b"http://www.w3.org/1999/XSL/Transform") 729) () (b"xmpmeta" () 188) () () ()],
-    keys: keyed![b"cells" () 854, b"type" (b"FeatureCollection") 855, b"type" (b"Feature") 855, b"type" (b"Point") 855, b"type" (b"Polygon") 855, b"type" (b"LineString") 855, b"type" (b"MultiPolygon") 855, b"type" (b"GeometryCollection") 855, b"bomFormat" () 856, b"asset" () 857, b"$schema" (b"https://json-schema.org/draft/2020-12/schema") 858, b"$schema" (b"https://json-schema.org/draft/2019-09/schema") 858, b"$schema" (b"http://json-schema.org/draft-07/schema#") 858, b"$schema" (b"http://json-schema.org/draft-06/schema#") 858, b"$schema" (b"http://json-schema.org/draft-04/schema#") 858, b"$schema" (b"http://json-schema.org/draft-03/schema#") 858, b"$schema" (b"http://json-schema.org/schema#") 858],
+    roots: roots![(2255 3 () 735, 2258 3 () 735) () () () () () () () (286 7 (293 51) 731, 286 7 (344 4) 731) (2261 4 () 190, 2265 3 () 734) () () () () () () (2268 3 () 735) (587 9 () 737) () () () () (1209 4 (2271 34) 189, 1755 3 (466 8) 733) (1326 4 (1330 5) 736) (573 7 (1378 33) 732) (181 3 () 55, 2305 4 () 190, 1577 10 (1587 36) 729, 300 6 (1623 32) 730, 1747 4 () 738) (1789 9 (1587 36) 729) () (1902 7 () 188) () () ()],
+    keys: keyed![2309 5 () 854, 605 4 (202 17) 855, 605 4 (202 7) 855, 605 4 (2314 5) 855, 605 4 (2319 7) 855, 605 4 (2326 10) 855, 605 4 (2336 12) 855, 605 4 (2348 18) 855, 2366 9 () 856, 2375 5 () 857, 2380 7 (2387 44) 858, 2380 7 (2431 44) 858, 2380 7 (2475 39) 858, 2380 7 (2514 39) 858, 2380 7 (2553 39) 858, 2380 7 (2592 39) 858, 2380 7 (2631 30) 858],
 };

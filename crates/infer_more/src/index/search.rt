@@ -7,14 +7,14 @@ ghost use Rattle.infer_formats.specs.FirstKey.{StandsFirst};
 ghost use Rattle.infer_formats.specs.Json.{IsBlank, IsJson, IsJsonLines};
 ghost use Rattle.infer_formats.specs.Tiff.{HasTag};
 ghost use Rattle.infer_formats.specs.Zip.{IsPackageWith};
-ghost use Rattle.infer_more.specs.Index.{AllApplications, AreClassIds, FindsBelow, HasKeyValue, HasTagText, IsFoundBelow, IsKeyed, IsKeyedBy, IsLeast, IsNamed, IsOfProgram, IsRooted, IsRootedBy, IsTextRow, IsTold, IsTried, IsWayBelow, MayBeTold, all_ascend, all_of, are_texts, ascends, below_at, bucket_at, bucket_of, candidate, candidates, has_byte, is_true_below, keyed_row, named_row, picked, rooted_row, roots_of, tried_at};
+ghost use Rattle.infer_more.specs.Index.{AllApplications, AreClassIds, FindsBelow, HasKeyValue, HasTagText, IsFoundBelow, IsKeyed, IsKeyedBy, IsLeast, IsNamed, IsOfProgram, IsRooted, IsRootedBy, IsTextRow, IsTold, IsTried, IsWayBelow, MayBeTold, all_ascend, all_of, are_texts, ascends, below_at, bucket_at, bucket_of, candidate, candidates, has_byte, is_true_below, keyed_row, named_row, picked, rooted_row, roots_of, told_by, tried_at};
 ghost use Rattle.infer_more.specs.Listed.{stretch};
 ghost use Rattle.infer_more.specs.Wider.{IsWidened, WidensAt};
 ghost use Rattle.infer_more.specs.declared.index.generated.TheConstants.{FURTHER_COUNT};
 
 use crate::index::{
     Below, Entry, FURTHER_COUNT, Keyed, Named, Parentless, Rooted, Spot, Texts, Told,
-    law_finds_parentless, told_without_parent, way_below, without_parent,
+    law_finds_parentless, told_by, told_without_parent, way_below, without_parent,
 };
 use crate::listed::{self, stretch};
 use crate::table::widens;
@@ -302,14 +302,14 @@ fn least_key(keys: &[Keyed], buf: &[u8], before: usize) -> usize
 /// Whether the key is the row's, and its value too.
 #[inline(always)]
 fn is_keyed(keyed: &Keyed, key: &Key<'_>) -> bool
-    ensures { IsTrue result ↔ (keyed.now.key.now ≡ key.now.text.now)
+    ensures { IsTrue result ↔ (told_by keyed.now.key ≡ key.now.text.now)
         × HasKeyValue key.now.rest.now keyed.now.value }
 {
-    if key.text != keyed.key {
+    if key.text != told_by(keyed.key) {
         return false;
     }
     match keyed.value {
-        Some(value) => key.has_value(value),
+        Some(value) => key.has_value(told_by(value)),
         None => true,
     }
 }
@@ -355,9 +355,9 @@ fn least_parentless(buf: &[u8]) -> usize
 }
 
 fn is_named(named: &Named, name: &[u8]) -> bool
-    ensures { IsTrue result ↔ (named.now.name.now ≡ name.now) }
+    ensures { IsTrue result ↔ (told_by named.now.name ≡ name.now) }
 {
-    named.name == name
+    told_by(named.name) == name
 }
 
 /// The least of the number before and of the rows with this name, which is that of the first.
@@ -426,7 +426,7 @@ fn least_folder_at(folders: &[Named], buf: &[u8], place: usize, before: usize) -
         result }
 {
     for named in folders {
-        if stands_at(buf, named.name, place) {
+        if stands_at(buf, told_by(named.name), place) {
             return before.min(usize::from(named.row));
         }
     }
@@ -449,14 +449,14 @@ fn least_folder(folders: &[Named], buf: &[u8], before: usize) -> usize
 /// Whether the root element has the row's name, and its text in the tag.
 #[inline(always)]
 fn is_rooted(rooted: &Rooted, root: &Root<'_>) -> bool
-    ensures { IsTrue result ↔ (rooted.now.name.now ≡ root.now.name.now)
+    ensures { IsTrue result ↔ (told_by rooted.now.name ≡ root.now.name.now)
         × HasTagText root.now.rest.now rooted.now.text }
 {
-    if root.name != rooted.name {
+    if root.name != told_by(rooted.name) {
         return false;
     }
     match rooted.text {
-        Some(text) => root.has_in_tag(text),
+        Some(text) => root.has_in_tag(told_by(text)),
         None => true,
     }
 }
