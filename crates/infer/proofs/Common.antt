@@ -15,14 +15,14 @@ pub use Rattle.infer.specs.Laws.{IsSteady, OnlyFarRowsFollow, ReadersAreAlike}
 pub use Rattle.infer.specs.Laws.{answers_far}
 unfoldable pub use Rattle.infer.specs.Leads.{candidates}
 pub use Rattle.infer.specs.Leads.{candidates_of, Leads, allows_first, numbers_from}
-pub use Rattle.infer.specs.Listed.{number_of, buffer_listed, row_listed}
+pub use Rattle.infer.specs.Listed.{number_of, row_listed}
 unfoldable pub use Rattle.infer.specs.Matchers.{signatures, is_far_row}
 pub use Rattle.infer.specs.Matchers.{OthersAreNear}
 pub use Rattle.infer_deep.specs.Signatures.{Lasts, IsNear}
 pub use Rattle.infer.specs.Questions.{HasClass, HasExtension, HasMimeType, IsAsked, SomeBoth}
 pub use Rattle.infer.specs.Row.{Accepts, Row, shows}
 pub use Rattle.infer.specs.Rows.{custom_rows, AnyAccepts, kept_row, rows, custom_row, Signature}
-pub use Rattle.infer.specs.Samples.{sample_of, zeros, HoldsSample, put, padded}
+pub use Rattle.infer.specs.Samples.{sample_of, zeros, HoldsSample, put}
 unfoldable pub use Rattle.infer.specs.Table.{table, signature_of}
 pub use Rattle.infer.specs.Table.{row}
 pub use Rattle.infer.specs.Triple.{Triple, triple_of}

@@ -1,9 +1,10 @@
 -- Each built-in row but two is first for its sample.
-use Rattle.infer.proofs.Common.{◌≡◌, ◌<◌, ◌-◌, ◌⊎◌, ℕ, List, Some, map, get_or, length, sym, ap, take, refl, subst, ◌∙◌, arith, HoldsAt, length-map, take_at, le16, le32, be32, stands, BuiltIn, IsFirst, Row, Accepts, buffer_listed, HoldsSample, padded, sample_of, zeros, table, DLL, EPUB_ARCHIVE, ROW_COUNT}
-use Rattle.std.proofs.lemmas.List.{get_or-map}
+use Rattle.infer.proofs.Common.{◌≡◌, ◌<◌, ◌+◌, ◌-◌, ◌++◌, ◌⊎◌, ℕ, List, Some, map, get_or, length, sym, ap, drop, take, refl, subst, ◌∙◌, arith, HoldsAt, length-map, take_at, le16, le32, be32, stands, BuiltIn, IsFirst, Row, Accepts, HoldsSample, put, sample_of, zeros, table, DLL, EPUB_ARCHIVE, ROW_COUNT}
+use Rattle.std.proofs.lemmas.List.{drop-replicate, get_or-map}
 use Rattle.infer.specs.declared.samples.TheConstants.{SAMPLE_SIZE}
 use Rattle.infer_deep.specs.Laws as Deep
-use Rattle.infer.specs.declared.table.built_in.Pieces.{Pieces}
+use Rattle.infer.specs.declared.samples.Span.{Span}
+use Rattle.infer.specs.Listed.{sample_at}
 use Rattle.infer_sig.proofs.KnownLemmas.{Known, same, either, each_known}
 use Rattle.infer.proofs.OrderLemmas.{known_first, some_row}
 use Rattle.infer_sig.proofs.OccurrenceLemmas.{ByPlace}
@@ -25,10 +26,14 @@ agree_at : {A B C : Type 0} (f : A → C) (g : B → C) (xs : List A) (ys : List
     → (i : ℕ) (a : A) (b : B) → i < length ys → f (get_or xs i a) ≡ g (get_or ys i b)
 agree_at f g xs ys e i a b lt = grind (arith, get_or-map f xs i a (f a), length-map xs f, length-map ys g, get_or-map g ys i b (f a) lt)
 
-pub pieces_hold : (xs : List Pieces) → map buffer_listed xs ≡ map padded table
-    → map (λ p. p.len) xs ≡ map (λ r. length (sample_of r.signature)) table → (i : ℕ) → i < ROW_COUNT
-    → (p : Pieces) → HoldsAt (HoldsSample (get_or xs i p).len (buffer_listed (get_or xs i p))) table i
-pieces_hold xs buffers lengths i lt p d = grind (arith, length-table, agree_at)
+pub spans_hold : (text : List ℕ) (xs : List Span) → map (sample_at text) xs ≡ map (λ r. sample_of r.signature) table → (i : ℕ) → i < ROW_COUNT
+    → (s : Span) → HoldsAt (λ r. sample_at text (get_or xs i s) ≡ sample_of r.signature) table i
+spans_hold text xs same i lt s d = grind (arith, length-table, agree_at)
+
+pub sample_holds : (i : ℕ) (text : List ℕ) → HoldsAt (λ r. text ≡ sample_of r.signature) table i → HoldsAt (HoldsSample (length text) (put 0 text (zeros SAMPLE_SIZE))) table i
+sample_holds i text is d =
+    let left : drop (0 + length text) (zeros SAMPLE_SIZE) ≡ zeros (SAMPLE_SIZE - length text) = drop-replicate (0 + length text) SAMPLE_SIZE 0 ∙ ap zeros (omega arith) in
+    (ap length (is d), ap (λ rest. text ++ rest) left ∙ ap (λ t. t ++ zeros (SAMPLE_SIZE - length text)) (is d))
 
 -- the front of what is written is the sample
 pub written_first : (i n : ℕ) (buf : List ℕ) → i < ROW_COUNT → HoldsAt (HoldsSample n buf) table i

@@ -62,10 +62,6 @@ sample_of ppt = class_sample powerpoint_id
 sample_of html = codes "<P>"
 sample_of xml = codes "<?xml"
 
--- the row's sample with zeros after it, as many bytes as the longest sample has
-abbrev pub padded : Row BuiltIn → List ℕ
-padded r = sample_of r.signature ++ zeros (SAMPLE_SIZE - length (sample_of r.signature))
-
 -- the buffer begins with the n bytes of the row's sample, and has zeros after it
 abbrev pub HoldsSample : ℕ → List ℕ → Row BuiltIn → Type 0
 HoldsSample n buf r = (n ≡ length (sample_of r.signature)) × (buf ≡ sample_of r.signature ++ zeros (SAMPLE_SIZE - n))

@@ -1,47 +1,65 @@
 //! A sample of each built-in row: a short buffer that has it as its first.
-ghost use Rattle.std.specs.Prelude.{◌≡◌, ◌+◌, ◌<◌, ◌≤◌, ◌⊎◌, ◌↔◌, IfNone, IfSome, IsNone, IsTrue, length, take};
-ghost use Rattle.std.specs.List.{HoldsAt};
+ghost use Rattle.std.specs.Prelude.{◌≡◌, ◌<◌, ◌≤◌, ◌⊎◌, ◌↔◌, IfNone, IfSome, IsNone, IsTrue, length, map, take};
+ghost use Rattle.std.specs.List.{HoldsAt, list_all};
 ghost use Rattle.infer.specs.First.{IsFirst};
 ghost use Rattle.infer.specs.Row.{Accepts};
-ghost use Rattle.infer.specs.Listed.{buffer_listed, is_inside};
-ghost use Rattle.infer.specs.Samples.{HoldsSample, put};
+ghost use Rattle.infer.specs.Listed.{is_inside, sample_at};
+ghost use Rattle.infer.specs.Samples.{HoldsSample, put, sample_of, zeros};
 ghost use Rattle.infer.specs.Table.{table};
 ghost use Rattle.infer.specs.declared.samples.TheConstants.{SAMPLE_SIZE};
 
 use crate::laws;
-use crate::table::built_in::{Pieces, samples};
 use crate::table::rows::{DLL, EPUB_ARCHIVE, ROW_COUNT};
 
 /// The length of the longest sample.
 pub const SAMPLE_SIZE: usize = 640;
 
-/// The sample of row `i`, in pieces.
-fn of_row(i: usize) -> &'static Pieces
+/// Where a sample begins in the text of all, and where it ends.
+pub(crate) struct Span {
+    pub start: usize,
+    pub end: usize,
+}
+
+macro_rules! spans {
+    ($($start:literal $end:literal),*) => {
+        [$(Span {
+            start: $start,
+            end: $end,
+        }),*]
+    };
+}
+
+mod generated;
+
+use generated::{SPANS, TEXT};
+
+/// The text of all samples, and where that of each row stands.
+#[tactic(auto, unfolding(crate::specs::Table::table))]
+fn samples() -> (&'static [u8], &'static [Span; ROW_COUNT])
+    ensures is { map (sample_at result.0.now) result.1.now ≡ map (λ r. sample_of r.signature) table }
+    ensures inside { IsTrue (list_all (is_inside (length result.0.now)) result.1.now) }
+{
+    (TEXT, &SPANS)
+}
+
+/// The sample of row `i`.
+fn of_row(i: usize) -> &'static [u8]
     requires { i < ROW_COUNT }
-    ensures holds { HoldsAt (HoldsSample result.now.len (buffer_listed result.now)) table i }
-    ensures inside { IsTrue (is_inside result.now) }
+    ensures is { HoldsAt (λ r. result.now ≡ sample_of r.signature) table i }
+    ensures fits { length result.now ≤ SAMPLE_SIZE }
 {
-    &samples()[i]
+    let (text, spans) = samples();
+    let span = &spans[i];
+    &text[span.start..span.end]
 }
 
-/// Writes the text over `out`, from the place on.
-fn put(place: usize, text: &[u8], out: &mut [u8])
-    requires { place + length text.now ≤ length out.old }
-    ensures { out.new ≡ put place text.now out.old }
-{
-    out[place..place + text.len()].copy_from_slice(text);
-}
-
-/// Writes the texts over zeros.
-fn write(pieces: &Pieces, out: &mut [u8; SAMPLE_SIZE])
-    requires { IsTrue (is_inside pieces.now) }
-    ensures { out.new ≡ buffer_listed pieces.now }
+/// Writes the text over zeros.
+fn write(text: &[u8], out: &mut [u8; SAMPLE_SIZE])
+    requires { length text.now ≤ SAMPLE_SIZE }
+    ensures { out.new ≡ put 0 text.now (zeros SAMPLE_SIZE) }
 {
     *out = [0; SAMPLE_SIZE];
-    put(0, pieces.front, out);
-    if let Some(piece) = &pieces.later {
-        put(piece.place, piece.text, out);
-    }
+    out[..text.len()].copy_from_slice(text);
 }
 
 /// Writes the sample of the built-in row `i` to the front of `out`, and zeros after it, and gives its length.
@@ -60,7 +78,7 @@ pub fn sample(i: usize, out: &mut [u8; SAMPLE_SIZE]) -> Option<usize>
     }
     // Tells that row `i` is the first that accepts the sample.
     laws::reach();
-    let pieces = of_row(i);
-    write(pieces, out);
-    Some(pieces.len)
+    let text = of_row(i);
+    write(text, out);
+    Some(text.len())
 }

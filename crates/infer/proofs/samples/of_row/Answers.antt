@@ -1,5 +1,5 @@
-use Rattle.infer.proofs.SampleLemmas.{pieces_hold}
+use Rattle.infer.proofs.SampleLemmas.{spans_hold}
 use Rattle.infer.proofs.samples.of_row.Goals as goal
 
-pub returns-clause-holds : goal.returns-clause-holds
-returns-clause-holds c = pieces_hold c.samples.result.now c.samples.ensures.buffers c.samples.ensures.lengths c.args.i c.requires _
+pub returns-clause-is : goal.returns-clause-is
+returns-clause-is c = spans_hold c.samples.result.0.now c.samples.result.1.now c.samples.ensures.is c.args.i c.requires _
