@@ -8,7 +8,7 @@ from texts import text_of
 
 RELATIONS = "crates/infer_formats/src/relation.rt"
 # The check of a list takes time quadratic in the references that it holds.
-RELATIONS_OF_A_LIST = 16
+RELATIONS_OF_A_LIST = 32
 # What a call takes stands on one line up to here.
 CALL_WIDTH = 60
 DATA = """//! Made by `tools/tables` from the definitions of the further rows, which the prover compares with them.

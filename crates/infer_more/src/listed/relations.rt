@@ -12,7 +12,7 @@ use infer_formats::relation::Relation::{
 };
 
 /// How many relations stand in a list, but perhaps the last.
-const RELATIONS_OF_A_LIST: usize = 16;
+const RELATIONS_OF_A_LIST: usize = 32;
 
 /// How many relations there are.
 const RELATION_COUNT: usize = 438;
@@ -34,15 +34,6 @@ static RELATIONS_FROM_0: &[Relation<'static>] = &[
     ClassId(*b"\x11\x1A\x02\0\0\0\0\0\xC0\0\0\0\0\0\0F"),
     ClassId(*b"\x14\x1A\x02\0\0\0\0\0\xC0\0\0\0\0\0\0F"),
     DirectoryTag(0xC612),
-];
-
-fn relations_from_0() -> &'static [Relation<'static>]
-    ensures { AreRelations 0 result.now }
-{
-    RELATIONS_FROM_0
-}
-
-static RELATIONS_FROM_16: &[Relation<'static>] = &[
     Animated,
     Program(b"python"),
     Program(b"pypy"),
@@ -61,10 +52,10 @@ static RELATIONS_FROM_16: &[Relation<'static>] = &[
     Program(b"mawk"),
 ];
 
-fn relations_from_16() -> &'static [Relation<'static>]
-    ensures { AreRelations 16 result.now }
+fn relations_from_0() -> &'static [Relation<'static>]
+    ensures { AreRelations 0 result.now }
 {
-    RELATIONS_FROM_16
+    RELATIONS_FROM_0
 }
 
 static RELATIONS_FROM_32: &[Relation<'static>] = &[
@@ -84,15 +75,6 @@ static RELATIONS_FROM_32: &[Relation<'static>] = &[
     Root(b"svg"),
     SubRip,
     Dbase,
-];
-
-fn relations_from_32() -> &'static [Relation<'static>]
-    ensures { AreRelations 32 result.now }
-{
-    RELATIONS_FROM_32
-}
-
-static RELATIONS_FROM_48: &[Relation<'static>] = &[
     TarChecksum,
     FirstEntryIs(b"index.apxl"),
     FirstEntryIs(b"pass.json"),
@@ -111,10 +93,10 @@ static RELATIONS_FROM_48: &[Relation<'static>] = &[
     Program(b"escript"),
 ];
 
-fn relations_from_48() -> &'static [Relation<'static>]
-    ensures { AreRelations 48 result.now }
+fn relations_from_32() -> &'static [Relation<'static>]
+    ensures { AreRelations 32 result.now }
 {
-    RELATIONS_FROM_48
+    RELATIONS_FROM_32
 }
 
 static RELATIONS_FROM_64: &[Relation<'static>] = &[
@@ -134,15 +116,6 @@ static RELATIONS_FROM_64: &[Relation<'static>] = &[
     RootWith(b"sparql", b"http://www.w3.org/2005/sparql-results#"),
     RootWith(b"metalink", b"urn:ietf:params:xml:ns:metalink"),
     Root(b"nzb"),
-];
-
-fn relations_from_64() -> &'static [Relation<'static>]
-    ensures { AreRelations 64 result.now }
-{
-    RELATIONS_FROM_64
-}
-
-static RELATIONS_FROM_80: &[Relation<'static>] = &[
     Root(b"jnlp"),
     RootWith(b"shape", b"http://www.daa.com.au/~james/dia-shape-ns"),
     RootWith(b"document", b"application/vnd.oasis.opendocument.text"),
@@ -161,10 +134,10 @@ static RELATIONS_FROM_80: &[Relation<'static>] = &[
     Program(b"tcsh"),
 ];
 
-fn relations_from_80() -> &'static [Relation<'static>]
-    ensures { AreRelations 80 result.now }
+fn relations_from_64() -> &'static [Relation<'static>]
+    ensures { AreRelations 64 result.now }
 {
-    RELATIONS_FROM_80
+    RELATIONS_FROM_64
 }
 
 static RELATIONS_FROM_96: &[Relation<'static>] = &[
@@ -184,15 +157,6 @@ static RELATIONS_FROM_96: &[Relation<'static>] = &[
     Program(b"ocamlscript"),
     Program(b"utop"),
     Program(b"ocamlrun"),
-];
-
-fn relations_from_96() -> &'static [Relation<'static>]
-    ensures { AreRelations 96 result.now }
-{
-    RELATIONS_FROM_96
-}
-
-static RELATIONS_FROM_112: &[Relation<'static>] = &[
     Program(b"runhaskell"),
     Program(b"runghc"),
     Program(b"stack"),
@@ -211,10 +175,10 @@ static RELATIONS_FROM_112: &[Relation<'static>] = &[
     Program(b"pwsh"),
 ];
 
-fn relations_from_112() -> &'static [Relation<'static>]
-    ensures { AreRelations 112 result.now }
+fn relations_from_96() -> &'static [Relation<'static>]
+    ensures { AreRelations 96 result.now }
 {
-    RELATIONS_FROM_112
+    RELATIONS_FROM_96
 }
 
 static RELATIONS_FROM_128: &[Relation<'static>] = &[
@@ -234,15 +198,6 @@ static RELATIONS_FROM_128: &[Relation<'static>] = &[
     RootWith(b"grammar", b"http://relaxng.org/ns/structure/1.0"),
     RootWith(b"schema", b"http://purl.oclc.org/dsdl/schematron"),
     RootWith(b"definitions", b"http://schemas.xmlsoap.org/wsdl/"),
-];
-
-fn relations_from_128() -> &'static [Relation<'static>]
-    ensures { AreRelations 128 result.now }
-{
-    RELATIONS_FROM_128
-}
-
-static RELATIONS_FROM_144: &[Relation<'static>] = &[
     RootWith(b"description", b"http://www.w3.org/ns/wsdl"),
     Root(b"COLLADA"),
     Root(b"X3D"),
@@ -261,10 +216,10 @@ static RELATIONS_FROM_144: &[Relation<'static>] = &[
     RootWith(b"section", b"http://docbook.org/ns/docbook"),
 ];
 
-fn relations_from_144() -> &'static [Relation<'static>]
-    ensures { AreRelations 144 result.now }
+fn relations_from_128() -> &'static [Relation<'static>]
+    ensures { AreRelations 128 result.now }
 {
-    RELATIONS_FROM_144
+    RELATIONS_FROM_128
 }
 
 static RELATIONS_FROM_160: &[Relation<'static>] = &[
@@ -287,15 +242,6 @@ static RELATIONS_FROM_160: &[Relation<'static>] = &[
     Root(b"schemalist"),
     Root(b"gresources"),
     RootWith(b"component", b"type="),
-];
-
-fn relations_from_160() -> &'static [Relation<'static>]
-    ensures { AreRelations 160 result.now }
-{
-    RELATIONS_FROM_160
-}
-
-static RELATIONS_FROM_176: &[Relation<'static>] = &[
     RootWith(
         b"mime-info",
         b"http://www.freedesktop.org/standards/shared-mime-info",
@@ -326,10 +272,10 @@ static RELATIONS_FROM_176: &[Relation<'static>] = &[
     ),
 ];
 
-fn relations_from_176() -> &'static [Relation<'static>]
-    ensures { AreRelations 176 result.now }
+fn relations_from_160() -> &'static [Relation<'static>]
+    ensures { AreRelations 160 result.now }
 {
-    RELATIONS_FROM_176
+    RELATIONS_FROM_160
 }
 
 static RELATIONS_FROM_192: &[Relation<'static>] = &[
@@ -349,15 +295,6 @@ static RELATIONS_FROM_192: &[Relation<'static>] = &[
     Root(b"pkgmetadata"),
     Root(b"xkbConfigRegistry"),
     Root(b"ldml"),
-];
-
-fn relations_from_192() -> &'static [Relation<'static>]
-    ensures { AreRelations 192 result.now }
-{
-    RELATIONS_FROM_192
-}
-
-static RELATIONS_FROM_208: &[Relation<'static>] = &[
     Root(b"supplementalData"),
     RootWith(b"stylesheet", b"http://www.w3.org/1999/XSL/Transform"),
     RootWith(b"transform", b"http://www.w3.org/1999/XSL/Transform"),
@@ -379,10 +316,10 @@ static RELATIONS_FROM_208: &[Relation<'static>] = &[
     ClassId(*b"\x13\x1A\x02\0\0\0\0\0\xC0\0\0\0\0\0\0F"),
 ];
 
-fn relations_from_208() -> &'static [Relation<'static>]
-    ensures { AreRelations 208 result.now }
+fn relations_from_192() -> &'static [Relation<'static>]
+    ensures { AreRelations 192 result.now }
 {
-    RELATIONS_FROM_208
+    RELATIONS_FROM_192
 }
 
 static RELATIONS_FROM_224: &[Relation<'static>] = &[
@@ -402,15 +339,6 @@ static RELATIONS_FROM_224: &[Relation<'static>] = &[
     TextFirst(b"[Playlist]"),
     TextFirst(b"[PLAYLIST]"),
     TextFirstWith(b"[Reference]", b"Ref1="),
-];
-
-fn relations_from_224() -> &'static [Relation<'static>]
-    ensures { AreRelations 224 result.now }
-{
-    RELATIONS_FROM_224
-}
-
-static RELATIONS_FROM_240: &[Relation<'static>] = &[
     TextFirstWith(b"[Address]", b"NSC Format"),
     TextFirst(b"[gd_scene "),
     TextFirst(b"[gd_resource "),
@@ -429,10 +357,10 @@ static RELATIONS_FROM_240: &[Relation<'static>] = &[
     TextFirst(b"#FIG 1."),
 ];
 
-fn relations_from_240() -> &'static [Relation<'static>]
-    ensures { AreRelations 240 result.now }
+fn relations_from_224() -> &'static [Relation<'static>]
+    ensures { AreRelations 224 result.now }
 {
-    RELATIONS_FROM_240
+    RELATIONS_FROM_224
 }
 
 static RELATIONS_FROM_256: &[Relation<'static>] = &[
@@ -452,15 +380,6 @@ static RELATIONS_FROM_256: &[Relation<'static>] = &[
     TextFirstWith(b"Format: http", b"copyright-format/1.0"),
     TextFirst(b"Metadata-Version: "),
     TextFirst(b"# data file for the Fltk"),
-];
-
-fn relations_from_256() -> &'static [Relation<'static>]
-    ensures { AreRelations 256 result.now }
-{
-    RELATIONS_FROM_256
-}
-
-static RELATIONS_FROM_272: &[Relation<'static>] = &[
     TextFirst(b"xgcode 1.0"),
     TextFirst(b"[Pyspread save file version]"),
     TextFirst(b"BEGIN:VNOTE"),
@@ -479,10 +398,10 @@ static RELATIONS_FROM_272: &[Relation<'static>] = &[
     TextFirst(b"{1}{"),
 ];
 
-fn relations_from_272() -> &'static [Relation<'static>]
-    ensures { AreRelations 272 result.now }
+fn relations_from_256() -> &'static [Relation<'static>]
+    ensures { AreRelations 256 result.now }
 {
-    RELATIONS_FROM_272
+    RELATIONS_FROM_256
 }
 
 static RELATIONS_FROM_288: &[Relation<'static>] = &[
@@ -502,15 +421,6 @@ static RELATIONS_FROM_288: &[Relation<'static>] = &[
     TextFirstWithAll(b"Index: ", b"\n=======", b"\n+++ ", b""),
     TextFirstWithAll(b"*** ", b"\n--- ", b"\n***************", b""),
     TextFirstWith(b"From ", b"\nReceived: "),
-];
-
-fn relations_from_288() -> &'static [Relation<'static>]
-    ensures { AreRelations 288 result.now }
-{
-    RELATIONS_FROM_288
-}
-
-static RELATIONS_FROM_304: &[Relation<'static>] = &[
     TextFirstWith(b"From ", b"\nFrom: "),
     TextFirstWith(b"From ", b"\nMessage-I"),
     TextFirst(b"Return-Path: <"),
@@ -529,10 +439,10 @@ static RELATIONS_FROM_304: &[Relation<'static>] = &[
     TextFirstWith(b"Path: ", b"\nNewsgroups: "),
 ];
 
-fn relations_from_304() -> &'static [Relation<'static>]
-    ensures { AreRelations 304 result.now }
+fn relations_from_288() -> &'static [Relation<'static>]
+    ensures { AreRelations 288 result.now }
 {
-    RELATIONS_FROM_304
+    RELATIONS_FROM_288
 }
 
 static RELATIONS_FROM_320: &[Relation<'static>] = &[
@@ -552,15 +462,6 @@ static RELATIONS_FROM_320: &[Relation<'static>] = &[
     TextFirst(b"[Socket]\n"),
     TextFirst(b"[Service]\n"),
     TextFirst(b"[Timer]\n"),
-];
-
-fn relations_from_320() -> &'static [Relation<'static>]
-    ensures { AreRelations 320 result.now }
-{
-    RELATIONS_FROM_320
-}
-
-static RELATIONS_FROM_336: &[Relation<'static>] = &[
     TextFirst(b"[Mount]\n"),
     TextFirst(b"[D-BUS Service]\n"),
     TextFirstWith(b"#", b"\n[D-BUS Service]\n"),
@@ -579,10 +480,10 @@ static RELATIONS_FROM_336: &[Relation<'static>] = &[
     TextFirstWith(b"999\n", b"\nSECTION"),
 ];
 
-fn relations_from_336() -> &'static [Relation<'static>]
-    ensures { AreRelations 336 result.now }
+fn relations_from_320() -> &'static [Relation<'static>]
+    ensures { AreRelations 320 result.now }
 {
-    RELATIONS_FROM_336
+    RELATIONS_FROM_320
 }
 
 static RELATIONS_FROM_352: &[Relation<'static>] = &[
@@ -602,15 +503,6 @@ static RELATIONS_FROM_352: &[Relation<'static>] = &[
     TextFirstWith(b"%", b"\n\\NeedsTeXFormat"),
     TextFirstWith(b"%", b"\n\\ProvidesPackage"),
     TextFirstWith(b"[Version]", b"ignature"),
-];
-
-fn relations_from_352() -> &'static [Relation<'static>]
-    ensures { AreRelations 352 result.now }
-{
-    RELATIONS_FROM_352
-}
-
-static RELATIONS_FROM_368: &[Relation<'static>] = &[
     TextFirstWithAll(b";", b"\n[Version]", b"ignature", b""),
     TextFirst(b"CD_ROM\n"),
     TextFirst(b"CD_DA\n"),
@@ -629,10 +521,10 @@ static RELATIONS_FROM_368: &[Relation<'static>] = &[
     TextFirstWithAll(b"graph ", b"{", b" -- ", b""),
 ];
 
-fn relations_from_368() -> &'static [Relation<'static>]
-    ensures { AreRelations 368 result.now }
+fn relations_from_352() -> &'static [Relation<'static>]
+    ensures { AreRelations 352 result.now }
 {
-    RELATIONS_FROM_368
+    RELATIONS_FROM_352
 }
 
 static RELATIONS_FROM_384: &[Relation<'static>] = &[
@@ -652,15 +544,6 @@ static RELATIONS_FROM_384: &[Relation<'static>] = &[
     TextFirstWithAll(b"Name: ", b"\nDescription: ", b"\nLibs:", b""),
     TextFirstWith(b"# ", b" - a libtool library file\n"),
     TextFirstWith(b"[main]", b"\nAuthType="),
-];
-
-fn relations_from_384() -> &'static [Relation<'static>]
-    ensures { AreRelations 384 result.now }
-{
-    RELATIONS_FROM_384
-}
-
-static RELATIONS_FROM_400: &[Relation<'static>] = &[
     TextFirst(b"\\version \""),
     TextFirstWith(b"%", b"\n\\version \""),
     TextFirstWithAll(b";;; ", b" --- ", b"\n;;; Code:", b""),
@@ -679,10 +562,10 @@ static RELATIONS_FROM_400: &[Relation<'static>] = &[
     FirstKey(b"asset"),
 ];
 
-fn relations_from_400() -> &'static [Relation<'static>]
-    ensures { AreRelations 400 result.now }
+fn relations_from_384() -> &'static [Relation<'static>]
+    ensures { AreRelations 384 result.now }
 {
-    RELATIONS_FROM_400
+    RELATIONS_FROM_384
 }
 
 static RELATIONS_FROM_416: &[Relation<'static>] = &[
@@ -702,15 +585,6 @@ static RELATIONS_FROM_416: &[Relation<'static>] = &[
     TextFirstWith(b"# created: ", b"\nAGE-SECRET-KEY-1"),
     TextFirstWith(b"mtllib ", b"\nv "),
     TextFirstWithAll(b"#", b"\nmtllib ", b"\nv ", b""),
-];
-
-fn relations_from_416() -> &'static [Relation<'static>]
-    ensures { AreRelations 416 result.now }
-{
-    RELATIONS_FROM_416
-}
-
-static RELATIONS_FROM_432: &[Relation<'static>] = &[
     TextFirstWithAll(b"#", b"\nv ", b"\nvn ", b"\nf "),
     TextFirst(b"newmtl "),
     TextFirstWith(b"#", b"\nnewmtl "),
@@ -719,10 +593,10 @@ static RELATIONS_FROM_432: &[Relation<'static>] = &[
     PlainText,
 ];
 
-fn relations_from_432() -> &'static [Relation<'static>]
-    ensures { AreRelations 432 result.now }
+fn relations_from_416() -> &'static [Relation<'static>]
+    ensures { AreRelations 416 result.now }
 {
-    RELATIONS_FROM_432
+    RELATIONS_FROM_416
 }
 
 /// The list in which the relation of that number stands, and the number of the relation with which it begins.
@@ -733,33 +607,19 @@ pub(super) fn list_of(number: usize) -> Option<(usize, &'static [Relation<'stati
 {
     match number / RELATIONS_OF_A_LIST {
         0 => Some((0, relations_from_0())),
-        1 => Some((16, relations_from_16())),
-        2 => Some((32, relations_from_32())),
-        3 => Some((48, relations_from_48())),
-        4 => Some((64, relations_from_64())),
-        5 => Some((80, relations_from_80())),
-        6 => Some((96, relations_from_96())),
-        7 => Some((112, relations_from_112())),
-        8 => Some((128, relations_from_128())),
-        9 => Some((144, relations_from_144())),
-        10 => Some((160, relations_from_160())),
-        11 => Some((176, relations_from_176())),
-        12 => Some((192, relations_from_192())),
-        13 => Some((208, relations_from_208())),
-        14 => Some((224, relations_from_224())),
-        15 => Some((240, relations_from_240())),
-        16 => Some((256, relations_from_256())),
-        17 => Some((272, relations_from_272())),
-        18 => Some((288, relations_from_288())),
-        19 => Some((304, relations_from_304())),
-        20 => Some((320, relations_from_320())),
-        21 => Some((336, relations_from_336())),
-        22 => Some((352, relations_from_352())),
-        23 => Some((368, relations_from_368())),
-        24 => Some((384, relations_from_384())),
-        25 => Some((400, relations_from_400())),
-        26 => Some((416, relations_from_416())),
-        27 => Some((432, relations_from_432())),
+        1 => Some((32, relations_from_32())),
+        2 => Some((64, relations_from_64())),
+        3 => Some((96, relations_from_96())),
+        4 => Some((128, relations_from_128())),
+        5 => Some((160, relations_from_160())),
+        6 => Some((192, relations_from_192())),
+        7 => Some((224, relations_from_224())),
+        8 => Some((256, relations_from_256())),
+        9 => Some((288, relations_from_288())),
+        10 => Some((320, relations_from_320())),
+        11 => Some((352, relations_from_352())),
+        12 => Some((384, relations_from_384())),
+        13 => Some((416, relations_from_416())),
         _ => None,
     }
 }
