@@ -293,9 +293,9 @@ def decoded(tokens):
     return b"".join(bytes.fromhex(digits) * int(times or 1) for digits, _, times in parts)
 
 
-def wrong_further(program):
-    """How many buffers the text of the further rows answers otherwise than the rows do. Each type of the text has another
-    extension here, which tells its answers from those of the library's own rows."""
+def wrong_further(program, apart):
+    """How many buffers, of those that stand so far apart, the text of the further rows answers otherwise than the rows do. Each
+    type of the text has another extension here, which tells its answers from those of the library's own rows."""
     names, text = [], b""
     for it in lines_of("types.txt"):
         if not it.startswith("#"):
@@ -304,7 +304,7 @@ def wrong_further(program):
             text += b"own-" + it.encode() + b"\n"
     rows = ["{0}/{2}{3}".format(*it[:3], "" if it[3] == "none" else f" below {it[3]}") for it in (line.split("\t") for line in lines_of("rows.tsv"))]
     wrong = [f"its rows are others than those of rows.tsv: {[*{*rows} ^ {*names}][:3]}"] * (names != rows)
-    vectors = [line.split("\t") for line in lines_of("vectors.tsv")]
+    vectors = [line.split("\t") for line in lines_of("vectors.tsv")][::apart]
     for (how, _, row, shown), said in zip(vectors, asked(program, [(text, decoded(it[1])) for it in vectors])):
         is_own = said[2:3] != said[6:7]
         if len(said) == 3 or is_own != (row != "-") or f"{said[1]} {said[2].removeprefix('own-')}".strip() != shown.replace("unknown", ""):
@@ -318,7 +318,7 @@ def main():
     count = int(sys.argv[2]) if len(sys.argv) > 2 else 5_000
     rng, counted, wrong, asks = random.Random(int(sys.argv[3]) if len(sys.argv) > 3 else SEED), collections.Counter(), 0, 0
     wrong += wrong_examples(sys.argv[1])
-    wrong_buffers, buffers = wrong_further(sys.argv[1])
+    wrong_buffers, buffers = wrong_further(sys.argv[1], max(1, 500 // count))
     wrong += wrong_buffers
     for pairs in [[*large()], *([question(rng) for _ in range(min(10_000, count - at))] for at in range(0, count, 10_000))]:
         wrong += differing(sys.argv[1], pairs, 5, counted)
