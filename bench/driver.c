@@ -11,6 +11,7 @@ static void call(const char *what, const char *name, const void *buf, size_t len
     struct infer_named_answer answer;
     struct infer_range ranges[INFER_MOST_RANGES];
     struct infer_needs needs;
+    char text[INFER_MIME_SIZE];
     if (!strcmp(what, "position")) sink = infer_position(buf, len);
     else if (!strcmp(what, "more_position")) sink = infer_more_position(buf, len);
     else if (!strcmp(what, "evidence")) sink = infer_evidence(buf, len, ranges, INFER_MOST_RANGES, &needs);
@@ -29,6 +30,9 @@ static void call(const char *what, const char *name, const void *buf, size_t len
     else if (!strcmp(what, "is_image")) sink = infer_is_image(buf, len);
     else if (!strcmp(what, "is_video")) sink = infer_is_video(buf, len);
     else if (!strcmp(what, "named")) infer_named(name, strlen(name), buf, len, &answer), sink = answer.standing;
+    else if (!strcmp(what, "detect_content_type")) sink = (long)infer_detect_content_type(buf, len, text, sizeof text);
+    else if (!strcmp(what, "mime_compute")) sink = (long)infer_mime_compute(name, strlen(name), 0, INFER_MIME_IN_PAGE, buf, len, text, sizeof text);
+    else if (!strcmp(what, "mime_parse")) sink = (long)infer_mime_parse(buf, len, text, sizeof text);
     else exit(3);
 }
 
