@@ -6,7 +6,8 @@ use std::alloc::{AllocError, Allocator};
 use std::io::{ErrorKind, Read};
 use std::{env, io};
 
-/// The verdict after all pieces of `input`, of which each has at least one byte.
+/// The verdict after all pieces of `input`, of which each has at least one byte. Its instructions are counted by its name.
+#[inline(never)]
 fn verdict_of<A: Allocator>(alloc: A, input: &[u8], length: usize) -> Result<Verdict, AllocError> {
     let mut sniffer = Sniffer::new(alloc)?;
     for piece in input.chunks(length.max(1)) {
