@@ -44,6 +44,9 @@ alike_itself (Some r) b = (λ h. h, λ h. h)
 pub whole_tells : (i : ℕ) (b c : List ℕ) → length c ≡ length b → ((k : ℕ) → k < length b → (k < length c) × (get_or c k 0 ≡ get_or b k 0)) → IsAlikeAt i b c
 whole_tells i b c long same = subst (IsAlikeAt i b) (sym (same_by_reads b c long same)) (alike_itself (slice_get further i) b)
 
+pub same_tells : (i : ℕ) (b c : List ℕ) → c ≡ b → IsAlikeAt i b c
+same_tells i b c same = subst (IsAlikeAt i b) (sym same) (alike_itself (slice_get further i) b)
+
 -- ---- rows that ask for a root element
 
 -- of one alternative more, the root element tells as it does of both

@@ -152,12 +152,28 @@ fn ask_front(front: Option<usize>, told: &Acceptance, buf: &[u8], evidence: &mut
     }
 }
 
+/// Whether the whole buffer is asked for, with its length.
+fn is_whole(buf: &[u8], evidence: &Evidence) -> bool
+    ensures { IsTrue result → (c : List ℕ) → AgreesOn evidence.now buf.now c → c ≡ buf.now }
+{
+    if evidence.front() < buf.len() {
+        return false;
+    }
+    evidence.is_exact()
+}
+
 /// Whether the bytes at the front that are asked for already tell that the row does not accept the buffer.
 fn is_told_refused(told: &Acceptance, buf: &[u8], evidence: &Evidence) -> bool
     ensures { IsTrue result → (c : List ℕ) → IsBuffer c → AgreesOn evidence.now buf.now c
         → IsAlikeAt told.now.i buf.now c }
 {
-    !told.accepts && told.is_told(&buf[..evidence.front().min(buf.len())])
+    if told.accepts {
+        return false;
+    }
+    if is_whole(buf, evidence) {
+        return true;
+    }
+    told.is_told(&buf[..evidence.front().min(buf.len())])
 }
 
 /// The number of a further row among all.
