@@ -11,9 +11,10 @@
 //! [`Fault`] says why they have no answer.
 //!
 //! Each module uses only those before it: `table`, the rows and their types; `ask`, a question and one row;
-//! `candidates`, the rows that a first byte allows, asked in order; `answers`, what the built-in rows answer; `texts`, questions with a text; `decided`, what more bytes can change; `beginnings`, after which
-//! they can change it from 1024 bytes on; `why`, which bytes decide it; `read`, the front of a reader; `caller`, an [`Infer`] and its rows; `laws`, facts
-//! about all of these; `samples`.
+//! `candidates`, the rows that a first byte allows, asked in order; `answers`, what the built-in rows answer; `texts`,
+//! questions with a text; `decided`, what more bytes can change; `beginnings`, after which they can change it from 1024
+//! bytes on; `why`, which bytes decide it; `read`, the front of a reader; `caller`, an [`Infer`] and its rows; `laws`,
+//! facts about all of these; `samples`.
 #![tactic(auto)]
 
 ghost use Rattle.std.specs.Prelude.{◌≡◌, ◌↔◌, ◌<◌, ◌≤◌, IfOk, IfSome, IsNone, IsTrue, None, option_map, slice_get};
