@@ -1,9 +1,8 @@
 -- A walk over the candidates of a buffer: which numbers they are, where it ends, and which it asks.
 use Rattle.infer.proofs.Common.{MatchOption, HoldsAt, Bor, subst, ◌≡◌, ◌<◌, ◌≤◌, ◌+◌, filter_more, ℕ, zero, suc, Bool, true, false, ◌&&◌, List, [], ◌∷◌, ◌++◌, length, get_or, take, sym, ◌∙◌, ap, arith, refl, leb, Option, Some, None, inl, inr, IsTrue, ◌↔◌, All, AllPairs, AllWithin, filter, slice_get, option_map_or, nat_tests, length-take-le, count_by-le-length, length-filter, get_or-range_with_len, length-range_with_len, range_with_len, BuiltIn, allows_first, candidates, candidates_of, numbers_from, Row, table, MOST_CANDIDATES, ROW_COUNT, IsFirstAmong, asked_rows, count_asked, is_asked, is_not_above, RowHas, IsAsked, HasGiven, bytes_eq, bytes_eq-Decides, Takes, Accepts, Triple, append-nil, cond}
-use Rattle.std.proofs.lemmas.Grind.{get_or_default_zero}
-use Rattle.std.proofs.lemmas.List.Elements.{All-filter, filter_agree}
+use Rattle.std.proofs.lemmas.Bool.{false_from_ne_true}
+use Rattle.std.proofs.lemmas.List.Elements.{All-filter}
 use Rattle.std.proofs.lemmas.List.Kept.{AllPairs-filter}
-use Rattle.std.proofs.lemmas.Option.{slice_get_cases}
 use Rattle.std.specs.Option.{option_copied}
 use Rattle.infer.proofs.TableLemmas.{length-table}
 
@@ -135,16 +134,13 @@ asked_row (Some extension) i = asked_text (slice_get table i)
     asked_text None = (λ h. absurd h, λ h. absurd (cc))
     asked_text (Some r) = let (from, to) = bytes_eq-Decides r.shows.extension extension.now in (to, from)
 
+-- a row takes the buffer exactly if it is asked for and accepts it
 pub takes_both : (asked : Triple → Type 0) (b : List ℕ) (i : ℕ) → RowHas (Takes asked b) i ↔ (RowHas (IsAsked asked) i × RowHas (Accepts b) i)
 takes_both asked b i = both (slice_get table i)
   where
     both : (o : Option (Row BuiltIn)) → MatchOption o ⊥ (Takes asked b) ↔ (MatchOption o ⊥ (IsAsked asked) × MatchOption o ⊥ (Accepts b))
     both None = (λ h. absurd h, λ h. absurd h.0)
     both (Some r) = (λ h. h, λ h. h)
-
-not_true : (t : Bool) → ¬ IsTrue t → t ≡ false
-not_true true not = absurd (not refl)
-not_true false not = refl
 
 module _ (w : Option (Bor (List ℕ))) (b rs : List ℕ) (same : rs ≡ candidates_of b) where
   pub placed : rs ≡ numbers_from (may_take b) 0 table
@@ -165,11 +161,8 @@ module _ (w : Option (Bor (List ℕ))) (b rs : List ℕ) (same : rs ≡ candidat
   pub candidate_passed : (k d : ℕ) → k < length rs → ¬ RowHas (IsAsked (HasGiven w)) (get_or rs k d)
       → filter (is_asked w) (take k rs) ≡ filter (is_asked w) (take (k + 1) rs)
   candidate_passed k d l not =
-      sym (one_more k d l false (not_true (is_asked w (get_or rs k d)) (λ t. not ((asked_row w (get_or rs k d)).1 t))) ∙ append-nil _)
+      sym (one_more k d l false (false_from_ne_true (is_asked w (get_or rs k d)) (λ t. not ((asked_row w (get_or rs k d)).1 t))) ∙ append-nil _)
 
   pub candidates_asked : (k d : ℕ) → k < length rs → filter (is_asked w) (take (k + 1) rs) ≡ asked_rows w b (Some (get_or rs k d))
   candidates_asked k d l =
       asked_up_to (may_take b) rs placed (is_asked w) k d l ∙ ap (filter (λ j. leb j (get_or rs k d) && is_asked w j)) same
-
--- what such a walk is proved by
-pub ruleset walk_asked = (candidate_asked, candidate_passed, candidate_row, candidates_asked, few_asked, found_among, get_or_default_zero, none_among, takes_both)

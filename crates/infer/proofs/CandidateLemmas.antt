@@ -1,5 +1,5 @@
 -- The first of the candidates that has a property is the first row of the table that has it.
-use Rattle.infer.proofs.Common.{◌≡◌, ◌<◌, ◌≤◌, ◌+◌, ◌++◌, ℕ, zero, suc, Bool, true, false, false≢true, List, [], ◌∷◌, length, subst, arith, IsTrue, refl, ◌∙◌, Option, Some, None, MatchBool, MatchOption, inl, inr, is_some, ◌↔◌, slice_get, AllWithin, HoldsAt, ne_eqb, AllWithin-more, AllWithin-none, AllWithin-upto, none_from_all_within, option_map_or, range_with_len, BuiltIn, IsFirstOf, NoneHas, SomeHas, Leads, candidates_of, numbers_from, Row, Accepts, table, IsFirstAmong, RowHas, Takes, WalksFindFirst, row_numbered, ROW_COUNT, HasGiven, Triple}
+use Rattle.infer.proofs.Common.{◌≡◌, ◌<◌, ◌≤◌, ◌+◌, ◌++◌, ℕ, zero, suc, Bool, true, false, false≢true, List, [], ◌∷◌, length, subst, arith, IsTrue, refl, Option, Some, None, MatchBool, MatchOption, inl, inr, is_some, ◌↔◌, slice_get, AllWithin, HoldsAt, ne_eqb, AllWithin-more, AllWithin-none, AllWithin-upto, none_from_all_within, option_map_or, range_with_len, BuiltIn, IsFirstOf, NoneHas, SomeHas, Leads, candidates_of, numbers_from, Row, Accepts, table, IsFirstAmong, RowHas, Takes, WalksFindFirst, row_numbered, ROW_COUNT, HasGiven, Triple}
 use Rattle.infer.proofs.AskLemmas.{candidates_numbered, count_numbers, first_kept, found_among, may_take, none_among, numbered, numbers, read_number, row_passes}
 use Rattle.infer.proofs.ListLemmas.{HoldsAt-read}
 use Rattle.infer.proofs.OrderLemmas.{some_row}

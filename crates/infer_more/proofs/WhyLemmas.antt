@@ -1,13 +1,11 @@
 -- A front that tells of a row, and the whole buffer.
-use Rattle.infer_more.proofs.Common.{◌≡◌, ◌↔◌, ◌+◌, ◌<◌, ◌≤◌, ◌⊎◌, ◌||◌, ◌∷◌, ◌++◌, ◌∙◌, ◌==◌, ℕ, zero, suc, Bool, true, false, IsTrue, List, [], Option, None, Some, IfSome, MatchOption, inl, inr, ap, refl, subst, sym, arith, if◌then◌else◌, length, take, drop, take-append-drop, false≢true, get_or, and_parts, and_from, eqb-true, le-leb, leb-true, lt-ltb, IsBuffer, Accepted, Further, further, Fits, alternative_listed, part_listed, signature_listed, slice_get_read, has_part, allows, between, IsFirst, IsFirstOf, Widens, WidensAt, cases_lt}
+use Rattle.infer_more.proofs.Common.{◌≡◌, ◌↔◌, ◌+◌, ◌<◌, ◌≤◌, ◌⊎◌, ◌||◌, ◌∷◌, ◌++◌, ◌∙◌, ◌==◌, ℕ, zero, suc, Bool, true, false, IsTrue, List, [], Option, None, Some, IfSome, MatchOption, inl, inr, ap, refl, subst, sym, arith, if◌then◌else◌, length, take, drop, take-append-drop, false≢true, get_or, and_parts, and_from, eqb-true, le-leb, leb-true, lt-ltb, IsBuffer, Accepted, Further, further, Fits, alternative_listed, part_listed, signature_listed, slice_get_read, has_part, allows, between, Widens, WidensAt}
 use Rattle.std.proofs.Common.{slice_get}
 use Rattle.std.proofs.lemmas.Bool.{ltb-true}
 use Rattle.std.proofs.lemmas.List.Elements.{All-drop, All-head, All-tail}
 use Rattle.std.specs.Prelude.{All, Any}
 use Rattle.infer.proofs.CandidateLemmas.{read_has}
-use Rattle.infer.proofs.ListLemmas.{HoldsAt-read}
 use Rattle.infer.proofs.EvidenceLemmas.{buffers_with, same_by_reads}
-use Rattle.infer_deep.specs.Signatures.{MayBecome}
 use Rattle.infer_formats.specs.Markup.{IsOfRoot, TellsByRoot, TellsRoot}
 use Rattle.infer_formats.specs.declared.markup.Root.{Root}
 use Rattle.infer_notation.specs.Alternative as signature
@@ -41,11 +39,11 @@ alike_itself : (o : Option Further) (b : List ℕ) → MatchOption o (Unit {0}) 
 alike_itself None b = tt
 alike_itself (Some r) b = (λ h. h, λ h. h)
 
-pub whole_tells : (i : ℕ) (b c : List ℕ) → length c ≡ length b → ((k : ℕ) → k < length b → (k < length c) × (get_or c k 0 ≡ get_or b k 0)) → IsAlikeAt i b c
-whole_tells i b c long same = subst (IsAlikeAt i b) (sym (same_by_reads b c long same)) (alike_itself (slice_get further i) b)
-
 pub same_tells : (i : ℕ) (b c : List ℕ) → c ≡ b → IsAlikeAt i b c
 same_tells i b c same = subst (IsAlikeAt i b) (sym same) (alike_itself (slice_get further i) b)
+
+pub whole_tells : (i : ℕ) (b c : List ℕ) → length c ≡ length b → ((k : ℕ) → k < length b → (k < length c) × (get_or c k 0 ≡ get_or b k 0)) → IsAlikeAt i b c
+whole_tells i b c long same = same_tells i b c (same_by_reads b c long same)
 
 -- ---- rows that ask for a root element
 

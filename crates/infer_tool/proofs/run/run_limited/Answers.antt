@@ -1,4 +1,4 @@
-use Rattle.infer_tool.proofs.Common.{◌≡◌, ◌∙◌, ◌<◌, ◌≤◌, LosesFront, ReportsReader, Says, arith, codes, length, length-map, map, refl, rules, string_bytes, subst, sym}
+use Rattle.infer_tool.proofs.Common.{◌≡◌, ◌∙◌, ◌<◌, LosesFront, ReportsReader, Says, arith, codes, length, length-map, map, refl, rules, string_bytes, subst, sym}
 use Rattle.infer_tool.proofs.SampleLemmas.{second_is}
 use Rattle.infer_tool.proofs.run.run_limited.Goals as goal
 

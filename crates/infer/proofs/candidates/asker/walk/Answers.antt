@@ -1,4 +1,4 @@
-use Rattle.infer.proofs.Common.{◌≡◌, ◌∙◌, ◌+◌, AllWithin, AllWithin-more, HasGiven, IsAsked, RowHas, Takes, IsFirstAmong, None, Some, arith, candidates_of, get_or, subst, sym, false≢true}
+use Rattle.infer.proofs.Common.{◌∙◌, ◌+◌, AllWithin, AllWithin-more, HasGiven, IsAsked, RowHas, Takes, IsFirstAmong, None, Some, arith, get_or, subst, sym, false≢true}
 use Rattle.infer.proofs.AskLemmas.{candidate_asked, candidate_passed, candidate_row, candidates_asked, found_among, none_among, placed, room_left, takes_both}
 use Rattle.infer.proofs.ListLemmas.{HoldsAt-read}
 use Rattle.infer.proofs.candidates.asker.walk.Goals.{else-is_asked-via-then-is_asked+else-ask, else-is_asked-via-else-is_asked}
