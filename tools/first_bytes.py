@@ -1,52 +1,38 @@
-"""Makes the lists of the dispatch: first bytes with the same candidates are an arm, which is named by the least of them.
-The check refuses a list that is not the one which follows from the signatures; here the model tells it."""
-import re
+"""Makes the lists of candidates: first bytes with the same candidates are a group. The check refuses a list that is not the
+one which follows from the signatures; here the model tells it."""
+import textwrap
 
-# These share work, and a link of a chain asks them together.
-SHARED = ["HTML XML", "DOCX XLSX PPTX", "ZST LZ4"]
-# What follows such a row is code of its own, so that the row is asked before any register is saved.
-AT_ONCE = ["GIF", "JPEG", "PNG"]
-EVERY = "Other"
+CODE = '''//! The candidates of each first byte. Made by `tools/tables`, by the model of `vectors/`.
 
+use crate::table::rows::*;
 
-def arms(allowed):
-    """The arm of each first byte, and the candidates of each arm, of the rows that are allowed by each byte. Bytes that
-    no signature asks for have as candidates the rows that are free to begin with any."""
-    free = min(allowed, key=len)
-    names = {}
-    for byte, rows in enumerate(allowed):
-        names.setdefault(tuple(rows), EVERY if rows == free else f"B{byte:02X}")
-    # That of the free rows is the last.
-    of_arm = sorted(((name, rows) for rows, name in names.items()), key=lambda it: it[0] == EVERY)
-    return [names[tuple(rows)] for rows in allowed], dict(of_arm)
+/// How many groups there are of first bytes with the same candidates.
+pub const GROUP_COUNT: usize = {count};
 
+/// The group of each first byte.
+pub static GROUP_OF: [u8; 256] = [
+{groups}
+];
 
-def shared(rows):
-    text = " ".join(rows)
-    for some in SHARED:
-        text = re.sub(rf"\b{some}\b", f"[{some}]", text)
-    return text
+macro_rules! lists {{
+    ($([$($row:ident)*])*) => {{
+        [$(&[$($row),*]),*]
+    }};
+}}
 
-
-def listed(rows):
-    return shared(f"{it} /" if it in AT_ONCE else it for it in rows)
+/// The candidates of each group, ascending.
+pub static CANDIDATES: [&[usize]; GROUP_COUNT] = lists![
+{lists}
+];
+'''
 
 
-def between(text, begin, end, lines):
-    """The text with these lines after the line that ends so and before the next one that is so."""
-    before, found, after = text.partition(begin + "\n")
-    _, last, rest = after.partition(f"\n{end}\n")
-    if not found or not last:
-        raise SystemExit(f"tools/tables: the dispatch has no place between {begin} and {end}")
-    return before + found + "\n".join(lines) + last + rest
-
-
-def with_lists(code, allowed):
-    """The text of the dispatch with what follows from the rows that each first byte allows."""
-    arm_of, of_arm = arms(allowed)
-    in_sixteens = [" ".join(f"{it:5}" for it in arm_of[at : at + 16]).rstrip() for at in range(0, 256, 16)]
-    code = between(code, "pub enum Arm {", "}", [f"    {it}," for it in of_arm])
-    code = between(code, "        $with![", "        ]", [f"            {it}" for it in in_sixteens])
-    lists = [f"            {name} ({listed(rows)})" for name, rows in of_arm.items()]
-    code = between(code, "$with! { [$($more)*]", "        }", lists)
-    return re.sub(r"(?<=pub const ARM_COUNT: usize = )\d+", str(len(of_arm)), code)
+def lists(allowed):
+    """The code, from the rows that each first byte allows."""
+    groups = list(dict.fromkeys(map(tuple, allowed)))
+    numbers = ", ".join(str(groups.index(tuple(rows))) for rows in allowed) + ","
+    return CODE.format(
+        count=len(groups),
+        groups=textwrap.fill(numbers, 99, initial_indent="    ", subsequent_indent="    "),
+        lists="\n".join(f"    [{' '.join(rows)}]" for rows in groups),
+    )

@@ -1,9 +1,8 @@
 -- The first of the candidates that has a property is the first row of the table that has it.
-use Rattle.infer.proofs.Common.{◌≡◌, ◌<◌, ◌≤◌, ◌+◌, ◌++◌, ℕ, zero, suc, Bool, true, false, false≢true, List, [], ◌∷◌, length, subst, arith, IsTrue, refl, Option, Some, None, MatchBool, MatchOption, inl, inr, is_some, ◌↔◌, slice_get, AllWithin, HoldsAt, ne_eqb, AllWithin-more, AllWithin-none, AllWithin-upto, none_from_all_within, option_map_or, range_with_len, BuiltIn, IsFirstOf, NoneHas, SomeHas, Leads, candidates_of, numbers_from, Row, Accepts, table, IsFirstAmong, RowHas, Takes, WalksFindFirst, row_numbered, ROW_COUNT, HasGiven, Triple}
+use Rattle.infer.proofs.Common.{◌≡◌, ◌<◌, ◌≤◌, ◌+◌, ℕ, zero, suc, Bool, true, false, List, [], ◌∷◌, length, subst, arith, IsTrue, refl, Option, Some, None, MatchBool, MatchOption, inl, inr, is_some, ◌↔◌, slice_get, AllWithin, HoldsAt, AllWithin-more, AllWithin-none, AllWithin-upto, none_from_all_within, option_map_or, range_with_len, BuiltIn, IsFirstOf, NoneHas, SomeHas, Leads, candidates_of, numbers_from, Row, Accepts, table, IsFirstAmong, RowHas, Takes, WalksFindFirst, HasGiven, Triple}
 use Rattle.infer.proofs.AskLemmas.{candidates_numbered, count_numbers, first_kept, found_among, may_take, none_among, numbered, numbers, read_number, row_passes}
 use Rattle.infer.proofs.ListLemmas.{HoldsAt-read}
 use Rattle.infer.proofs.OrderLemmas.{some_row}
-use Rattle.infer.proofs.TableLemmas.{length-table}
 
 -- what is read at a place has the property just if the place is inside, and the property holds there
 pub read_has : {A : Type 0} (P : A → Type 0) (xs : List A) (i : ℕ) → MatchOption (slice_get xs i) ⊥ P ↔ ((i < length xs) × HoldsAt P xs i)
@@ -44,52 +43,6 @@ module _ (P : Row BuiltIn → Type 0) where
   pub first_listed : (test : Row BuiltIn → Bool) → ((i : ℕ) → RowHas P i → IsTrue (row_passes test i)) → (o : Option ℕ)
       → IsFirstAmong (RowHas P) (numbers_from test 0 table) o ↔ IsFirstOf P table o
   first_listed test only o = grind (arith, first_kept, numbered, first_from, AllWithin-none, among_all)
-
--- ---- one number after the other
-
-module _ (b : List ℕ) where
-  pub found_here : (i : ℕ) (is : List ℕ) → IsTrue true ↔ RowHas (Accepts b) i → IsFirstAmong (RowHas (Accepts b)) (i ∷ is) (Some i)
-  unfolding IsFirstAmong
-  found_here i is told = inl (told.0 refl, refl)
-
-  pub found_behind : (i : ℕ) (is : List ℕ) (o : Option ℕ) → IsTrue false ↔ RowHas (Accepts b) i → IsFirstAmong (RowHas (Accepts b)) is o
-      → IsFirstAmong (RowHas (Accepts b)) (i ∷ is) o
-  unfolding IsFirstAmong
-  found_behind i is o told rest = inr ((λ h. false≢true (told.1 h)), rest)
-
-  pub found_nowhere : IsFirstAmong (RowHas (Accepts b)) [] None
-  unfolding IsFirstAmong
-  found_nowhere = refl
-
-module _ (P : ℕ → Type 0) (ys : List ℕ) where
-  pub found_in_front : (xs : List ℕ) (i : ℕ) → IsFirstAmong P xs (Some i) → IsFirstAmong P (xs ++ ys) (Some i)
-  unfolding IsFirstAmong
-  found_in_front [] i h = absurd (cc)
-  found_in_front (x ∷ xs) i (inl h) = inl h
-  found_in_front (x ∷ xs) i (inr h) = inr (h.0, found_in_front xs i h.1)
-
-  pub found_past : (xs : List ℕ) (o : Option ℕ) → IsFirstAmong P xs None → IsFirstAmong P ys o → IsFirstAmong P (xs ++ ys) o
-  unfolding IsFirstAmong
-  found_past [] o h rest = rest
-  found_past (x ∷ xs) o (inl h) rest = absurd (let no = h.1 in cc)
-  found_past (x ∷ xs) o (inr h) rest = inr (h.0, found_past xs o h.1 rest)
-
--- what is told of a buffer is so of another of which the row says the same
-pub alike : {P Q : Type 0} {r : Bool} → IsTrue r ↔ P → P ↔ Q → IsTrue r ↔ Q
-alike told same = ((λ h. same.0 (told.0 h)), (λ h. told.1 (same.1 h)))
-
--- what a chain of rows is proved by
-pub ruleset in_turn = (found_here, found_behind, found_nowhere)
-
--- the first of some numbers that a row has is the number of a row
-pub first_is_row : (P : Row BuiltIn → Type 0) (ns : List ℕ) (i : ℕ) → IsFirstAmong (RowHas P) ns (Some i) → i < ROW_COUNT
-unfolding IsFirstAmong
-first_is_row P [] i h = absurd (cc)
-first_is_row P (n ∷ ns) i (inl h) = let within = ((read_has P table n).0 h.0).0 in grind (arith, length-table)
-first_is_row P (n ∷ ns) i (inr h) = first_is_row P ns i h.1
-
-pub numbered_row : (i : ℕ) → i < ROW_COUNT → row_numbered i ≡ Some i
-numbered_row i l = rw (ne_eqb i 4294967295 (λ e. omega (arith, e, l))) refl
 
 pub some_of_first : {A : Type 0} (P : A → Type 0) (xs : List A) (o : Option ℕ) (r : Bool) → r ≡ is_some o → IsFirstOf P xs o → IsTrue r ↔ SomeHas P xs
 some_of_first P xs None r e none = (λ t. absurd (cc), λ some. absurd (none_from_all_within P xs none some))

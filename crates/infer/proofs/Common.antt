@@ -28,7 +28,7 @@ pub use Rattle.infer.specs.Table.{row}
 pub use Rattle.infer.specs.Triple.{Triple, triple_of}
 unfoldable pub use Rattle.infer.specs.Walks.{IsFirstAmong}
 pub use Rattle.infer.specs.Walks.{HasGiven, RowHas, Takes, WalksFindFirst}
-pub use Rattle.infer.specs.Walks.{asked_rows, count_asked, is_asked, is_not_above, row_numbered}
+pub use Rattle.infer.specs.Walks.{asked_rows, count_asked, is_asked, is_not_above}
 pub use Rattle.infer.specs.Watched.{IsDue, fault_of, inner}
 pub use Rattle.infer.specs.declared.beginnings.Beginning.{Beginning}
 pub use Rattle.infer.specs.declared.beginnings.Beginning.TheVariants.{OpenBox, Compound, Archive, Frame, White, Mark}

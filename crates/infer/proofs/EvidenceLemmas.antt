@@ -1,20 +1,16 @@
 -- What is listed of a row.
-use Rattle.infer.proofs.Common.{list_all, zero, suc, ◌≡◌, ◌+◌, ◌-◌, ◌<◌, ◌≤◌, ◌∙◌, ℕ, List, Option, None, Some, IfSome, IsTrue, ap, arith, refl, length, sym, subst, slice_get, get_or, leb-true, signature_of, BuiltIn, fixed, length-range_with_len, length-map, option_map_or, [], Row, IsBuffer, MatchOption, Accepts, MayBecomeRow, IsAccepted, RowHas, table, ◌⊎◌, ◌↔◌, ◌++◌, inl, inr, take, drop, Lasts, length-take-le, get_or-take, take-append-drop, Bool, false, false≢true, AllWithin, AllWithin-more, AllWithin-upto, IsFirstAmong, get_or_default, candidates, candidates_of, ◌∷◌}
+use Rattle.infer.proofs.Common.{list_all, zero, suc, ◌≡◌, ◌+◌, ◌-◌, ◌<◌, ◌≤◌, ◌∙◌, ℕ, List, Option, None, Some, IfSome, IsTrue, ap, arith, refl, length, sym, subst, slice_get, get_or, signature_of, BuiltIn, fixed, length-range_with_len, length-map, [], Row, IsBuffer, MatchOption, Accepts, MayBecomeRow, IsAccepted, RowHas, table, ◌⊎◌, ◌↔◌, ◌++◌, inl, inr, take, drop, Lasts, length-take-le, get_or-take, take-append-drop, Bool, false, false≢true, AllWithin, AllWithin-more, AllWithin-upto, IsFirstAmong, get_or_default, candidates, candidates_of, ◌∷◌}
 use Rattle.std.proofs.Math.ListN.{get_or-map}
 use Rattle.std.proofs.lemmas.List.FromFn.{get_or-map-range_with_len}
 use Rattle.std.proofs.lemmas.Grind.{same_number_lists}
 use Rattle.std.proofs.lemmas.List.Elements.{All-drop, All-from_get_or}
 use Rattle.std.proofs.lemmas.List.Prefix.{front_from_reads}
-use Rattle.std.proofs.lemmas.List.Sums.{AllPass-from_list_all}
 use Rattle.std.proofs.lemmas.Option.{get_or_from_slice_get, slice_get_within}
 use Rattle.infer.proofs.AskLemmas.{none_among}
+use Rattle.infer.proofs.GroupLemmas.{at_most}
 use Rattle.infer.proofs.TableLemmas.{row_accepts}
-use Rattle.infer.specs.Arms.{rows_of}
+use Rattle.infer.specs.Groups.{groups}
 use Rattle.infer.specs.Evidence.{AreListed, IsTold, fixed_listed, fixed_of, most_of, most_of_all}
-use Rattle.infer.specs.declared.candidates.arms.Arm.{Arm}
-use Rattle.infer.specs.contracts.candidates.arms.Arm as arm_type
-use denote.Enum.Declared.{tag_of}
-use Rattle.infer.specs.declared.candidates.dispatch.TheConstants.{CANDIDATES}
 use Rattle.infer.specs.declared.why.TheConstants.{MOST_OF_CANDIDATES}
 use Rattle.std.specs.Prelude.{codes, nat_eq, nat_le, true}
 use Rattle.std.specs.Option.{option_eq}
@@ -152,20 +148,13 @@ most_upto [] (suc i) = omega arith
 most_upto (x ∷ rows) zero = omega arith
 most_upto (x ∷ rows) (suc i) = let rest = most_upto rows i in omega (arith, rest)
 
--- the candidates of an arm ask for few
-each_few : IsTrue (list_all (λ rows. nat_le (most_of_all rows.now) MOST_OF_CANDIDATES) CANDIDATES)
+-- the candidates of a first byte ask for few
+each_few : IsTrue (list_all (λ rows. nat_le (most_of_all rows) MOST_OF_CANDIDATES) groups)
 unfolding signature_of table
 each_few = refl
 
-few_in : {X : Type 0} (now : X → List ℕ) (xs : List X) → IsTrue (list_all (λ x. nat_le (most_of_all (now x)) MOST_OF_CANDIDATES) xs)
-    → (k : ℕ) (o : Option X) → slice_get xs k ≡ o → most_of_all (option_map_or now o []) ≤ MOST_OF_CANDIDATES
-few_in now xs few k None found = omega arith
-few_in now xs few k (Some x) found =
-    let here = AllPass-from_list_all (λ x. nat_le (most_of_all (now x)) MOST_OF_CANDIDATES) xs few k x (slice_get_within xs k x found) in
-    leb-true _ _ (subst (λ y. IsTrue (nat_le (most_of_all (now y)) MOST_OF_CANDIDATES)) (get_or_from_slice_get xs k x x found) here)
-
-pub few_of_arm : (arm : Arm) → most_of_all (rows_of arm) ≤ MOST_OF_CANDIDATES
-few_of_arm arm = few_in (λ rows. rows.now) CANDIDATES each_few (tag_of arm_type.the_type arm) _ refl
+pub few_of_first : (f : ℕ) → f < 256 → most_of_all (candidates f) ≤ MOST_OF_CANDIDATES
+few_of_first = at_most most_of_all MOST_OF_CANDIDATES each_few
 
 -- what follows for each number follows for the one that there may be
 pub if_some : {P Q : ℕ → Type 0} → (o : Option ℕ) → ((i : ℕ) → P i → Q i) → IfSome o P → IfSome o Q

@@ -14,6 +14,7 @@ pub mod ArrivalLemmas
 pub mod SampleLemmas
 pub mod BreakLemmas
 pub mod CandidateLemmas
+pub mod GroupLemmas
 pub mod AskLemmas
 pub mod DecidedLemmas
 pub mod FirstByteLemmas

@@ -39,7 +39,7 @@ pub mod Fault
 pub mod Reading
 pub mod Leads
 pub mod Walks
-pub mod Arms
+pub mod Groups
 pub mod Decided
 pub mod Evidence
 pub mod Laws

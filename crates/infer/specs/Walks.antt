@@ -1,5 +1,5 @@
 -- The first of some rows, named by their numbers, and which were asked.
-use Rattle.std.specs.Prelude.{◌≡◌, ◌↔◌, ◌==◌, ◌⊎◌, ◌&&◌, ℕ, Bool, true, false, List, [], ◌∷◌, Option, None, Some, MatchOption, length, nat_le, if◌then◌else◌}
+use Rattle.std.specs.Prelude.{◌≡◌, ◌↔◌, ◌⊎◌, ◌&&◌, ℕ, Bool, true, false, List, [], ◌∷◌, Option, None, Some, MatchOption, length, nat_le}
 use Rattle.std.specs.List.{filter, slice_get}
 use Rattle.std.specs.Option.{option_map_or}
 use Rattle.std.specs.Str.{bytes_eq}
@@ -33,10 +33,6 @@ has_given (Some extension) t = bytes_eq t.extension extension.now
 unfoldable pub IsFirstAmong : (ℕ → Type 0) → List ℕ → Option ℕ → Type 0
 IsFirstAmong P [] o = o ≡ None
 IsFirstAmong P (i ∷ is) o = (P i × (o ≡ Some i)) ⊎ ((¬ P i) × IsFirstAmong P is o)
-
--- the row with that number of 32 bits, of which the greatest stands for no row
-abbrev pub row_numbered : ℕ → Option ℕ
-row_numbered n = if n == 4294967295 then None else Some n
 
 -- row i is there and is one that a walk asks for
 abbrev pub is_asked : Option (Bor (List ℕ)) → ℕ → Bool

@@ -8,8 +8,8 @@ ghost use Rattle.infer.specs.Table.{table};
 ghost use Rattle.infer.specs.Triple.{triple_of};
 ghost use Rattle.infer.specs.Walks.{RowHas, Takes};
 
-use crate::ask::question::{Question, takes_row};
-use crate::candidates::dispatch::{arm_of, blank, candidates_of, first_of, leads};
+use crate::ask::question::{Question, accepts, takes_row};
+use crate::candidates::dispatch::{blank, candidates_of, leads};
 use crate::table::built_in::{BuiltInRow, rows};
 use crate::table::file_type::FileType;
 use crate::table::rows::ROW_COUNT;
@@ -21,15 +21,19 @@ use crate::table::rows::ROW_COUNT;
 /// assert_eq!(rt; infer::position(b"GIF89a"), Some(rows::GIF));
 /// assert_eq!(rt; infer::position(b"plain text"), None);
 /// ```
-#[inline(always)]
 pub fn position(buf: &[u8]) -> Option<usize>
     ensures first { IsFirstOf (Accepts buf.now) table result }
     ensures bound { IfSome result (λ i. i < ROW_COUNT) }
 {
     leads();
     blank();
-    let lead = buf.first()?;
-    first_of(arm_of(*lead), buf)
+    let accepted = |row: &&usize| -> bool
+        ensures { IsTrue result ↔ RowHas (Accepts buf.entry.now) row.now.now }
+    { accepts(buf, **row) };
+    candidates_of(buf.first().copied())
+        .iter()
+        .find(accepted)
+        .copied()
 }
 
 /// The type of the built-in row `i`, and `None` exactly from [`ROW_COUNT`] on.

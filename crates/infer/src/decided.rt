@@ -4,7 +4,7 @@ ghost use Rattle.infer.specs.Decided.{CanBeDecided, IsAnswerForGood, IsChangeabl
 ghost use Rattle.infer.specs.Walks.{IsFirstAmong, RowHas};
 
 use crate::ask::question::accepts;
-use crate::candidates::dispatch::{arm_of, blank, candidates_at, leads};
+use crate::candidates::dispatch::{blank, candidates_at, leads};
 use crate::table::built_in::{may_become_deep, row_at};
 use crate::table::known::known_of;
 use crate::table::rows::ROW_COUNT;
@@ -30,7 +30,7 @@ pub fn is_decided(buf: &[u8]) -> bool
     let Some(first) = buf.first() else {
         return false;
     };
-    match first_open(candidates_at(arm_of(*first)), buf) {
+    match first_open(candidates_at(*first), buf) {
         Some(row) => accepts(buf, row),
         None => true,
     }
@@ -53,7 +53,7 @@ pub fn position_for_good(buf: &[u8]) -> Option<Option<usize>>
     infer_sig::laws::growth();
     infer_deep::laws::growth();
     let first = buf.first()?;
-    match first_open(candidates_at(arm_of(*first)), buf) {
+    match first_open(candidates_at(*first), buf) {
         Some(row) => accepts(buf, row).then_some(Some(row)),
         None => Some(None),
     }

@@ -12,7 +12,7 @@ ghost use Rattle.infer_evidence.specs.Evidence.{AgreesOn, IsOf};
 
 use crate::answers::position;
 use crate::ask::question::accepts;
-use crate::candidates::dispatch::{arm_of, blank, candidates_at, leads};
+use crate::candidates::dispatch::{blank, candidates_at, leads};
 use crate::decided::may_become;
 use crate::table::known::{known_of, search_of};
 use crate::table::rows::ROW_COUNT;
@@ -151,7 +151,7 @@ fn weigh_candidates(held: Option<usize>, buf: &[u8], evidence: &mut Evidence) ->
         return None;
     };
     evidence.ask(Range::new(0, 1, None));
-    weigh_rows(candidates_at(arm_of(*first)), held, buf, evidence)
+    weigh_rows(candidates_at(*first), held, buf, evidence)
 }
 
 /// The number of the first built-in row that accepts `buf`, as [`position`](crate::position) answers, and what decides it: the

@@ -4,7 +4,7 @@ use Rattle.infer_deep.specs.Laws.{BeginApart}
 use Rattle.infer_deep.proofs.OpenLemmas.{fills_parts, grown_agrees, kept, kept_agrees, kept_bytes, kept_ends, kept_numbers, reaches_text}
 use Rattle.infer_deep.proofs.PlaceLemmas.{OccursAt-append, OccursAt-agree, OccursAt-first, OccursAt-front}
 use Rattle.infer_deep.proofs.NumberLemmas.{le32-append}
-use Rattle.infer_deep.proofs.JoinedLemmas.{IsPrefixFree, Stops, WordsBegin, NoneBegins-first, Behind-lead, Behind-lasts, Behind-comes, Behind-left, Behind-trimmed, Behind-apart, Behind-open}
+use Rattle.infer_deep.proofs.JoinedLemmas.{IsPrefixFree, Stops, WordsBegin, NoneBegins-first, Behind-lead, Behind-lasts, Behind-comes, Behind-left, Behind-apart, Behind-open}
 
 -- what begins as a frame does so in a part that has its first four bytes
 front_begins : (b more : List ℕ) → 4 ≤ length b → BeginsFrame (b ++ more) → BeginsFrame b
@@ -75,9 +75,6 @@ module _ (magic : List ℕ) (some : 0 < length magic) (low : get_or magic 0 0 < 
 
   pub IsFramed-left : (b left : List ℕ) → SkipsTo IsFrame b left → NoneBegins IsFrame left → Stands magic left ↔ IsFramed magic b
   IsFramed-left = Behind-left IsFrame (Stands magic) IsFrame-prefix_free stands_stops
-
-  pub IsFramed-trimmed : (b left : List ℕ) → SkipsTo IsFrame b left → NoneBegins IsFrame left → IsFramed magic left ↔ IsFramed magic b
-  IsFramed-trimmed = Behind-trimmed IsFrame (Stands magic) IsFrame-prefix_free stands_stops
 
   pub is_framed_open : IsTrue (are_bytes magic) → (b left : List ℕ) → SkipsTo IsFrame b left → NoneBegins IsFrame left
       → (AgreesAt left magic 0 ⊎ MayBecome IsFrame left) ↔ MayBecome (IsFramed magic) b

@@ -1,7 +1,7 @@
 -- The headers of an Office document: each is one place, and stays it in a buffer that grows.
-use Rattle.infer_deep.proofs.Common.{◌≡◌, ℕ, ◌+◌, ◌<◌, ◌≤◌, List, ◌++◌, Option, Some, None, length, refl, sym, subst, ◌∙◌, inl, inr, arith, codes, min, take, drop, ◌-◌, ◌↔◌, unwrap_or, OccursAt, le32, IsWithin, IsFirstWithin, FindsPlace, Lasts, IsEarly, ComesWith, zip_header, HasFolder, HasOfficeName, BeginsOffice, IsHeaderFrom, IsThirdHeader, DecidesBehind, IsDecidingHeader, IsDecidingPlace, IsOffice}
+use Rattle.infer_deep.proofs.Common.{◌≡◌, ℕ, ◌+◌, ◌≤◌, List, ◌++◌, Option, Some, None, length, refl, sym, subst, ◌∙◌, inl, inr, arith, codes, ◌↔◌, OccursAt, le32, IsWithin, IsFirstWithin, FindsPlace, Lasts, IsEarly, ComesWith, zip_header, HasFolder, HasOfficeName, BeginsOffice, IsHeaderFrom, IsThirdHeader, DecidesBehind, IsDecidingHeader, IsDecidingPlace, IsOffice}
 use Rattle.infer_deep.proofs.NumberLemmas.{le32-append}
-use Rattle.infer_deep.proofs.PlaceLemmas.{Carries, IsUnique, IsFirstPlace-same, IsFirstPlace-append, OccursAt-append, OccursAt-front, OccursAt-part, stands_at_one}
+use Rattle.infer_deep.proofs.PlaceLemmas.{Carries, IsUnique, IsFirstPlace-same, IsFirstPlace-append, OccursAt-append, OccursAt-front, stands_at_one}
 
 pub IsThirdHeader-one : (At : List ℕ → List ℕ → ℕ → Type 0) (b : List ℕ) → IsUnique (IsThirdHeader At b)
 IsThirdHeader-one At b p q t u = grind (arith, IsFirstPlace-same)
@@ -48,13 +48,6 @@ header_decides b header d zip free name = (zip, inr (free, name, (header, d, ref
 
 pub IsOffice-at : (b folder : List ℕ) (p : ℕ) → IsDecidingPlace b p → OccursAt b folder p ↔ IsOffice folder b
 IsOffice-at b folder p d = stands_at_one (IsDecidingPlace b) (IsDecidingPlace-one b) b (λ x. x) folder p d
-
--- what follows from the deciding place on begins with the folder of the document
-pub folder_follows : (b folder : List ℕ) (r : Option ℕ) (place n : ℕ) → 0 < length folder → FindsPlace (IsDecidingPlace b) r
-    → place ≡ unwrap_or r (length b) → n ≡ min place (length b) → OccursAt (take (length b - n) (drop n b)) folder 0 ↔ IsOffice folder b
-folder_follows b folder None place n some none at is =
-    (λ o. absurd (grind (arith, OccursAt-part b folder n (length b) 0)), λ (p, d, o). absurd (none p d))
-folder_follows b folder (Some p) place n some d at is = grind (arith, OccursAt-part b folder n (length b) 0, IsOffice-at b folder p d)
 
 -- what stands in one buffer and another
 module _ (b c : List ℕ) (n : ℕ) (carries : Carries n b c) where

@@ -54,18 +54,6 @@ pub fn may_become_lz4(buf: &[u8]) -> bool
     may_become_framed(buf, b"\x04\x22\x4D\x18")
 }
 
-/// What follows the skippable frames at the front of `buf`, which is Zstandard or LZ4 exactly if `buf` is.
-///
-/// Whoever asks for both asks them of this, and pays for the frames once.
-pub fn after_skippable_frames(buf: &[u8]) -> &[u8]
-    ensures skips { SkipsTo IsFrame buf.now result.now }
-    ensures stops { NoneBegins IsFrame result.now }
-    ensures zst { IsZst result.now ↔ IsZst buf.now }
-    ensures lz4 { IsLz4 result.now ↔ IsLz4 buf.now }
-{
-    after_frames(buf)
-}
-
 fn is_framed(buf: &[u8], magic: &[u8; 4]) -> bool
     requires { slice_index magic.now 0 < 0x50 }
     ensures { IsTrue result ↔ IsFramed magic.now buf.now }

@@ -254,19 +254,6 @@ fn open_header_from(buf: &[u8], start: usize) -> Option<usize>
     find_open(buf, b"PK\x03\x04", 0, start, start + 6000)
 }
 
-/// What follows in `buf` from the folder on that decides, and no bytes if none decides: `buf` is a document of the
-/// program whose folder this begins with.
-///
-/// Whoever asks for all three asks them of this, and pays for the search once.
-pub fn deciding_folder(buf: &[u8]) -> &[u8]
-    ensures word { OccursAt result.now (codes "word/") 0 ↔ IsDocx buf.now }
-    ensures excel { OccursAt result.now (codes "xl/") 0 ↔ IsXlsx buf.now }
-    ensures power_point { OccursAt result.now (codes "ppt/") 0 ↔ IsPptx buf.now }
-{
-    let place = deciding_place(buf).unwrap_or(buf.len());
-    &buf[place.min(buf.len())..]
-}
-
 /// Where the deciding folder stands, if anywhere. It is the same place for all three kinds.
 #[tactic(auto, using(crate::proofs::OfficeLemmas::no_deciding, crate::proofs::OfficeLemmas::header_decides))]
 fn deciding_place(buf: &[u8]) -> Option<usize>

@@ -1,6 +1,6 @@
 use Rattle.infer.proofs.Common.{◌≡◌, ◌<◌, ◌∙◌, arith, length, candidates_of, rules, sym}
 use Rattle.infer.proofs.CandidateLemmas.{first_accepting}
-use Rattle.infer.proofs.EvidenceLemmas.{few_of_arm, if_some, same_candidates}
+use Rattle.infer.proofs.EvidenceLemmas.{few_of_first, if_some, same_candidates}
 use Rattle.infer.proofs.why.weigh_candidates.Goals as goal
 
 pub returns-clause-first : goal.returns-clause-first
@@ -17,9 +17,9 @@ returns-clause-decides c = λ b bytes agrees.
 
 pub returns-clause-few : goal.returns-clause-few
 returns-clause-few c =
-    let now = c.weigh_rows.ensures.few in let first = c.ask.ensures.few in let few = few_of_arm c.arm_of.result in grind (arith, now, first, few, c.candidates_at.ensures.rows)
+    let now = c.weigh_rows.ensures.few in let first = c.ask.ensures.few in let few = few_of_first c.in-Some.first.now (grind arith) in grind (arith, now, first, few, c.candidates_at.ensures.rows)
 
 pub returns-clause-fewer : goal.returns-clause-fewer
 returns-clause-fewer c =
-    if_some c.args.held (λ i fewer same. let now = fewer same in let first = c.ask.ensures.few in let few = few_of_arm c.arm_of.result in grind (arith, now, first, few, c.candidates_at.ensures.rows))
+    if_some c.args.held (λ i fewer same. let now = fewer same in let first = c.ask.ensures.few in let few = few_of_first c.in-Some.first.now (grind arith) in grind (arith, now, first, few, c.candidates_at.ensures.rows))
     c.weigh_rows.ensures.fewer
