@@ -15,8 +15,8 @@ DATA = """//! Made by `tools/tables` from the definitions of the further rows, w
 ghost use Rattle.std.specs.Prelude.{{◌≡◌, IsAscii}};
 ghost use Rattle.infer_more.specs.Listed.{{alternatives, asked_texts, extensions, mime_types, pieces, rows}};
 
-use crate::listed::Piece::{{At, Between, OneOf}};
-use crate::listed::{{Alternative, Bytes, FurtherRow, Piece, Span}};
+use crate::row_data::Piece::{{At, Between, OneOf}};
+use crate::row_data::{{Alternative, Bytes, FurtherRow, Piece}};
 use infer::MatcherType;
 use infer::rows::{{
 {parents}
@@ -48,6 +48,7 @@ pub(super) fn extensions() -> &'static str
 static ASKED_TEXTS: &[u8] =
     {asked};
 
+#[tactic(auto, unfolding(crate::specs::Listed::asked_texts))]
 #[inline(always)]
 pub(super) fn asked_texts() -> &'static [u8]
     ensures {{ result.now ≡ asked_texts }}
@@ -60,6 +61,7 @@ static PIECES: [Piece; {piece_count}] = pieces![
 {pieces}
 ];
 
+#[tactic(auto, unfolding(crate::specs::Listed::pieces))]
 #[inline(always)]
 pub(super) fn all_pieces() -> &'static [Piece]
     ensures {{ result.now ≡ pieces }}
@@ -72,6 +74,7 @@ static ALTERNATIVES: [Alternative; {alternative_count}] = alternatives![
 {alternatives}
 ];
 
+#[tactic(auto, unfolding(crate::specs::Listed::alternatives))]
 #[inline(always)]
 pub(super) fn all_alternatives() -> &'static [Alternative]
     ensures {{ result.now ≡ alternatives }}
@@ -84,6 +87,7 @@ static ROWS: [FurtherRow; {row_count}] = rows![
 {rows}
 ];
 
+#[tactic(auto, unfolding(crate::specs::Listed::rows))]
 #[inline(always)]
 pub(super) fn all_rows() -> &'static [FurtherRow]
     ensures {{ result.now ≡ rows }}
@@ -93,6 +97,8 @@ pub(super) fn all_rows() -> &'static [FurtherRow]
 """
 LISTS = """//! Made by `tools/tables` from the definitions of the further rows, which the prover compares with them: the relations that
 //! rows ask for, a few a list.
+#![tactic(auto, unfolding(crate::specs::Listed::relations, {unfolded}))]
+
 ghost use Rattle.std.specs.Prelude.{{◌≡◌, ◌+◌, ◌<◌, ◌≤◌, IfSome, None}};
 ghost use Rattle.infer_more.specs.Listed.{{AreRelations}};
 
@@ -108,6 +114,7 @@ const RELATIONS_OF_A_LIST: usize = {size};
 const RELATION_COUNT: usize = {count};
 {lists}
 /// The list in which the relation of that number stands, and the number of the relation with which it begins.
+#[tactic(auto)]
 pub(super) fn list_of(number: usize) -> Option<(usize, &'static [Relation<'static>])>
     ensures listed {{ IfSome result (λ list. (list.0 ≤ number)
         × (number < list.0 + RELATIONS_OF_A_LIST) × AreRelations list.0 list.1.now) }}
@@ -138,7 +145,7 @@ OF_ROWS = """-- Made by `tools/tables`: the rows of the code are those of the de
 use Rattle.infer_more.proofs.Common.{{{names}, ◌≡◌, drop, length, map, refl, subst}}
 use Rattle.infer_more.proofs.ListedLemmas.{{AreAlike, listed, listed_is, listed_near, shown, walked}}
 use Rattle.infer_more.specs.Listed.{{alternatives, asked_texts, extensions, mime_types, pieces, relations, rows}}
-use Rattle.infer_more.specs.declared.listed.relations.TheConstants.{{RELATION_COUNT}}
+use Rattle.infer_more.specs.declared.row_data.relations.TheConstants.{{RELATION_COUNT}}
 {lines}
 behind : map listed_near (drop {past} rows) ≡ map shown (drop {past} further)
 unfolding rows {unfolded}
@@ -158,15 +165,6 @@ unfolding alternatives asked_texts extensions mime_types pieces relations rows {
 from_{first} = (
 {lines}
 )
-"""
-OF_RELATIONS = """-- Made by `tools/tables`: the relations of a list are those of the definitions.
-use Rattle.infer_more.proofs.Common.{{{names}, refl}}
-use Rattle.infer_more.specs.Listed.{{relations}}
-use Rattle.infer_more.proofs.listed.relations.relations_from_{first}.Goals as goal
-
-pub returns : goal.returns
-unfolding relations {unfolded}
-returns c = refl
 """
 
 
@@ -313,14 +311,15 @@ def laid_out(relation):
     return f"    {name}(\n{taken}\n    ),"
 
 
-def relations(rows):
-    """The file of the relations."""
-    lists = in_lists(rows)
-    names = {it.partition("(")[0] for _, its in lists for it in its}
+def relations(rows, lists):
+    """The file of the relations, of rows that stand in these lists."""
+    found = in_lists(rows)
+    names = {it.partition("(")[0] for _, its in found for it in its}
     return LISTS.format(
-        relations=wrapped(names), size=RELATIONS_OF_A_LIST, count=sum(len(its) for _, its in lists),
-        lists="".join(LIST.format(first=first, relations="\n".join(map(laid_out, its))) for first, its in lists),
-        arms="\n".join(f"        {k} => Some(({first}, relations_from_{first}()))," for k, (first, _) in enumerate(lists)),
+        relations=wrapped(names), size=RELATIONS_OF_A_LIST, count=sum(len(its) for _, its in found),
+        unfolded=", ".join(f"crate::specs::Table::{it}" for it in lists),
+        lists="".join(LIST.format(first=first, relations="\n".join(map(laid_out, its))) for first, its in found),
+        arms="\n".join(f"        {k} => Some(({first}, relations_from_{first}()))," for k, (first, _) in enumerate(found)),
     )
 
 
@@ -339,5 +338,3 @@ def answers(rows, names):
         walked = f"walked listed_near shown rows further {first} {first + ROWS_AT_ONCE} refl from_{first} {walked if first == firsts[-1] else f'({walked})'}"
     yield "ListedRows", OF_ROWS.format(
         names=joined, unfolded=unfolded, lines="".join(of_rows(first, unfolded) for first in firsts), walked=walked, past=firsts[-1] + ROWS_AT_ONCE)
-    for first, _ in in_lists(rows):
-        yield f"listed/relations/relations_from_{first}/Answers", OF_RELATIONS.format(first=first, names=joined, unfolded=unfolded)

@@ -22,31 +22,31 @@ HEAD = """//! Made by `tools/tables` from the further rows, the lists of the ind
 //! row. Those below each built-in row stand in its order, but for those that are found by names, which have lists of their
 //! own.
 ghost use Rattle.std.specs.Prelude.{{◌≡◌, [], ◌∷◌}};
-ghost use Rattle.infer_more.specs.Index.{{AreWaysBelow, IsWayBelow, told_texts}};
+ghost use Rattle.infer_more.specs.Index.{{AreWaysBelow, IsWayBelow, name_texts}};
 
 use crate::index::Below::{{ClassIds, Entries, Nothing, Packages, Programs, Roots, Tagged}};
 use crate::index::search::below_at;
-use crate::index::{{Below, Entry, Keyed, Named, Rooted, Spot, Texts, Told}};
-use crate::listed::{{Span, span}};
+use crate::index::{{Below, ByName, Entry, Keyed, Named, Rooted, Spot, Texts}};
+use crate::row_data::span;
 
 /// How many further rows there are.
 pub const FURTHER_COUNT: usize = {};
 
-/// The texts by which rows are told.
-static TOLD_TEXTS: &[u8] =
+/// The texts by which rows are found.
+static NAME_TEXTS: &[u8] =
     {};
 
-#[tactic(auto, unfolding(crate::specs::Index::told_texts))]
+#[tactic(auto, unfolding(crate::specs::Index::name_texts))]
 #[inline(always)]
-pub(super) fn told_texts() -> &'static [u8]
-    ensures {{ result.now ≡ told_texts }}
+pub(super) fn name_texts() -> &'static [u8]
+    ensures {{ result.now ≡ name_texts }}
 {{
-    TOLD_TEXTS
+    NAME_TEXTS
 }}
 
 """
 BELOW_APART = """
-/// How the rows below built-in row {0} are told.
+/// How the rows below built-in row {0} are found.
 #[inline(always)]
 fn below_{0}() -> &'static Below
     ensures {{ IsWayBelow {0} result.now }}
@@ -55,7 +55,7 @@ fn below_{0}() -> &'static Below
 }}
 """
 BELOW_OTHERS = """
-/// How the rows below each built-in row are told, but for these.
+/// How the rows below each built-in row are found, but for these.
 #[inline(always)]
 fn below_others() -> &'static [Below]
     ensures {{ AreWaysBelow ({}) result.now }}
@@ -63,9 +63,9 @@ fn below_others() -> &'static [Below]
     BELOW
 }}
 
-/// How the rows below this built-in row are told.
+/// How the rows below this built-in row are found.
 #[inline(always)]
-pub(super) fn told_below(parent: usize) -> &'static Below
+pub(super) fn way_listed(parent: usize) -> &'static Below
     ensures {{ IsWayBelow parent result.now }}
 {{
     match parent {{
@@ -79,19 +79,19 @@ COMPUTED = """-- Made by `tools/tables` from the further rows: computed of each.
 use Rattle.infer_more.proofs.Common.{{{words}refl}}
 use Rattle.infer_more.proofs.Common.{{{names}}}
 use Rattle.infer_more.proofs.FoundLemmas.{{{lemma}}}
-use Rattle.infer_more.specs.Index.{{told_texts}}
+use Rattle.infer_more.specs.Index.{{name_texts}}
 use Rattle.infer_more.proofs.index.generated.{function}.Goals as goal
 
 pub returns : goal.returns
-unfolding told_texts {unfolded}
+unfolding name_texts {unfolded}
 returns c = {lemma} {parent}_ refl refl
 """
-TOLD_BELOW = """-- Made by `tools/tables` from the further rows: the other ways stand in one list.
+WAYS_BELOW = """-- Made by `tools/tables` from the further rows: the other ways stand in one list.
 use Rattle.infer_more.proofs.Common.{{◌∷◌, [], arith, subst, sym}}
 use Rattle.infer_more.specs.Index.{{IsWayBelow}}
 use Rattle.infer_more.proofs.BelowLemmas.{{not_among}}
 use Rattle.infer_more.proofs.FoundLemmas.{{way_of_list}}
-use Rattle.infer_more.proofs.index.generated.told_below.Goals as goal
+use Rattle.infer_more.proofs.index.generated.way_listed.Goals as goal
 
 pub returns-in_default : goal.returns-in_default
 returns-in_default c =
@@ -113,14 +113,14 @@ EACH, FIRST, TEXT_BYTE = 9, 45, 100
 LAST = 1 << 16
 # The kinds of ways below a parent that stand in one list: they have no list inside a list.
 LISTED = {"Nothing", "Entries"}
-# What is told last, without being tried.
+# What is found last, without being tried.
 TEXTS = {"JsonLines", "JsonText", "PlainText"}
 # What asks for a tag of the first directory.
 TAGGED = {"DirectoryTag", "DirectoryTagAndMake"}
-# What is told without a parent and not tried.
-TOLD = TEXTS | {"Root", "RootWith", "FirstKey", "FirstKeyWith"}
-# What is told with a parent or without one.
-NOT_TRIED = TOLD | {"ClassId", "PackageWith", "Program"}
+# What is found without a parent and not tried.
+BY_NAME = TEXTS | {"Root", "RootWith", "FirstKey", "FirstKeyWith"}
+# What is found with a parent or without one.
+NOT_TRIED = BY_NAME | {"ClassId", "PackageWith", "Program"}
 COMMON = set(b" etaoinshrdlu\n\x00\x01\xFF")
 RELATIONS = "crates/infer_formats/specs/Relation.antt"
 # What every buffer has that fits an alternative which looks inside, where RELATIONS names other definitions, or asks for more
@@ -188,7 +188,7 @@ class Further(NamedTuple):
     signature: list[Alternative]
 
     def outlines(self, told=()):
-        """What all of them ask at fixed places, but those that are told in another way."""
+        """What all of them ask at fixed places, but those that are found in another way."""
         return [asked for it in self.signature if it.name not in told for asked in it.outlines]
 
 
@@ -255,8 +255,8 @@ def alternative(code):
     return Alternative(name, takes, OUTLINES.get(name) or outlines_of(name) or [asked(code)])
 
 
-def is_told(alternative):
-    """Whether it is told below a parent: by a name, or by few bytes at a place."""
+def is_found_by_name(alternative):
+    """Whether it is found below a parent: by a name, or by few bytes at a place."""
     return alternative.name in NOT_TRIED - TEXTS or all(min(map(len, it.values()), default=256) <= MOST_BYTES for it in alternative.outlines)
 
 
@@ -345,7 +345,7 @@ def picks(places, alternatives):
 
 def spots(rows):
     """The places of the spots, and of each of its bytes the entries: for the rows of no parent that are tried."""
-    numbered = [(number, it) for number, row in enumerate(rows) if not row.parent for it in row.outlines(TOLD)]
+    numbered = [(number, it) for number, row in enumerate(rows) if not row.parent for it in row.outlines(BY_NAME)]
     places = places_of([it for _, it in numbered])
     at = picks(places, [it for _, it in numbered])
     for place in places:
@@ -369,7 +369,7 @@ def nearest(outline, beside=()):
     return {(place, byte) for byte in outline[place]}
 
 
-def led(rows):
+def by_lead(rows):
     """What rules out the rows of no parent but those of texts, in their order: of each first byte the entries of those that allow
     it, and the entries of those that ask nothing of it. The nearest bytes rule out most."""
     first, beside = [[] for _ in range(256)], []
@@ -398,7 +398,7 @@ def names(rows, name):
         yield from ((re.findall(TEXT_OF_BYTES, it.takes), number) for it in row.signature if it.name == name)
 
 
-def told_by(rows, name):
+def name_at(rows, name):
     """The texts that the alternatives of that name take, and of that with another text, as code has them, in the order of the
     rows."""
     both = sorted([*names(rows, name), *names(rows, f"{name}With")], key=lambda it: it[1])
@@ -413,16 +413,16 @@ def in_buckets(listed, many, part=1):
 
 def rooted(rows):
     """The rows, each with its number, that ask for a root."""
-    return f"roots![{in_buckets(told_by(rows, 'Root'), ROOT_BUCKETS, 2)}]"
+    return f"roots![{in_buckets(name_at(rows, 'Root'), ROOT_BUCKETS, 2)}]"
 
 
 def tried_beside(rows, kinds):
-    """The entries of those of these rows that are told in another way than these."""
+    """The entries of those of these rows that are found in another way than these."""
     return f"entries!{in_list(entries([(k, row.outlines(kinds)) for k, row in rows]))}"
 
 
 def below(rows):
-    """How the rows below a built-in row are told, each with its number: what it is called, and what it takes."""
+    """How the rows below a built-in row are found, each with its number: what it is called, and what it takes."""
     kinds = {it.name for _, row in rows for it in row.signature}
     if not rows:
         return "Nothing", []
@@ -455,7 +455,7 @@ def in_lines_of_code(name, takes, before, after=";"):
 
 
 def apart(ways):
-    """The parents whose rows are told by names."""
+    """The parents whose rows are found by names."""
     return [k for k, (name, _) in enumerate(ways) if name not in LISTED]
 
 
@@ -508,19 +508,19 @@ def lists(rows, parents, texts):
         yield from (f"    {it}" for it in in_lines_of_code(*((name, takes) if name in LISTED else ("Nothing", [])), "", ","))
     yield "];"
     yield BELOW_OTHERS.format(in_list_of(apart(ways)), arms(apart(ways), "below_{}()"))
-    found, (first, beside) = list(spots(rows)), led(rows)
+    found, (first, beside) = list(spots(rows)), by_lead(rows)
     yield from spans("", found)
     yield ""
-    yield from spans("LED_", [(0, first)])
+    yield from spans("LEAD_", [(0, first)])
     yield ""
     yield from entries_of("BESIDE", beside)
     yield "\npub(crate) static TEXTS: Texts = Texts {"
     yield from last(rows)
     yield "};"
     own = [(k, row) for k, row in numbered if not row.parent]
-    yield "\npub(super) static TOLD: Told = Told {"
+    yield "\npub(super) static BY_NAME: ByName = ByName {"
     yield in_spans(f"    roots: {rooted(own)},", texts)
-    yield in_spans(f"    keys: keyed!{bracketed(said for _, said in told_by(own, 'FirstKey'))},", texts)
+    yield in_spans(f"    keys: keyed!{bracketed(said for _, said in name_at(own, 'FirstKey'))},", texts)
     yield "};"
 
 
@@ -569,7 +569,7 @@ def computed(rows, parents):
         yield f"below_{k}", COMPUTED.format(function=f"below_{k}", lemma="way_below", words="", parent=f"{k} ", **said)
     others = in_list_of(apart(ways))
     yield "below_others", COMPUTED.format(function="below_others", lemma="ways_below", words="◌∷◌, [], ", parent=f"({others}) ", **said)
-    yield "told_below", TOLD_BELOW.format(parents=others, differ=differing(apart(ways)))
+    yield "way_listed", WAYS_BELOW.format(parents=others, differ=differing(apart(ways)))
 
 
 def text(rows, parents):

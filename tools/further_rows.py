@@ -126,7 +126,7 @@ def check_written(row, number, parents):
 
 def check_told(row, number):
     """Ends with a row below a parent that the index cannot tell by few bytes."""
-    if row.parent and not all(further_index.is_told(further_index.alternative(it)) for it in row.alternatives):
+    if row.parent and not all(further_index.is_found_by_name(further_index.alternative(it)) for it in row.alternatives):
         what = f"allows more than {further_index.MOST_BYTES} bytes wherever it asks, and the index finds no such row below a parent"
         refuse(SPECS, places()[number], f"further row {number} ({row.extension}) {what}: give it a place with fewer bytes")
 

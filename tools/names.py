@@ -46,18 +46,9 @@ TEXTS = (
 ROWS = 128
 # How many rows a range has at most.
 MOST_OF_RUN = 255
-# How many marks there are for each length of a text, of which this one stands for all that are greater.
-MARKS, LONG = 64, 63
 KEYS_CODE = """//! Made by `tools/tables` from names.txt: the keys in the order of their slots, where the slots begin, and the readings.
 use crate::table::Origin::{{Known, Own, Row}};
-use crate::table::{{
-    Asks, Key, NamedType, Part, Reading, Span, is_loose, keys, origin, readings, span,
-}};
-
-/// For each mark whether a whole name has it.
-pub(crate) static WHOLE_MARKS: [u8; {marks_count}] = [
-{marks}
-];
+use crate::table::{{Asks, Key, NamedType, Part, Reading, is_loose, keys, origin, readings, span}};
 
 /// Where the keys of each slot begin, and where those of the last end.
 pub(crate) static STARTS: [u16; {starts_count}] = [
@@ -92,7 +83,8 @@ ghost use Rattle.std.specs.Prelude.{{◌≡◌}};
 ghost use Rattle.infer_named.specs.Listed.{{lists_of_texts}};
 ghost use Rattle.infer_named.specs.Texts.{{lead_lists}};
 
-use crate::table::{{Span, lists, span, spans}};
+use crate::table::{{lists, span, spans}};
+use infer_evidence::Span;
 
 /// Where the text of a row stands and how long it is.
 pub(crate) static ROWS: [Span; {rows_count}] = spans![
@@ -149,15 +141,13 @@ keys = {keys}
 """
 # The proofs of one part of the keys, which begins behind so many.
 KEYS_PROOF = """-- Made by `tools/tables` from names.txt: each key of slots {first} to {last} stands in its slot, and none is wrong: if one is, its
--- text stands in the error. And each whole name has its mark.
+-- text stands in the error.
 use Rattle.std.proofs.Common.{{◌≡◌, [], length, refl}}
 use Rattle.infer.specs.Table.{{table}}
 use Rattle.infer_more.specs.Table.{{{lists}, further}}
 use Rattle.infer_more.specs.Wider.{{shown}}
 use Rattle.infer_named.proofs.FindLemmas.{{wrong_from}}
-use Rattle.infer_named.proofs.MarkLemmas.{{AreMarked}}
 use Rattle.infer_named.specs.Keys.{name}.{{keys}}
-use Rattle.infer_named.specs.Marks.{{whole_marks}}
 use Rattle.infer_named.specs.Slots.{{starts}}
 
 pub many : length keys ≡ {count}
@@ -167,16 +157,11 @@ many = refl
 pub right : wrong_from starts {end} {start} keys ≡ []
 unfolding keys starts shown table further {rows_names}
 right = refl
-
-pub marked : AreMarked keys
-unfolding keys whole_marks
-marked = record {{ all = refl }}
 """
 ALL_PROOF = """-- Made by `tools/tables` from names.txt: code and definition have the same keys, and no key is wrong.
 use Rattle.std.proofs.Common.{{◌≡◌, [], map, refl, subst}}
 use Rattle.infer_named.proofs.FindLemmas.{{right_append, wrong_from}}
 use Rattle.infer_named.proofs.ListedLemmas.{{key_is, key_near}}
-use Rattle.infer_named.proofs.MarkLemmas.{{AreMarked, marked_append}}
 use Rattle.infer_named.specs.Listed.{{key_listed, key_texts, mime_types, ranges, readings, row_spans, row_texts}}
 use Rattle.infer_named.specs.Slots.{{starts}}
 use Rattle.infer_named.specs.Table.{{keys}}
@@ -187,10 +172,6 @@ use Rattle.infer_named.specs.declared.table.generated.keys.TheConstants.{{KEYS}}
 pub right : wrong_from starts {count} 0 keys ≡ []
 unfolding keys
 right ={right}
-
-pub marked : AreMarked keys
-unfolding keys
-marked ={marked}
 
 keys_alike : map key_near KEYS ≡ keys
 unfolding keys {lists} key_texts readings mime_types ranges row_spans row_texts lead_lists
@@ -492,17 +473,6 @@ def numbers_text(numbers):
     return "\n".join([*lines, line])
 
 
-def mark_of(text):
-    """The mark of a text, as crates/infer_named/specs/Marks.antt defines it."""
-    return MARKS * min(len(text), LONG) + (7 * ord(text[0]) + 8 * ord(text[-1])) % MARKS
-
-
-def marks(texts):
-    """For each mark whether a text has it."""
-    found = {mark_of(it) for it in texts}
-    return [int(it in found) for it in range(MARKS * (1 + max(map(len, texts))))]
-
-
 class Texts:
     """Texts, one behind the other, each once."""
 
@@ -573,9 +543,8 @@ def keys_code():
         spans = f"{key_texts().span(it.text)} {len(readings)} {len(it.readings)}"
         keys.append(f'    {"Loose" if it.is_loose else "Strict"} {it.part} {spans};')
         readings += map(reading_text, it.readings)
-    whole = marks([it.text for it in listed() if it.part == "Whole"])
     return KEYS_CODE.format(
-        marks=numbers_text(whole), marks_count=len(whole), starts=numbers_text(starts()), starts_count=SLOTS + 1, keys="\n".join(keys), count=len(keys),
+        starts=numbers_text(starts()), starts_count=SLOTS + 1, keys="\n".join(keys), count=len(keys),
         readings="\n".join(readings), readings_count=len(readings),
     )
 
@@ -689,11 +658,8 @@ def all_proof():
     right = f"k{count - 1}.right"
     for it in reversed(range(count - 1)):
         right = f"right_append starts {len(in_slots())} {starts()[it * GROUP]} {len(of_group(it))} _ _ refl k{it}.many k{it}.right\n    ({right})"
-    marked = f"k{count - 1}.marked"
-    for it in reversed(range(count - 1)):
-        marked = f"marked_append k{it}.marked\n    ({marked})"
     return ALL_PROOF.format(
-        uses="\n".join(uses), right=f"\n    {right}", count=len(in_slots()), marked=f"\n    {marked}", lists=" ".join(f"of_k{it}.keys" for it in range(count)),
+        uses="\n".join(uses), right=f"\n    {right}", count=len(in_slots()), lists=" ".join(f"of_k{it}.keys" for it in range(count)),
     )
 
 

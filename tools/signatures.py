@@ -81,12 +81,12 @@ def text_of_alternative(alternative):
     return f" [{least} {', '.join(map(part_of, parts))}]"
 
 
-def with_known(code, names):
+def with_row_data(code, names):
     """The code with the alternatives of each row that asks for bytes at fixed places alone in its lists."""
     size = int(re.search(r"^const ROWS_OF_A_LIST: usize = (\d+);$", code, re.M)[1])
     rows = [f"    {name}{alternatives};\n" for name, _, alternatives in signatures_of(names)]
     rows += ["    NoRow [];\n"] * (-len(rows) % size)
     for first in range(0, len(rows), size):
-        before, begin, after = code.partition(f"static KNOWN_FROM_{first}: [Option<Known>; ROWS_OF_A_LIST] = known! {{\n")
+        before, begin, after = code.partition(f"static DATA_FROM_{first}: [Option<RowData>; ROWS_OF_A_LIST] = row_data! {{\n")
         code = before + begin + "".join(rows[first : first + size]) + after[after.index("};\n") :]
     return code

@@ -10,8 +10,8 @@ use Rattle.infer.proofs.AskLemmas.{none_among}
 use Rattle.infer.proofs.GroupLemmas.{at_most}
 use Rattle.infer.proofs.TableLemmas.{row_accepts}
 use Rattle.infer.specs.Groups.{groups}
-use Rattle.infer.specs.Evidence.{AreListed, IsTold, fixed_listed, fixed_of, most_of, most_of_all}
-use Rattle.infer.specs.declared.why.TheConstants.{MOST_OF_CANDIDATES}
+use Rattle.infer.specs.Evidence.{AreListed, IsRowDecided, fixed_listed, fixed_of, most_of, most_of_all}
+use Rattle.infer.specs.declared.deciding_bytes.TheConstants.{MOST_OF_CANDIDATES}
 use Rattle.std.specs.Prelude.{codes, nat_eq, nat_le, true}
 use Rattle.std.specs.Option.{option_eq}
 use Rattle.std.proofs.lemmas.Bool.{eqb-true}
@@ -21,9 +21,9 @@ use Rattle.infer_evidence.specs.declared.search.TheConstants.{MOST_OF_A_SEARCH}
 use Rattle.infer_sig.specs.Signature as signature
 use Rattle.infer_sig.specs.Signature.{accepts}
 use Rattle.infer_evidence.specs.Listed.{signature_listed}
-use Rattle.infer.specs.declared.table.known.Known.{Known}
+use Rattle.infer.specs.declared.table.row_data.RowData.{RowData}
 
-module _ (first n : ℕ) (rows : List (Option Known)) (h : AreListed first n rows) (i : ℕ) (s : Option Known) (found : slice_get rows i ≡ Some s) where
+module _ (first n : ℕ) (rows : List (Option RowData)) (h : AreListed first n rows) (i : ℕ) (s : Option RowData) (found : slice_get rows i ≡ Some s) where
   inside : i < n
   inside = grind (arith, slice_get_within rows i s found, h, length-map, length-range_with_len)
 
@@ -43,12 +43,12 @@ fixed_by (fixed own) alternatives e = grind (arith)
 fixed_by s alternatives e = absurd (cc)
 
 -- what is listed at a row's place is its signature
-pub row_listed_at : (row first n : ℕ) (rows : List (Option Known)) → first ≤ row → AreListed first n rows
-    → (s : Option Known) → slice_get rows (row - first) ≡ Some s
+pub row_listed_at : (row first n : ℕ) (rows : List (Option RowData)) → first ≤ row → AreListed first n rows
+    → (s : Option RowData) → slice_get rows (row - first) ≡ Some s
     → MatchOption s (fixed_of (signature_of row) ≡ None) (λ k. signature_of row ≡ fixed (signature_listed k.alternatives.now))
 row_listed_at row first n rows le h s found = told s (subst (λ i. fixed_of (signature_of i) ≡ fixed_listed s) (omega arith) (listed_at first n rows h (row - first) s found))
   where
-    told : (s : Option Known) → fixed_of (signature_of row) ≡ fixed_listed s
+    told : (s : Option RowData) → fixed_of (signature_of row) ≡ fixed_listed s
         → MatchOption s (fixed_of (signature_of row) ≡ None) (λ k. signature_of row ≡ fixed (signature_listed k.alternatives.now))
     told None e = e
     told (Some a) e = fixed_by (signature_of row) (signature_listed a.alternatives.now) e
@@ -78,7 +78,7 @@ buffers_with P b c n bytes others le same holds =
     (subst (λ y. P y (f ++ drop (length f) c)) (take-append-drop n b)
     (holds (drop n b) (drop (length f) c) (All-drop (λ x. x < 256) n b bytes) (All-drop (λ x. x < 256) (length f) c others)))
 
-pub front_tells : (lasts : (s : BuiltIn) → Lasts (IsAccepted s)) (b c : List ℕ) (n i : ℕ) → IsBuffer b → IsBuffer c → n ≤ length b → IsTold (take n b) i
+pub front_tells : (lasts : (s : BuiltIn) → Lasts (IsAccepted s)) (b c : List ℕ) (n i : ℕ) → IsBuffer b → IsBuffer c → n ≤ length b → IsRowDecided (take n b) i
     → ((k : ℕ) → k < n → (k < length c) × (get_or c k 0 ≡ get_or b k 0)) → RowHas (Accepts c) i ↔ RowHas (Accepts b) i
 front_tells lasts b c n i bytes others le told same =
     buffers_with (λ y z. RowHas (Accepts z) i ↔ RowHas (Accepts y) i) b c n bytes others le same
@@ -101,12 +101,7 @@ pub row_fixed : (i : ℕ) (alternatives : List signature.Alternative) → signat
     → IsTrue (accepts alternatives b) ↔ RowHas (Accepts b) i
 row_fixed i alternatives e b = subst (λ s. IsAccepted s b ↔ RowHas (Accepts b) i) e (row_accepts b i)
 
--- of one number more it is known that it has not the property
-pub none_more : (P : ℕ → Type 0) (xs : List ℕ) (i : ℕ) → i < length xs → AllWithin (λ x. ¬ P x) xs 0 i → ¬ P (get_or xs i 0)
-    → AllWithin (λ x. ¬ P x) xs 0 (i + 1)
-none_more P xs i lt before here = AllWithin-more (λ x. ¬ P x) xs 0 i before (λ d h. here (subst P (get_or_default xs i d 0 lt) h))
-
--- and so of all of them
+-- where each number has it not, none is first
 pub none_of_all : (P : ℕ → Type 0) (xs : List ℕ) (i : ℕ) → length xs ≤ i → AllWithin (λ x. ¬ P x) xs 0 i → IsFirstAmong P xs None
 none_of_all P xs i le before = none_among P xs (AllWithin-upto (λ x. ¬ P x) xs 0 i (length xs) le before)
 

@@ -1,10 +1,11 @@
 -- Each built-in row but two is first for its sample.
-use Rattle.infer.proofs.Common.{◌≡◌, ◌<◌, ◌+◌, ◌-◌, ◌++◌, ◌⊎◌, ℕ, List, Some, map, get_or, length, sym, ap, drop, take, refl, subst, ◌∙◌, arith, HoldsAt, length-map, take_at, le16, le32, be32, stands, BuiltIn, IsFirst, Row, Accepts, HoldsSample, put, sample_of, zeros, table, DLL, EPUB_ARCHIVE, ROW_COUNT}
+use Rattle.infer.proofs.Common.{◌≡◌, ◌<◌, ◌≤◌, ◌+◌, ◌-◌, ◌++◌, ◌⊎◌, ℕ, List, Some, map, get_or, length, sym, ap, drop, take, refl, subst, ◌∙◌, arith, HoldsAt, length-map, length-take, leb-true, list_all, IsTrue, take_at, le16, le32, be32, stands, BuiltIn, IsFirst, Row, Accepts, HoldsSample, put, sample_of, zeros, table, DLL, EPUB_ARCHIVE, ROW_COUNT}
 use Rattle.std.proofs.lemmas.List.{drop-replicate, get_or-map}
 use Rattle.infer.specs.declared.samples.TheConstants.{SAMPLE_SIZE}
 use Rattle.infer_deep.specs.Laws as Deep
-use Rattle.infer.specs.declared.samples.Span.{Span}
-use Rattle.infer.specs.Listed.{sample_at}
+use Rattle.infer_evidence.specs.declared.spans.Span.{Span}
+use Rattle.infer.specs.Listed.{is_short, sample_at}
+use Rattle.std.proofs.lemmas.List.Sums.{AllPass-from_list_all}
 use Rattle.infer_sig.proofs.KnownLemmas.{Known, same, either, each_known}
 use Rattle.infer.proofs.OrderLemmas.{known_first, some_row}
 use Rattle.infer_sig.proofs.OccurrenceLemmas.{ByPlace}
@@ -29,6 +30,13 @@ agree_at f g xs ys e i a b lt = grind (arith, get_or-map f xs i a (f a), length-
 pub spans_hold : (text : List ℕ) (xs : List Span) → map (sample_at text) xs ≡ map (λ r. sample_of r.signature) table → (i : ℕ) → i < ROW_COUNT
     → (s : Span) → HoldsAt (λ r. sample_at text (get_or xs i s) ≡ sample_of r.signature) table i
 spans_hold text xs same i lt s d = grind (arith, length-table, agree_at)
+
+pub spans_fit : (text : List ℕ) (xs : List Span) → map (sample_at text) xs ≡ map (λ r. sample_of r.signature) table → IsTrue (list_all is_short xs)
+    → (i : ℕ) → i < ROW_COUNT → (s : Span) → length (sample_at text (get_or xs i s)) ≤ SAMPLE_SIZE
+spans_fit text xs is short i lt s =
+    let many : length xs ≡ ROW_COUNT = sym (length-map xs (sample_at text)) ∙ (ap length is ∙ (length-map table (λ r. sample_of r.signature) ∙ length-table)) in
+    let here = leb-true _ _ (AllPass-from_list_all is_short xs short i s (omega (arith, many, lt))) in
+    grind (arith, here, length-take)
 
 pub sample_holds : (i : ℕ) (text : List ℕ) → HoldsAt (λ r. text ≡ sample_of r.signature) table i → HoldsAt (HoldsSample (length text) (put 0 text (zeros SAMPLE_SIZE))) table i
 sample_holds i text is d =

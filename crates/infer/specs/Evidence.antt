@@ -15,7 +15,7 @@ use Rattle.infer.specs.Decided.{MayBecomeRow}
 use Rattle.infer.specs.First.{IsFirstOf}
 use Rattle.infer.specs.Row.{Accepts}
 use Rattle.infer.specs.Table.{signature_of, table}
-use Rattle.infer.specs.declared.table.known.Known.{Known}
+use Rattle.infer.specs.declared.table.row_data.RowData.{RowData}
 use Rattle.infer.specs.Walks.{IsFirstAmong, RowHas}
 
 -- every buffer that agrees with b on the evidence has this answer
@@ -37,8 +37,8 @@ TellsFirst before after b rows answer =
     (c : List ℕ) → IsBuffer c → AgreesOn after b c → AgreesOn before b c × IsFirstAmong (RowHas (Accepts c)) rows answer
 
 -- whatever bytes follow, it is told whether row i accepts: it accepts, or no bytes make it
-abbrev pub IsTold : List ℕ → ℕ → Type 0
-IsTold b i = RowHas (Accepts b) i ⊎ ¬ RowHas (MayBecomeRow b) i
+abbrev pub IsRowDecided : List ℕ → ℕ → Type 0
+IsRowDecided b i = RowHas (Accepts b) i ⊎ ¬ RowHas (MayBecomeRow b) i
 
 -- row i asks that this text stands somewhere at the front, and no more
 abbrev pub IsSearch : ℕ → Search → Type 0
@@ -50,11 +50,11 @@ fixed_of (fixed alternatives) = Some alternatives
 fixed_of other = None
 
 -- and as the code lists them
-abbrev pub fixed_listed : Option Known → Option (List fixed.Alternative)
+abbrev pub fixed_listed : Option RowData → Option (List fixed.Alternative)
 fixed_listed k = option_map (λ known. signature_listed known.alternatives.now) k
 
 -- these are the signatures of the n rows from that one on
-abbrev pub AreListed : (first n : ℕ) → List (Option Known) → Type 0
+abbrev pub AreListed : (first n : ℕ) → List (Option RowData) → Type 0
 AreListed first n known = map fixed_listed known ≡ map (λ i. fixed_of (signature_of i)) (range_with_len first n)
 
 -- for how many ranges a row asks at most, and rows together

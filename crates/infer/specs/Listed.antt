@@ -1,6 +1,8 @@
 -- The rows as the code lists them, and their samples.
-use Rattle.std.specs.Prelude.{◌-◌, ℕ, Bool, List, ◌&&◌, drop, nat_le, take}
+use Rattle.std.specs.Prelude.{ℕ, Bool, List, nat_le}
 use denote.Enum.Declared.{tag_of}
+use Rattle.infer_evidence.specs.Spans.{stretch}
+use Rattle.infer_evidence.specs.declared.spans.Span.{Span}
 use Rattle.infer.specs.BuiltIn.{BuiltIn}
 use Rattle.infer.specs.Row.{Row}
 use Rattle.infer.specs.Table.{signature_of}
@@ -8,7 +10,6 @@ use Rattle.infer.specs.Triple.{triple_of}
 use Rattle.infer.specs.contracts.table.rows.RowName as row_name
 use Rattle.infer.specs.declared.table.built_in.BuiltInRow.{BuiltInRow}
 use Rattle.infer.specs.declared.table.rows.RowName.{RowName}
-use Rattle.infer.specs.declared.samples.Span.{Span}
 use Rattle.infer.specs.declared.samples.TheConstants.{SAMPLE_SIZE}
 
 -- the number of the row with that name: its place among the names
@@ -21,8 +22,8 @@ row_listed r = record { shows = triple_of r.file_type; signature = signature_of 
 
 -- the sample at a span of the text of all
 abbrev pub sample_at : List ℕ → Span → List ℕ
-sample_at text s = take (s.end - s.start) (drop s.start text)
+sample_at text s = stretch text s.start s.count
 
--- the span is one of so many bytes, and not longer than the longest sample
-abbrev pub is_inside : ℕ → Span → Bool
-is_inside n s = nat_le s.start s.end && nat_le s.end n && nat_le (s.end - s.start) SAMPLE_SIZE
+-- a span is not longer than the longest sample
+abbrev pub is_short : Span → Bool
+is_short s = nat_le s.count SAMPLE_SIZE

@@ -8,9 +8,9 @@ ghost use Rattle.infer.specs.Table.{table};
 ghost use Rattle.infer.specs.Triple.{triple_of};
 ghost use Rattle.infer.specs.Walks.{RowHas, Takes};
 
-use crate::ask::question::{Question, accepts, takes_row};
+use crate::ask::question::{Question, takes_row};
 use crate::candidates::dispatch::{blank, candidates_of, leads};
-use crate::table::built_in::{BuiltInRow, rows};
+use crate::table::built_in::{BuiltInRow, accepts, rows};
 use crate::table::file_type::FileType;
 use crate::table::rows::ROW_COUNT;
 

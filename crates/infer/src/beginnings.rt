@@ -14,7 +14,7 @@ pub enum Beginning {
     OpenBox,
     /// A compound file, whose root entry distinguishes Word, Excel and PowerPoint.
     Compound,
-    /// A ZIP archive whose first entry has a name of Office, and whose later ones tell the kind of document.
+    /// A ZIP archive whose first entry has a name of Office, and whose later ones show the kind of document.
     Archive,
     /// A skippable frame, after which Zstandard or LZ4 data can begin.
     Frame,
@@ -76,7 +76,7 @@ pub fn begins_compound(buf: &[u8]) -> bool
     stands_at(buf, b"\xD0\xCF\x11\xE0\xA1\xB1\x1A\xE1", 0)
 }
 
-/// Whether `buf` begins as a ZIP archive whose first entry has a name of Office. Later entries tell the kind of document.
+/// Whether `buf` begins as a ZIP archive whose first entry has a name of Office. Later entries show the kind of document.
 pub fn begins_office(buf: &[u8]) -> bool
     ensures { IsTrue result ↔ Begins Beginning.Archive buf.now }
 {

@@ -3,10 +3,9 @@ ghost use Rattle.std.specs.Prelude.{◌≡◌, ◌↔◌, ◌<◌, IfSome, IsFal
 ghost use Rattle.infer.specs.Decided.{CanBeDecided, IsAnswerForGood, IsChangeable, IsDecided, MayBecomeRow};
 ghost use Rattle.infer.specs.Walks.{IsFirstAmong, RowHas};
 
-use crate::ask::question::accepts;
 use crate::candidates::dispatch::{blank, candidates_at, leads};
-use crate::table::built_in::{may_become_deep, row_at};
-use crate::table::known::known_of;
+use crate::table::built_in::{accepts, may_become_deep, row_at};
+use crate::table::row_data::row_data;
 use crate::table::rows::ROW_COUNT;
 
 /// Whether no bytes after `buf` change its answer. If this is false, some bytes do. The empty buffer is never decided, and
@@ -87,7 +86,7 @@ fn may_become_at(row: usize, buf: &[u8]) -> bool
     ensures { IsTrue result ↔ RowHas (MayBecomeRow buf.now) row }
 {
     infer_sig::laws::open();
-    match known_of(row) {
+    match row_data(row) {
         Some(own) => infer_evidence::may_become(own.alternatives, buf),
         None => may_become_deep(row_at(row).row, buf),
     }

@@ -74,7 +74,7 @@ pub fn growth()
 /// The first 1024 bytes decide: every matcher but those of the far rows answers on a buffer of at least 1024 bytes
 /// as on its first 1024. Far rows are those that have neither a list of bytes at fixed places nor a window, and these
 /// are their numbers.
-#[tactic(auto, using(crate::proofs::LawLemmas::others_near))]
+#[tactic(auto, using(crate::proofs::LawLemmas::others_near), unfolding(crate::specs::Matchers::is_far_row, crate::specs::Table::signature_of, crate::specs::Table::table))]
 pub fn near()
     ensures others { OthersAreNear signatures }
     ensures twelve { filter is_far_row (range_with_len 0 ROW_COUNT)
@@ -142,9 +142,9 @@ pub fn later()
     growth();
 }
 
-/// What is told of a buffer and a matcher's signature is that some bytes after the buffer make the matcher accept:
-/// so `may_become_html` tells it, and [`may_become`](infer_evidence::may_become) of a fixed signature, since the parts
-/// of each ascend, lie apart and are possible.
+/// Whether some bytes after a buffer make a matcher accept it is decided exactly: by `may_become_html` and the like, and by
+/// [`may_become`](infer_evidence::may_become) for a fixed signature, since the parts of each ascend, lie apart and are
+/// possible.
 #[tactic(auto, using(crate::proofs::DecidedLemmas::open_signatures))]
 pub fn open()
     ensures { All IsToldExactly signatures }

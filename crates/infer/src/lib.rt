@@ -1,4 +1,4 @@
-//! Tells the type of a file from its first bytes.
+//! Identifies the type of a file by its first bytes.
 //!
 //! [`get`] answers the type of the first built-in row whose signature accepts a buffer. An [`Infer`] asks rows
 //! that its caller added before the built-in ones. No question about a buffer takes memory or can refuse.
@@ -13,7 +13,7 @@
 //! Each module uses only those before it: `table`, the rows and their types; `ask`, a question and one row;
 //! `candidates`, the rows that a first byte allows, asked in order; `answers`, what the built-in rows answer; `texts`,
 //! questions with a text; `decided`, what more bytes can change; `beginnings`, after which they can change it from 1024
-//! bytes on; `why`, which bytes decide it; `read`, the front of a reader; `caller`, an [`Infer`] and its rows; `laws`,
+//! bytes on; `deciding_bytes`, which bytes decide it; `read`, the front of a reader; `caller`, an [`Infer`] and its rows; `laws`,
 //! facts about all of these; `samples`.
 #![tactic(auto)]
 
@@ -32,19 +32,19 @@ pub mod beginnings;
 mod caller;
 mod candidates;
 mod decided;
+mod deciding_bytes;
 pub mod laws;
 mod read;
 mod samples;
 mod table;
 pub mod texts;
-mod why;
 
 pub use answers::{get, position, row};
 use ask::question::OfClass;
-pub use ask::question::accepts;
 pub use caller::infer::Infer;
 pub use candidates::asker::{Ask, Asker, is_counted, position_counted, walk};
 pub use decided::{is_decided, may_become, position_for_good};
+pub use deciding_bytes::evidence;
 pub use infer_sig::{
     app as app, archive as archive, audio as audio, book as book, doc as doc, font as font,
     image as image, odf as odf, text as text, video as video,
@@ -58,10 +58,10 @@ use std::alloc::Allocator;
 use std::io;
 use std::io::Read;
 use std::rt::Files;
+pub use table::built_in::accepts;
 pub use table::file_type::{FileType as Type, Matcher, MatcherType};
 pub use table::rows as rows;
 use table::rows::ROW_COUNT;
-pub use why::evidence;
 
 /// The type of the first built-in row that accepts the first 8192 bytes of a file, or all if it has fewer, and
 /// `None` exactly if no row accepts them.

@@ -3,7 +3,7 @@ ghost use Rattle.std.specs.Prelude.{◌≡◌, ◌<◌, ◌≤◌, ◌⊎◌, �
 ghost use Rattle.std.specs.List.{HoldsAt, list_all};
 ghost use Rattle.infer.specs.First.{IsFirst};
 ghost use Rattle.infer.specs.Row.{Accepts};
-ghost use Rattle.infer.specs.Listed.{is_inside, sample_at};
+ghost use Rattle.infer.specs.Listed.{is_short, sample_at};
 ghost use Rattle.infer.specs.Samples.{HoldsSample, put, sample_of, zeros};
 ghost use Rattle.infer.specs.Table.{table};
 ghost use Rattle.infer.specs.declared.samples.TheConstants.{SAMPLE_SIZE};
@@ -14,17 +14,11 @@ use crate::table::rows::{DLL, EPUB_ARCHIVE, ROW_COUNT};
 /// The length of the longest sample.
 pub const SAMPLE_SIZE: usize = 640;
 
-/// Where a sample begins in the text of all, and where it ends.
-pub(crate) struct Span {
-    pub start: usize,
-    pub end: usize,
-}
-
 macro_rules! spans {
-    ($($start:literal $end:literal),*) => {
-        [$(Span {
+    ($($start:literal $count:literal),*) => {
+        [$(infer_evidence::Span {
             start: $start,
-            end: $end,
+            count: $count,
         }),*]
     };
 }
@@ -32,12 +26,13 @@ macro_rules! spans {
 mod generated;
 
 use generated::{SPANS, TEXT};
+use infer_evidence::Span;
 
 /// The text of all samples, and where that of each row stands.
 #[tactic(auto, unfolding(crate::specs::Table::table))]
 fn samples() -> (&'static [u8], &'static [Span; ROW_COUNT])
     ensures is { map (sample_at result.0.now) result.1.now ≡ map (λ r. sample_of r.signature) table }
-    ensures inside { IsTrue (list_all (is_inside (length result.0.now)) result.1.now) }
+    ensures short { IsTrue (list_all is_short result.1.now) }
 {
     (TEXT, &SPANS)
 }
@@ -49,8 +44,7 @@ fn of_row(i: usize) -> &'static [u8]
     ensures fits { length result.now ≤ SAMPLE_SIZE }
 {
     let (text, spans) = samples();
-    let span = &spans[i];
-    &text[span.start..span.end]
+    spans[i].of(text)
 }
 
 /// Writes the text over zeros.

@@ -1,5 +1,5 @@
 pub mod Codes
-pub mod Why
+pub mod Evidence
 pub mod Written
 pub mod Named
 pub mod Mime

@@ -9,7 +9,7 @@ use Rattle.infer_named.specs.Table.{keys}
 use Rattle.infer_named.specs.declared.join.Named.{Named}
 use Rattle.infer_named.specs.declared.join.Standing.{Standing}
 use Rattle.infer_named.specs.declared.join.Standing.TheVariants.{Agree, BytesAlone, BytesRefine, Contradicts, NameAlone, NameRefines, Nothing}
-use Rattle.infer_named.specs.declared.odd.Oddities.{Oddities}
+use Rattle.infer_named.specs.declared.suspicious_name.Oddities.{Oddities}
 use Rattle.infer_c.specs.Codes.{row_code}
 use Rattle.infer_c.specs.Written.{WritesText}
 use Rattle.infer_c.specs.declared.named.NamedAnswer.{NamedAnswer}

@@ -22,7 +22,7 @@ ghost use Rattle.infer_formats.specs.declared.text.Encoding.{Encoding};
 ghost use Rattle.infer_more.specs.declared.types.Mistake.{Mistake};
 ghost use Rattle.infer_more.specs.Decided as wider;
 ghost use Rattle.infer_more.specs.Ended.{ended};
-ghost use Rattle.infer_more.specs.Why as wider_why;
+ghost use Rattle.infer_more.specs.Evidence as wider_evidence;
 ghost use Rattle.infer_more.specs.Wider.{IsWider, shown};
 ghost use Rattle.infer.specs.Triple.{Triple};
 ghost use Rattle.infer_more.specs.Line.{Row};
@@ -41,18 +41,19 @@ ghost use Rattle.infer_label.specs.Writes.{saturated};
 ghost use Rattle.infer_c.specs.Label.{TellsLine, note_of, options_by};
 ghost use Rattle.infer_c.specs.Mime.{IsContextOf, IsDestinationOf, IsEssenceText, IsGroupCodeSaid, IsMimeText, IsMinimalText, IsToldText, IsTogetherText, IsValueText, SayTogether, Says, kind_said, mime_extracted, supply_told, value_said};
 ghost use Rattle.infer_c.specs.Named.{IsOddityCode, StoresNamed};
-ghost use Rattle.infer_c.specs.Why.{TellsWhy};
+ghost use Rattle.infer_c.specs.Evidence.{StoresEvidence};
 ghost use Rattle.infer_c.specs.Written.{WritesText, WritesWhole};
 
 mod class;
+mod evidence;
 mod label;
 mod mime;
 mod named;
 mod row;
 mod texts;
-mod why;
 mod written;
 
+use evidence::{Needs, WrittenRange};
 use infer::MatcherType;
 use infer_evidence::Evidence;
 use infer_label::class_name;
@@ -61,7 +62,6 @@ use label::Asked;
 use mime_sniff::Context;
 use mime_types::Destination;
 use named::NamedAnswer;
-use why::{Needs, WrittenRange};
 
 const VERSION: &str = "0.1.0";
 
@@ -180,12 +180,12 @@ pub extern "C" fn infer_more_may_become(buf: &[u8], row: i32) -> bool
 pub extern "C" fn infer_evidence(buf: &[u8], ranges: &mut [WrittenRange], needs: &mut Needs) -> i32
     ensures first { (first : Option ℕ) × IsFirstOf (Accepts buf.now) table first
         × (result ≡ row_code first)
-        × TellsWhy (λ e. Decides e buf.now first) buf.now ranges.old ranges.new needs.new }
+        × StoresEvidence (λ e. Decides e buf.now first) buf.now ranges.old ranges.new needs.new }
     ensures few { needs.new.wanted ≤ 68 }
 {
     let mut evidence = Evidence::new();
     let found = infer::evidence(buf, &mut evidence);
-    why::store(&evidence, ranges, needs);
+    evidence::store(&evidence, ranges, needs);
     match found {
         Some(i) => i as i32,
         None => -1,
@@ -200,12 +200,12 @@ pub extern "C" fn infer_more_evidence(
     needs: &mut Needs,
 ) -> i32
     ensures wider { (wider : Option ℕ) × IsWider buf.now wider × (result ≡ row_code wider)
-        × TellsWhy (λ e. wider_why.Decides e buf.now wider) buf.now ranges.old ranges.new needs.new }
+        × StoresEvidence (λ e. wider_evidence.Decides e buf.now wider) buf.now ranges.old ranges.new needs.new }
     ensures few { needs.new.wanted ≤ 80 }
 {
     let mut evidence = Evidence::new();
     let found = infer_more::evidence(buf, &mut evidence);
-    why::store(&evidence, ranges, needs);
+    evidence::store(&evidence, ranges, needs);
     match found {
         Some(i) => i as i32,
         None => -1,
@@ -317,7 +317,7 @@ pub extern "C" fn infer_encoding(buf: &[u8], out: &mut [u8]) -> usize
     }
 }
 
-/// The length of the content type of `buf`, as Go's function tells it, which is written to `out`. It is at most 73.
+/// The length of the content type of `buf`, as Go's function gives it, which is written to `out`. It is at most 73.
 #[unsafe(no_mangle)]
 pub extern "C" fn infer_detect_content_type(buf: &[u8], out: &mut [u8]) -> usize
     ensures text { (found : List ℕ) × IsContentType buf.now found × (result ≡ length found)
@@ -384,7 +384,7 @@ pub extern "C" fn infer_mime_groups(text: &[u8]) -> u32
 }
 
 /// The length of the text of the MIME type that the values of `Content-Type` say together, as Fetch extracts it, which is written
-/// to `out`: with the charset of the first of its kind behind its parameters, if it has none. It is 0 if they say none, or it has
+/// to `out`: with the charset of the first of its kind after its parameters, if it has none. It is 0 if they say none, or it has
 /// more than 256 parameters, those that do not count among them, or would take more than 4095 bytes.
 #[unsafe(no_mangle)]
 pub extern "C" fn infer_mime_extract(value: &[u8], out: &mut [u8]) -> usize
@@ -488,7 +488,7 @@ pub extern "C" fn infer_version(out: &mut [u8]) -> usize
 }
 
 /// Whether `text` describes types, as 0, and else the length of the reason, which is written to `reason`. `line` and
-/// `column`, from 1, tell where, and are 0 if it does.
+/// `column`, from 1, say where, and are 0 if it does.
 #[unsafe(no_mangle)]
 pub extern "C" fn infer_types_check(
     text: &[u8],
@@ -561,7 +561,7 @@ pub extern "C" fn infer_types_line(text: &[u8], buf: &[u8]) -> usize
     infer_more::types::answer_line(text, buf).unwrap_or(0)
 }
 
-/// Stores what a name and bytes tell: the standing, the row of the wider answer of `buf`, or -1, the type that is told, and
+/// Stores what a name and bytes say: the standing, the row of the wider answer of `buf`, or -1, the type that is reported, and
 /// the first type that the name has.
 #[unsafe(no_mangle)]
 pub extern "C" fn infer_named(name: &[u8], buf: &[u8], answer: &mut NamedAnswer)
@@ -607,7 +607,7 @@ pub extern "C" fn infer_label_write(
     label::write_line(asked, name, buf, standing, is_known, out)
 }
 
-/// The length of the line of a file with this name of which only a text is told, which is written to `out`: the fault that it
+/// The length of the line of a file with this name of which only a text is reported, which is written to `out`: the fault that it
 /// had, if `note` is 0, and its kind if it is 1.
 #[unsafe(no_mangle)]
 pub extern "C" fn infer_label_note(

@@ -1,4 +1,4 @@
-//! What a name and bytes tell, as C has it.
+//! What a name and bytes say, as C has it.
 ghost use Rattle.std.specs.Prelude.{◌≡◌, ◌+◌, ◌<◌, ◌≤◌, IfSome, option_map};
 ghost use Rattle.infer.specs.Triple.{triple_of};
 ghost use Rattle.infer.specs.declared.table.rows.TheConstants.{ROW_COUNT};
@@ -23,7 +23,7 @@ pub struct TypeTexts {
     pub is_own_name: bool,
 }
 
-/// What a name and bytes tell.
+/// What a name and bytes say.
 #[repr(C)]
 pub struct NamedAnswer {
     pub standing: i32,
@@ -32,7 +32,7 @@ pub struct NamedAnswer {
     pub name: TypeTexts,
 }
 
-/// Stores what the name and the bytes tell.
+/// Stores what the name and the bytes say.
 pub fn store(name: &[u8], buf: &[u8], answer: &mut NamedAnswer)
     ensures { StoresNamed name.now buf.now answer.old answer.new }
 {

@@ -376,7 +376,7 @@ fn blocks_free(hay: &[u8], first: u8, second: u8) -> usize
     hay.len() - 1
 }
 
-/// Whether the two bytes stand together at one of the first 128 places. A block without the first is told sooner.
+/// Whether the two bytes stand together at one of the first 128 places. A block without the first is seen sooner.
 #[inline(always)]
 fn has_pair(block: &[u8], first: u8, second: u8) -> bool
     requires { 129 ≤ length block.now }

@@ -128,7 +128,7 @@ fn after_white_blocks<const N: usize>(mut buf: &[u8]) -> &[u8]
     buf
 }
 
-/// Whether each byte of the block is white. Mostly all of them are spaces, which is told sooner.
+/// Whether each byte of the block is white. Mostly all of them are spaces, which is seen sooner.
 fn all_white<const N: usize>(block: &[u8; N]) -> bool
     requires { N ≤ 64 }
     ensures { OnTrue result (AllBelow IsWhite block.now N) }

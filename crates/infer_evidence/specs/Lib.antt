@@ -1,4 +1,5 @@
 pub mod Evidence
 pub mod Listed
 pub mod Searched
+pub mod Spans
 pub mod Weighed

@@ -5,17 +5,17 @@ ghost use Rattle.infer_evidence.specs.Evidence.{AgreesOn, Grows, HasSame, IsArou
 /// For how many ranges an [`Evidence`] has room.
 pub const MOST_RANGES: usize = 80;
 
-/// What a range that tells of no row keeps in its place: so one without a byte is zeros, as which many are made at once.
+/// What a range for no row keeps in its place: so one without a byte is zeros, as which many are made at once.
 const NO_ROW: u32 = 0;
 
-/// A range can tell of the rows below this one.
+/// A range can be for the rows below this one.
 const ROW_LIMIT: usize = u32::MAX as usize;
 
 /// How far apart bytes of a range are at most.
 const MOST_STEP: usize = 1 << 16;
 
-/// Bytes of a buffer, and the first row of which they tell: `len` of them, the first at `place` and each other `step` behind
-/// the one before. That which tells of no single row is the first byte, which rules out all rows that begin with another.
+/// Bytes of a buffer, and the first row that they decide: `len` of them, the first at `place` and each other `step` after
+/// the one before. That which decides no single row is the first byte, which rules out all rows that begin with another.
 #[derive(Clone, Copy)]
 pub struct Range {
     pub place: usize,
@@ -26,7 +26,7 @@ pub struct Range {
 }
 
 impl Range {
-    /// The `len` bytes from `place` on, which tell of the row.
+    /// The `len` bytes from `place` on, which decide the row.
     #[tactic(auto, using(crate::proofs::RangeLemmas::inside_in_a_row))]
     pub fn new(place: usize, len: usize, row: Option<usize>) -> Range
         ensures place { result.place ≡ place }
@@ -63,7 +63,7 @@ impl Range {
         self.len == 0
     }
 
-    /// The row of which the bytes tell.
+    /// The row that the bytes decide.
     pub fn row(&self) -> Option<usize>
         ensures { result ≡ row_of self.now }
     {
@@ -73,8 +73,8 @@ impl Range {
         Some(self.row as usize - 1)
     }
 
-    /// Makes the byte at `place` one more of the range, if it can be: if it is the first, the second, or as far behind the last
-    /// as each of them is behind the one before.
+    /// Makes the byte at `place` one more of the range, if it can be: if it is the first, the second, or as far after the last
+    /// as each of them is after the one before.
     pub(crate) fn grow(&mut self, place: usize) -> bool
         ensures grown { IsTrue result → Grows self.old place self.new }
         ensures kept { result ≡ false → self.new ≡ self.old }
@@ -117,11 +117,11 @@ fn number(row: Option<usize>) -> u32
 /// Of how many places at the front the evidence finds at once whether a range has them.
 const NEAR: usize = 64;
 
-/// As many more places are told apart among those that are far.
+/// As many more places are distinguished among those that are far.
 const FAR: usize = 32;
 
-/// How many ranges are kept to look at first, each by its number: one of each near place, and one of all far ones that are not
-/// told apart.
+/// How many ranges are kept to look at first, each by its number: one of each near place, and one of all far ones that are
+/// not distinguished.
 const HINTS: usize = NEAR + FAR;
 
 /// Keeps the number of a range with bytes in a row, which is the next, at each near place that it has, or at its first if that
@@ -262,7 +262,7 @@ impl Evidence {
     }
 
     /// Asks for the bytes of a range by which a row accepts, also where a range with all of them is asked for: so these are
-    /// told.
+    /// decided.
     #[tactic(auto, using(crate::proofs::RangeLemmas::one_more, crate::proofs::RangeLemmas::one_more_inside, crate::proofs::RangeLemmas::no_more))]
     pub fn ask_held(&mut self, range: Range)
         ensures same { (b c : List ℕ) → AgreesOn self.new b c → AgreesOn self.old b c

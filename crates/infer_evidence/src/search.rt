@@ -20,14 +20,14 @@ pub struct Search {
     pub end: usize,
 }
 
-/// The place of a byte by which a text stands at none of some places. `next` is the first place behind them.
+/// The place of a byte by which a text stands at none of some places. `next` is the first place after them.
 #[derive(Clone, Copy)]
 pub struct Hit {
     place: usize,
     next: usize,
 }
 
-/// Whether the byte at `place` is none that the text has there if it stands at `start` or behind.
+/// Whether the byte at `place` is none that the text has there if it stands at `start` or after.
 #[inline(always)]
 fn is_foreign(text: &[u8], buf: &[u8], start: usize, place: usize) -> bool
     requires here { place < length buf.now }
@@ -38,7 +38,7 @@ fn is_foreign(text: &[u8], buf: &[u8], start: usize, place: usize) -> bool
     !text[..=place - start].contains(&buf[place])
 }
 
-/// The last byte which alone tells that the text stands at none of the places from `start` to it.
+/// The last byte which alone shows that the text stands at none of the places from `start` to it.
 #[inline(always)]
 fn last_foreign(text: &[u8], buf: &[u8], start: usize) -> Option<Hit>
     requires { start + length text.now ≤ length buf.now }

@@ -322,7 +322,7 @@ fn asked_byte(place: usize, buf: &[u8], evidence: &Evidence) -> Option<u8>
     }
 }
 
-/// Whether the buffer lacks the part, and bytes that are asked for already tell it: the first that it asks for.
+/// Whether the buffer lacks the part, and bytes that are asked for already decide it: the first that it asks for.
 #[inline(always)]
 fn is_told_lacking(part: &Part, buf: &[u8], evidence: &Evidence) -> bool
     ensures { IsTrue result → (c : List ℕ) → IsLike evidence.now buf.now c
@@ -343,7 +343,7 @@ fn is_told_lacking(part: &Part, buf: &[u8], evidence: &Evidence) -> bool
     }
 }
 
-/// Whether the buffer is too short for the alternative or lacks what that asks first, and what is asked for already tells it.
+/// Whether the buffer is too short for the alternative or lacks what that asks first, and what is asked for already decides it.
 #[inline(always)]
 fn is_told(alternative: &Alternative, buf: &[u8], evidence: &Evidence) -> bool
     ensures { IsTrue result → (c : List ℕ) → IsLike evidence.now buf.now c
@@ -358,7 +358,7 @@ fn is_told(alternative: &Alternative, buf: &[u8], evidence: &Evidence) -> bool
     }
 }
 
-/// Whether the buffer lacks each alternative, and what is asked for already tells it.
+/// Whether the buffer lacks each alternative, and what is asked for already decides it.
 fn all_told(signature: &[Alternative], buf: &[u8], evidence: &Evidence) -> bool
     ensures { IsTrue result → (c : List ℕ) → IsLike evidence.now buf.now c
         → All (λ a. ¬ HasAlternative c a) signature.now }
@@ -371,7 +371,7 @@ fn all_told(signature: &[Alternative], buf: &[u8], evidence: &Evidence) -> bool
     true
 }
 
-/// The first alternative that the buffer has. What is told already costs no more than a look.
+/// The first alternative that the buffer has. What is decided already costs no more than a look.
 fn fitting<'a>(
     signature: &'a [Alternative],
     buf: &[u8],
@@ -397,7 +397,7 @@ fn refused_alone(signature: &[Alternative], buf: &[u8], row: Option<usize>) -> O
         → All (λ a. ¬ HasAlternative c a) signature.now) }
 {
     match signature {
-        // A shorter one is told by its length at once.
+        // A shorter one is decided by its length at once.
         [alternative] if alternative.least <= buf.len() => {
             refused_by_bytes(alternative.parts, buf, row)
         }
@@ -405,7 +405,7 @@ fn refused_alone(signature: &[Alternative], buf: &[u8], row: Option<usize>) -> O
     }
 }
 
-/// Asks for that by which the buffer lacks the alternative, unless it is told already.
+/// Asks for that by which the buffer lacks the alternative, unless it is decided already.
 #[inline(always)]
 fn refuse_one(alternative: &Alternative, buf: &[u8], row: Option<usize>, evidence: &mut Evidence)
     requires { ¬ HasAlternative buf.now alternative.now }
@@ -432,7 +432,7 @@ fn refuse_all(signature: &[Alternative], buf: &[u8], row: Option<usize>, evidenc
     }
 }
 
-/// Whether a signature accepts the buffer, and asks for what tells that it does so, or that it does not. What is asked for
+/// Whether a signature accepts the buffer, and asks for what decides that it does so, or that it does not. What is asked for
 /// is said to be of that row.
 pub fn weigh(
     signature: &[Alternative],

@@ -3,16 +3,16 @@ ghost use Rattle.std.specs.Prelude.{◌↔◌, ℕ, IsTrue};
 ghost use Rattle.memchr.specs.Find.{OccursAt};
 ghost use Rattle.infer_formats.specs.Begins.{Begins, BeginsAndHas, BeginsAndHasAll};
 
-mod open;
+mod may_become;
 
 use crate::search::find_early;
 use infer_deep::places::stands_at;
-pub use open::may_begin;
+pub use may_become::may_begin;
 
 /// The byte order mark of UTF-8.
 const MARK: &[u8; 3] = b"\xEF\xBB\xBF";
 
-/// The text stands first, or behind a byte order mark.
+/// The text stands first, or after a byte order mark.
 pub fn begins(buf: &[u8], text: &[u8]) -> bool
     ensures { IsTrue result ↔ Begins text.now buf.now }
 {

@@ -3,10 +3,10 @@
 ghost use Rattle.std.specs.Prelude.{◌≡◌, ◌↔◌, ◌≤◌, ℕ, length, slice_index, codes, IsTrue};
 ghost use Rattle.infer_formats.specs.Dbase.{BeginsName, EndsFields, HasField, IsDated, IsDbase, IsOneOf, behind, versions};
 
-mod open;
+mod may_become;
 
 use infer_deep::numbers::le16;
-pub use open::may_become_dbase;
+pub use may_become::may_become_dbase;
 
 /// The version of the file.
 const VERSION: usize = 0;
@@ -28,7 +28,7 @@ const FIELD_TYPE: usize = 43;
 const FIELD_SIZE: usize = 32;
 /// The least header: itself, one field, and the byte that ends the fields.
 const LEAST: usize = 65;
-/// The byte behind the last field descriptor.
+/// The byte after the last field descriptor.
 const FIELDS_END: u8 = 0x0D;
 /// The versions: FoxBASE.
 const FOXBASE: u8 = 0x02;
@@ -46,7 +46,7 @@ const DBASE_4_SQL_MEMO: u8 = 0xCB;
 const DBASE_4_SYSTEM: u8 = 0x63;
 /// FoxPro 2 with a memo file.
 const FOXPRO_2_MEMO: u8 = 0xF5;
-/// Visual FoxPro, whose header has a backlink behind the fields, with fields that count up, and with those of any length.
+/// Visual FoxPro, whose header has a backlink after the fields, with fields that count up, and with those of any length.
 const VISUAL_FOXPRO: u8 = 0x30;
 
 const VISUAL_FOXPRO_COUNTS: u8 = 0x31;

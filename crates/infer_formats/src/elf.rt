@@ -3,10 +3,10 @@
 ghost use Rattle.std.specs.Prelude.{◌≡◌, ◌↔◌, ◌+◌, ◌*◌, ◌<◌, ◌≤◌, ℕ, length, IsTrue};
 ghost use Rattle.infer_formats.specs.Elf.{AsksAt, HasOwnTable, IsSharedObject, counted_length, entry_count, entry_size, known_size, table_place};
 
-mod open;
+mod may_become;
 
 use crate::numbers::{number16, number32, number64};
-pub use open::may_become_shared_object;
+pub use may_become::may_become_shared_object;
 
 /// Of e_ident, the class: of 32 bits or of 64.
 const EI_CLASS: usize = 4;

@@ -4,11 +4,11 @@ ghost use Rattle.std.specs.Prelude.{◌↔◌, ◌≤◌, ◌+◌, IsTrue, lengt
 ghost use Rattle.infer_formats.specs.Header.{HasLaterHeader};
 ghost use Rattle.infer_deep.specs.Numbers.{le16};
 
-mod open;
+mod may_become;
 
 use infer_deep::numbers::{le16, le32};
 use infer_deep::places::stands_at;
-pub use open::may_have_later_header;
+pub use may_become::may_have_later_header;
 
 /// The size of the header of DOS.
 const DOS_SIZE: usize = 64;

@@ -1,11 +1,11 @@
-//! What stands behind an ID3v2 tag: ID3 tag version 2.4.0, main structure, sections 3.1 and 6.2.
+//! What stands after an ID3v2 tag: ID3 tag version 2.4.0, main structure, sections 3.1 and 6.2.
 ghost use Rattle.std.specs.Prelude.{◌≡◌, ◌↔◌, ◌<◌, ◌≤◌, IsTrue, length};
 ghost use Rattle.infer_formats.specs.Id3.{IsBehindId3, IsSynchsafe, tag_size};
 
-mod open;
+mod may_become;
 
 use infer_deep::places::stands_at;
-pub use open::may_be_behind_id3;
+pub use may_become::may_be_behind_id3;
 
 /// The size of a tag's header.
 const HEADER_SIZE: usize = 10;
@@ -14,7 +14,7 @@ const SIZE: usize = 6;
 /// Each byte of a synchsafe number has seven bits, and the highest is clear.
 const RADIX: usize = 0x80;
 
-/// A tag stands first, and right behind it the text.
+/// A tag stands first, and right after it the text.
 #[inline(never)]
 pub fn is_behind_id3(buf: &[u8], text: &[u8]) -> bool
     ensures { IsTrue result ↔ IsBehindId3 text.now buf.now }

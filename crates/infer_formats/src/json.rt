@@ -6,7 +6,7 @@ ghost use Rattle.infer_formats.specs.JsonStates.{IsBracket, IsKindBefore, IsKind
 
 mod key;
 mod lines;
-mod open;
+mod may_become;
 mod reader;
 mod token;
 
@@ -15,7 +15,7 @@ pub use key::{
     may_have_first_key_with,
 };
 use lines::{Line, begins_line, is_bracket, past_blanks, read_line};
-pub use open::{may_become_json, may_become_json_lines};
+pub use may_become::{may_become_json, may_become_json_lines};
 use token::has_token;
 
 /// What JSON a buffer is.
@@ -30,7 +30,7 @@ pub enum Kind {
 /// JSON, or its beginning: an array or an object, with only white space around it.
 ///
 /// Some bytes can follow `buf`, or none need to, so that the whole is one text, whose brackets are nested at most 128
-/// deep and whose strings are UTF-8. A number, a name, an escape or a character may be cut at the end. But behind the
+/// deep and whose strings are UTF-8. A number, a name, an escape or a character may be cut at the end. But after the
 /// first bracket at least one token is whole: a bracket, a colon, a comma, a string, a name, or a number with a byte after
 /// it. A byte order mark (EF BB BF) may stand first.
 pub fn is_json(buf: &[u8]) -> bool
@@ -89,7 +89,7 @@ fn kind_begun(buf: &[u8]) -> Option<Kind>
     kind_past_mark(past_mark(buf))
 }
 
-/// What stands behind the byte order mark, if there is one.
+/// What stands after the byte order mark, if there is one.
 fn past_mark(buf: &[u8]) -> &[u8]
     ensures { IsPastMark buf.now result.now }
 {
@@ -99,7 +99,7 @@ fn past_mark(buf: &[u8]) -> &[u8]
     }
 }
 
-/// [`kind_of`] of what stands behind a mark.
+/// [`kind_of`] of what stands after a mark.
 fn kind_past_mark(buf: &[u8]) -> Option<Kind>
     ensures { IsKindPastMark buf.now result }
 {
@@ -117,7 +117,7 @@ fn kind_past_mark(buf: &[u8]) -> Option<Kind>
     }
 }
 
-/// What JSON a buffer is whose first text is whole, by what stands behind its bracket and on the next lines.
+/// What JSON a buffer is whose first text is whole, by what stands after its bracket and on the next lines.
 fn kind_before(rest: &[u8], next: &[u8]) -> Option<Kind>
     requires { StartsLine next.now }
     ensures { IsKindBefore rest.now next.now result }
@@ -132,7 +132,7 @@ fn kind_before(rest: &[u8], next: &[u8]) -> Option<Kind>
     }
 }
 
-/// One text, if a token is whole behind its bracket.
+/// One text, if a token is whole after its bracket.
 fn kind_behind(rest: &[u8]) -> Option<Kind>
     ensures { IsKindBefore rest.now [] result }
 {

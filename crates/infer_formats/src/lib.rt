@@ -1,4 +1,4 @@
-//! Relations that look inside containers, documents and texts. Where a function tells whether more bytes may bring one, a
+//! Relations that look inside containers, documents and texts. Where a function says whether more bytes may bring one, a
 //! no is certain.
 #![tactic(auto)]
 

@@ -3,15 +3,15 @@ ghost use Rattle.std.specs.Prelude.{◌≡◌, ◌↔◌, ◌+◌, ◌<◌, ◌�
 ghost use Rattle.infer_deep.specs.Open.{AgreesAt};
 ghost use Rattle.infer_formats.specs.Markup.{HasInTag, HasRoot, HasRootWith, IsRootElement, IsRootOf, MayBeRooted, MayStart, utf8_mark};
 
+mod may_become;
 mod names;
-mod open;
 mod prolog;
 
 use crate::search::find_early;
 use infer_deep::places::{has_at, may_stand_at};
+pub use may_become::{may_have_root, may_have_root_with, tells_root};
 use memchr::memchr;
 use names::{begins_element, is_xml_space};
-pub use open::{may_have_root, may_have_root_with, tells_root};
 use prolog::{prolog_behind, tag_at};
 
 /// The root element of markup.
@@ -24,7 +24,7 @@ pub struct Root<'a> {
 }
 
 impl Root<'_> {
-    /// Whether the text stands in the tag behind the name: before the first ">", or before the end of the buffer if
+    /// Whether the text stands in the tag after the name: before the first ">", or before the end of the buffer if
     /// there is none.
     pub fn has_in_tag(&self, text: &[u8]) -> bool
         ensures { IsTrue result ↔ HasInTag text.now self.now.rest.now }
@@ -44,7 +44,7 @@ pub(crate) fn has_name(root: &Option<Root<'_>>, name: &[u8]) -> bool
     }
 }
 
-/// Whether it has one of this local name, and the text in its tag behind the name.
+/// Whether it has one of this local name, and the text in its tag after the name.
 pub(crate) fn has_name_and_text(root: &Option<Root<'_>>, name: &[u8], text: &[u8]) -> bool
     ensures { (b : List ℕ) → IsRootOf root.now b
         → (IsTrue result ↔ HasRootWith name.now text.now b) }
@@ -62,7 +62,7 @@ pub fn has_root(buf: &[u8], name: &[u8]) -> bool
     has_name(&root_of(buf), name)
 }
 
-/// Whether the root element has this local name, and the text in its tag behind the name.
+/// Whether the root element has this local name, and the text in its tag after the name.
 #[inline(never)]
 pub fn has_root_with(buf: &[u8], name: &[u8], text: &[u8]) -> bool
     ensures { IsTrue result ↔ HasRootWith name.now text.now buf.now }
@@ -92,7 +92,7 @@ pub fn root_of(buf: &[u8]) -> Option<Root<'_>>
 }
 
 /// Whether the buffer may have a root element, by its first tag: a byte order mark stands first, or white space, perhaps none,
-/// and "<", and behind that the name of an element or another "<". That takes less than to look for the root, and little
+/// and "<", and after that the name of an element or another "<". That takes less than to look for the root, and little
 /// that is no markup passes.
 pub fn may_be_rooted(buf: &[u8]) -> bool
     ensures { IsTrue result ↔ MayBeRooted buf.now }
@@ -108,7 +108,7 @@ pub fn may_be_rooted(buf: &[u8]) -> bool
     false
 }
 
-/// Whether "<" stands there, and behind it the name of an element or another "<".
+/// Whether "<" stands there, and after it the name of an element or another "<".
 fn starts_at(buf: &[u8], place: usize) -> bool
     requires { place < length buf.now }
     ensures { IsTrue result ↔ (slice_index buf.now place ≡ 0x3C) × MayStart buf.now (place + 1) }
@@ -116,7 +116,7 @@ fn starts_at(buf: &[u8], place: usize) -> bool
     buf[place] == b'<' && may_start(buf, place + 1)
 }
 
-/// Whether the name of an element stands there, or "<" there or behind.
+/// Whether the name of an element stands there, or "<" there or after.
 fn may_start(buf: &[u8], from: usize) -> bool
     requires { from ≤ length buf.now }
     ensures { IsTrue result ↔ MayStart buf.now from }

@@ -59,7 +59,7 @@ pub(crate) fn made<'a>(place: usize, bytes: Text<'a>) -> Placed<'a>
     Placed { place, text: bytes }
 }
 
-/// The first entry of a ZIP archive, with the text behind its header, and its length at the place.
+/// The first entry of a ZIP archive, with the text after its header, and its length at the place.
 pub(crate) fn entry<'a>(place: usize, bytes: Text<'a>) -> Model<'a>
     requires { 30 + length (text_listed bytes) ≤ 65536 }
     ensures model { model_listed result ≡ model_entry place (text_listed bytes.entry) }

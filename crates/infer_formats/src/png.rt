@@ -3,15 +3,15 @@ ghost use Rattle.std.specs.Prelude.{◌↔◌, IsTrue};
 ghost use Rattle.infer_formats.specs.Open.{TellsMayBecome};
 ghost use Rattle.infer_formats.specs.Png.{IsAnimated};
 
-mod open;
+mod may_become;
 
 use infer_deep::numbers::be32;
 use infer_deep::places::stands_at;
-pub use open::may_become_animated;
+pub use may_become::may_become_animated;
 
 /// Behind the signature the first chunk begins.
 const SIGNATURE_SIZE: usize = 8;
-/// The type of a chunk stands behind its length.
+/// The type of a chunk stands after its length.
 const CHUNK_TYPE: usize = 4;
 /// What a chunk has beside its data: its length, its type and a checksum.
 const CHUNK_FRAME: usize = 12;

@@ -73,7 +73,7 @@ pub enum Relation<'a> {
     PlainText,
 }
 
-/// What stands behind the name of a relation.
+/// What stands after the name of a relation.
 #[derive(Clone, Copy)]
 pub enum Takes {
     Nothing(Relation<'static>),
@@ -296,7 +296,7 @@ impl<'a> Relation<'a> {
         }
     }
 
-    /// Whether the buffer, which has it, has it whatever bytes follow, as far as this tells: a yes is certain.
+    /// Whether the buffer, which has it, has it whatever bytes follow, as far as this can say: a yes is certain.
     #[tactic(auto, using(crate::proofs::RelationLemmas::fit_stays))]
     pub fn stays(&self, buf: &[u8]) -> bool
         requires { Fits (relation_listed self.now) buf.now }
@@ -310,7 +310,7 @@ impl<'a> Relation<'a> {
         }
     }
 
-    /// A short buffer that has it. A root element stands behind this text.
+    /// A short buffer that has it. A root element stands after this text.
     pub fn model<'b>(&'b self, before: &'b [u8]) -> Model<'b>
         requires { least_of (model before.now (relation_listed self.now)) ≤ 65536 }
         ensures model { model_listed result ≡ model before.now (relation_listed self.now) }
@@ -365,7 +365,7 @@ fn object() -> Model<'static>
     )
 }
 
-/// That of texts, one behind the other.
+/// That of texts, one after the other.
 fn texts<'b>(text: &'b [u8], u: &'b [u8], v: &'b [u8], w: &'b [u8]) -> Model<'b>
     requires { least_of (model [] (text_first_with_all text.now u.now v.now w.now)) ≤ 65536 }
     ensures model { model_listed result ≡ model [] (text_first_with_all text.now u.now v.now w.now) }
@@ -394,7 +394,7 @@ fn object_with_key<'b>(key: &'b [u8]) -> Model<'b>
     )
 }
 
-/// And the value behind the key.
+/// And the value after the key.
 fn object_with_value<'b>(key: &'b [u8], value: &'b [u8]) -> Model<'b>
     requires { least_of (model [] (first_key_with key.now value.now)) ≤ 65536 }
     ensures model { model_listed result ≡ model [] (first_key_with key.now value.now) }
@@ -410,7 +410,7 @@ fn object_with_value<'b>(key: &'b [u8], value: &'b [u8]) -> Model<'b>
     )
 }
 
-/// That of an archive with an entry of this name, behind what its parent has.
+/// That of an archive with an entry of this name, after what its parent has.
 fn entry_behind<'b>(name: &'b [u8]) -> Model<'b>
     requires { length name.now ≤ 65536 }
     ensures model { model_listed result ≡ model [] (has_entry name.now) }
@@ -440,7 +440,7 @@ fn package<'b>(folder: &'b [u8]) -> Model<'b>
     )
 }
 
-/// That of a compound file: a root entry behind the header.
+/// That of a compound file: a root entry after the header.
 fn compound(id: [u8; 16]) -> Model<'static>
     ensures model { model_listed result ≡ model [] (class_id id) }
     ensures few { result.count ≤ 5 }
@@ -466,7 +466,7 @@ fn directory(tag: u16) -> Model<'static>
     )
 }
 
-/// That of a TIFF file: a directory with this tag, and the make behind it.
+/// That of a TIFF file: a directory with this tag, and the make after it.
 fn directory_with_make<'b>(tag: u16, make: &'b [u8]) -> Model<'b>
     requires { length make.now ≤ 65536 }
     ensures model { model_listed result ≡ model [] (directory_tag_and_make tag make.now) }
@@ -497,7 +497,7 @@ fn table() -> Model<'static>
     )
 }
 
-/// That of a program whose later header stands right behind the first, with this number in it.
+/// That of a program whose later header stands right after the first, with this number in it.
 fn program_with_header<'b>(text: &'b [u8], far: u16, low: u16) -> Model<'b>
     requires { length text.now ≤ 65536 }
     ensures model { model_listed result ≡ model [] (header text.now far low low) }
@@ -526,7 +526,7 @@ fn script<'b>(name: &'b [u8]) -> Model<'b>
     )
 }
 
-/// That of markup: an element behind this text.
+/// That of markup: an element after this text.
 fn element<'b>(before: &'b [u8], name: &'b [u8]) -> Model<'b>
     requires { least_of (model before.now (root name.now)) ≤ 65536 }
     ensures model { model_listed result ≡ model before.now (root name.now) }

@@ -4,11 +4,11 @@ ghost use Rattle.memchr.specs.Find.{OccursAt};
 ghost use Rattle.infer_formats.specs.Runs.{IsRun};
 ghost use Rattle.infer_formats.specs.Script.{EndsBare, IsBlank, IsEnv, IsFolder, IsLineEnd, IsNextWord, IsProgram, IsRead, IsSetting, IsVersionByte, IsWord, IsWordByte, NamesProgram};
 
-mod open;
+mod may_become;
 
 use infer_deep::places::{has_at, same_at};
-use open::is_same;
-pub use open::may_become_program;
+use may_become::is_same;
+pub use may_become::may_become_program;
 
 /// A word of the first line: where it begins and ends, where its name begins, and whether it has "=".
 #[derive(Clone, Copy)]
@@ -21,7 +21,7 @@ struct Word {
 
 /// The name of the program that runs a script, as "python" of `#!/usr/bin/env -S A=1 python3.11`.
 ///
-/// The line behind "#!" ends by 0A or 0D, and spaces and tabs part its words. A word that the buffer ends in does not
+/// The line after "#!" ends by 0A or 0D, and spaces and tabs part its words. A word that the buffer ends in does not
 /// count, since it may go on. A word's name is what follows its last "/". Where the name of the first word is "env", the
 /// next word without "=" that does not begin with "-" names the program. Digits and dots at the end of a name are its
 /// version, and left out, so that nothing may be left of it.
@@ -65,7 +65,7 @@ fn program_word(buf: &[u8]) -> Option<Word>
         (λ w. NamesProgram buf.now w.from w.to) }
     ensures read { IfSome result (λ w. IsRead buf.now w) }
 {
-    // Scripts that name `env` mostly begin so, and one comparison tells it.
+    // Scripts that name `env` mostly begin so, and one comparison decides it.
     if has_at(buf, b"/usr/bin/env ", 2) {
         return next_program(buf, 14);
     }
@@ -130,7 +130,7 @@ fn first_word(buf: &[u8]) -> Option<Word>
     read_word(buf, from, folder_end(buf, from))
 }
 
-/// Where the folder that stands there ends, if it is one of those in which most programs are: one comparison tells it.
+/// Where the folder that stands there ends, if it is one of those in which most programs are: one comparison decides it.
 #[inline(always)]
 fn folder_end(buf: &[u8], from: usize) -> usize
     requires { from ≤ length buf.now }
@@ -165,7 +165,7 @@ fn blanks_end(buf: &[u8], place: usize) -> usize
     buf.len()
 }
 
-/// The bytes of a word that stand there, perhaps none, if the buffer goes on behind them. Its folder, which was read
+/// The bytes of a word that stand there, perhaps none, if the buffer goes on after them. Its folder, which was read
 /// before, ends at `folder`.
 #[inline(always)]
 fn read_word(buf: &[u8], from: usize, folder: usize) -> Option<Word>
@@ -178,7 +178,7 @@ fn read_word(buf: &[u8], from: usize, folder: usize) -> Option<Word>
     let mut has_equals = false;
     for to in folder..buf.len() {
         let byte = buf[to];
-        // Most bytes are told by this test.
+        // Most bytes are decided by this test.
         if byte > b'=' {
             continue;
         }
@@ -211,7 +211,7 @@ fn is_blank(byte: u8) -> bool
 fn is_word_byte(byte: u8) -> bool
     ensures { IsTrue result ↔ IsWordByte byte }
 {
-    // Most bytes are told by the first test.
+    // Most bytes are decided by the first test.
     byte > b' ' || !matches!(byte, b' ' | b'\t' | b'\n' | b'\r')
 }
 
@@ -249,6 +249,6 @@ fn bare_end(buf: &[u8], at: usize, to: usize) -> usize
 fn is_version_byte(byte: u8) -> bool
     ensures { IsTrue result ↔ IsVersionByte byte }
 {
-    // Most bytes are told by the first test.
+    // Most bytes are decided by the first test.
     byte <= b'9' && (byte >= b'0' || byte == b'.')
 }

@@ -17,7 +17,7 @@ const NEAR_WINDOWS: usize = 2;
 /// How often two bytes of a text may stand without the whole of it, before it is searched for byte by byte.
 const NEAR_MISSES: usize = 8;
 
-/// Which of the 32 bytes from that place on are this one: bit `k` tells of the byte `k` places on.
+/// Which of the 32 bytes from that place on are this one: bit `k` is for the byte `k` places on.
 fn hits(buf: &[u8], byte: u8, place: usize) -> u64
     requires { place + 32 ≤ length buf.now }
     ensures { (k : ℕ) → (bit_at result k ≡ 1) ↔ (k < 32)

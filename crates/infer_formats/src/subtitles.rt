@@ -3,16 +3,16 @@ ghost use Rattle.std.specs.Prelude.{◌≡◌, ◌↔◌, ◌+◌, ◌<◌, ◌�
 ghost use Rattle.infer_deep.specs.Places.{FindsPlace};
 ghost use Rattle.infer_formats.specs.Subtitles.{AreDigits, EndsLine, IsCue, IsDigit, IsPairAt, IsSpan, IsSubRip, IsTime};
 
-mod open;
+mod may_become;
 
 use infer_deep::places::stands_at;
-pub use open::may_become_subrip;
+pub use may_become::may_become_subrip;
 
 /// How many digits the number of a cue has at most.
 const MOST_DIGITS: usize = 9;
 /// The size of a time, as 00:00:00,000.
 const TIME_SIZE: usize = 12;
-/// Where the ":" before the minutes stands in a time, and behind it the minutes.
+/// Where the ":" before the minutes stands in a time, and after it the minutes.
 const TO_MINUTES: usize = 2;
 
 const MINUTES: usize = 3;
@@ -20,7 +20,7 @@ const MINUTES: usize = 3;
 const TO_SECONDS: usize = 5;
 
 const SECONDS: usize = 6;
-/// Where "," or "." stands before the thousandths, and behind it their first two digits and the last one.
+/// Where "," or "." stands before the thousandths, and after it their first two digits and the last one.
 const TO_THOUSANDTHS: usize = 8;
 
 const THOUSANDTHS: usize = 9;

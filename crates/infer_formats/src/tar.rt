@@ -2,9 +2,9 @@
 ghost use Rattle.std.specs.Prelude.{◌≡◌, ◌↔◌, ◌+◌, ◌*◌, ◌<◌, ◌≤◌, ℕ, length, slice_index, IsTrue, ◌⊎◌};
 ghost use Rattle.infer_formats.specs.Tar.{HasTarChecksum, IsField, IsOctal, header_sum, octal, sum_from};
 
-mod open;
+mod may_become;
 
-pub use open::may_have_tar_checksum;
+pub use may_become::may_have_tar_checksum;
 
 /// The size of a header.
 const HEADER_SIZE: usize = 512;

@@ -7,10 +7,10 @@ ghost use Rattle.infer_deep.specs.Text.{BeginsMarked};
 ghost use Rattle.simdutf8.specs.Steps.{IsContinuation, least_after, most_after};
 ghost use Rattle.infer_formats.specs.Text.{IsCutLen, SomeBelow, MayBeginChar, BeginsUtf8, IsBinary, IsDataByte, IsEncodingOf, IsPlainByte, IsText, encoding_name};
 
-mod open;
+mod may_become;
 
 use infer_deep::places::stands_at;
-pub use open::{may_become_text, stays_text};
+pub use may_become::{may_become_text, stays_text};
 use simdutf8::is_utf8;
 use std::fmt;
 

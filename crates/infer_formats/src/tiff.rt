@@ -4,11 +4,11 @@ ghost use Rattle.memchr.specs.Find.{OccursAt};
 ghost use Rattle.infer_formats.specs.Numbers.{number16, number32};
 ghost use Rattle.infer_formats.specs.Tiff.{HasTag, HasTagAndMake, IsEntry, IsMakeEntry, IsTagEntry, make_tag};
 
-mod open;
+mod may_become;
 
 use crate::numbers::{number16, number32};
 use infer_deep::places::stands_at;
-pub use open::{first_directory_may_have_tag, first_directory_may_have_tag_and_make};
+pub use may_become::{first_directory_may_have_tag, first_directory_may_have_tag_and_make};
 
 /// Where the header says at what place the first directory begins.
 const DIRECTORY: usize = 4;
@@ -87,7 +87,7 @@ fn directory_has_either(buf: &[u8], tag: u16, other: u16, big: bool) -> bool
     let Some(directory) = first_directory(buf, big) else {
         return false;
     };
-    // The bits that both tags have alike tell most entries by one test.
+    // The bits that both tags have alike rule out most entries by one test.
     let alike = !(tag ^ other);
     if tag & alike != other & alike {
         return directory_has_tag(buf, tag, big) || directory_has_tag(buf, other, big);

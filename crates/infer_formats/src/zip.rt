@@ -5,15 +5,15 @@ ghost use Rattle.infer_deep.specs.Numbers.{le16};
 ghost use Rattle.infer_deep.specs.Places.{FindsPlace};
 ghost use Rattle.infer_formats.specs.Zip.{FindsFolder, FindsPackage, FindsPart, FirstEntryBegins, FirstEntryEndsIn, FirstEntryHasExtra, FirstEntryIs, HasEntry, HasFirstName, IsEntryNamed, IsFolder, IsFolderEntry, IsJavaArchive, IsPackageWith, IsPartEntry, MayBeginAny, MayBeginPackage};
 
-mod open;
+mod may_become;
 
 use infer_deep::numbers::le16;
 use infer_deep::places::{has_at, stands_at};
-use memchr::memchr;
-pub use open::{
+pub use may_become::{
     may_become_java_archive, may_become_package_with, may_have_first_entry,
     may_have_first_entry_ending, may_have_first_extra,
 };
+use memchr::memchr;
 
 /// Of a local file header, where the length of the file name stands.
 const NAME_LENGTH: usize = 26;

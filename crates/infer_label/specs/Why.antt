@@ -8,7 +8,7 @@ use Rattle.infer_evidence.specs.Evidence.{IsOf, ranges_of, row_of}
 use Rattle.infer_evidence.specs.declared.ranges.Evidence.{Evidence}
 use Rattle.infer_evidence.specs.declared.ranges.Range.{Range}
 use Rattle.infer_evidence.specs.declared.ranges.TheConstants.{MOST_RANGES}
-use Rattle.infer_more.specs.Why as wider
+use Rattle.infer_more.specs.Evidence as wider
 use Rattle.infer_more.specs.Wider.{IsWider}
 use Rattle.infer_label.specs.declared.options.Look.{Look}
 use Rattle.infer_label.specs.declared.options.Look.TheVariants as looks

@@ -27,7 +27,7 @@ pub fn write_quoted_name(is_unnamed: bool, name: &[u8], out: &mut Room<'_>)
     }
 }
 
-/// Writes all fields behind it.
+/// Writes all fields after it.
 pub fn write_fields(
     size: Option<usize>,
     label: &Label<'_>,
@@ -73,7 +73,7 @@ fn write_kind_fields(text: &[u8], out: &mut Room<'_>)
 }
 
 /// Writes a given text between quotation marks, of which no table makes a sum. A path that begins as a sum does is the same
-/// path behind `./`.
+/// path after `./`.
 fn write_quoted(text: &[u8], out: &mut Room<'_>)
     ensures { Writes out.old out.new (quoted text.now) }
 {

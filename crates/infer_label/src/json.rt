@@ -27,7 +27,7 @@ pub fn write_object_start(is_unnamed: bool, name: &[u8], out: &mut Room<'_>)
     }
 }
 
-/// Writes what is told of a label, and ends the object.
+/// Writes what is reported of a label, and ends the object.
 pub fn write_object(label: &Label<'_>, why: Option<&Why<'_>>, out: &mut Room<'_>)
     ensures { Writes out.old out.new
         (label_members (label_listed label.now) ++ (why_member (option_map (λ w. why_listed w.now) why.entry) ++ codes "}\n")) }

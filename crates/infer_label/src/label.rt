@@ -20,7 +20,7 @@ use infer_more::types::{self, Found};
 use infer_named::{Named, Standing, Told};
 use mime_sniff::{Computed, Supplied};
 
-/// What is told of an input.
+/// What is reported of an input.
 #[derive(Clone, Copy)]
 pub struct Label<'a> {
     /// The MIME type, if one is known.
@@ -41,7 +41,7 @@ pub struct Label<'a> {
     pub named_extension: Option<&'a str>,
 }
 
-/// What is told of an input with this name and these first bytes. The wider answer is that of the reasons, if they are told.
+/// What is reported of an input with this name and these first bytes. The wider answer is that of the reasons, if they are reported.
 pub fn label_of<'a>(
     options: Options<'a>,
     name: &[u8],
@@ -107,7 +107,7 @@ fn by_both(name: &[u8], buf: &[u8], why: Option<&Why<'_>>) -> Label<'static>
     of_named(infer_named::named_with(name, buf, found), found, buf)
 }
 
-/// The type of the wider answer, which reasons have if they are told.
+/// The type of the wider answer, which reasons have if they are reported.
 fn wider(buf: &[u8], why: Option<&Why<'_>>) -> Option<Type>
     requires { IsTold Look.Bytes buf.now (option_map (λ w. why_listed w.now) why) }
     ensures { IsWiderAnswer buf.now (option_map triple_of result) }
@@ -118,7 +118,7 @@ fn wider(buf: &[u8], why: Option<&Why<'_>>) -> Option<Type>
     }
 }
 
-/// By what the name and the bytes tell, which have this type.
+/// By what the name and the bytes say, which have this type.
 fn of_named(told: Named, found: Option<Type>, buf: &[u8]) -> Label<'static>
     ensures { IsLabelOf told (option_map triple_of found) buf.now (label_listed result) }
 {

@@ -1,4 +1,4 @@
-//! The line of a file: what its name and its first bytes tell, as a text, as JSON or as CSV, in the room of the caller. Nothing
+//! The line of a file: what its name and its first bytes say, as a text, as JSON or as CSV, in the room of the caller. Nothing
 //! is allocated.
 #![tactic(auto)]
 
@@ -29,7 +29,7 @@ pub use options::{Form, Look, Note, Options};
 use room::Room;
 use why::why_of;
 
-/// What a line tells.
+/// What a line reports.
 #[derive(Clone, Copy)]
 pub struct Answer {
     /// Its length, or the largest number if it is longer.
@@ -57,7 +57,7 @@ pub fn write_line(options: Options<'_>, name: &[u8], buf: &[u8], out: &mut [u8])
     }
 }
 
-/// Writes the line of a file with this name of which only this is told: the fault that it had, or its kind if it is no file that
+/// Writes the line of a file with this name of which only this is reported: the fault that it had, or its kind if it is no file that
 /// has bytes. The answer is its length, or the largest number if it is longer.
 pub fn write_note(
     options: Options<'_>,

@@ -19,7 +19,7 @@ use crate::why_text::write_why;
 use infer_more::text::Encoding;
 use infer_named::Standing;
 
-/// Writes the line of an input with this name and label, and why it is so, if that is told.
+/// Writes the line of an input with this name and label, and why it is so, if that is asked for.
 pub fn write_labelled(
     options: Options<'_>,
     name: &[u8],

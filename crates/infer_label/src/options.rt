@@ -2,7 +2,7 @@
 ghost use Rattle.std.specs.Prelude.{◌≡◌};
 ghost use Rattle.infer_label.specs.Options.{default_options, options_listed, tells_why};
 
-/// What an input is told by.
+/// What an input is identified by.
 #[derive(Clone, Copy, Debug)]
 pub enum Look {
     /// Its name and its bytes.
@@ -30,7 +30,7 @@ pub enum Form {
     Csv,
 }
 
-/// What is told of a file that is not looked at.
+/// What is reported of a file that is not looked at.
 #[derive(Clone, Copy, Debug)]
 pub enum Note {
     /// Why it could not be read.
@@ -42,7 +42,7 @@ pub enum Note {
 /// What the options of a line say.
 #[derive(Clone, Copy)]
 pub struct Options<'a> {
-    /// What an input is told by.
+    /// What an input is identified by.
     pub look: Look,
     /// How its line is written.
     pub form: Form,
@@ -50,11 +50,11 @@ pub struct Options<'a> {
     pub own: Option<&'a [u8]>,
     /// The content type that a browser was told, if it was told one.
     pub content_type: Option<&'a [u8]>,
-    /// Whether it is told why the bytes have their answer.
+    /// Whether to report why the bytes have their answer.
     pub why: bool,
     /// Whether the name is left out.
     pub is_unnamed: bool,
-    /// How many bytes the file has, if that is told in CSV.
+    /// How many bytes the file has, if CSV reports that.
     pub size: Option<usize>,
 }
 
@@ -74,7 +74,7 @@ impl<'a> Options<'a> {
         }
     }
 
-    /// Whether reasons are told. Of types of one's own there are none.
+    /// Whether reasons are reported. Of types of one's own there are none.
     pub fn tells_why(&self) -> bool
         ensures { result ≡ tells_why (options_listed self.now) }
     {

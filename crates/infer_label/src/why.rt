@@ -21,18 +21,18 @@ pub struct Why<'a> {
     evidence: Evidence,
 }
 
-/// Bytes that tell.
+/// Bytes that decide.
 #[derive(Clone, Copy)]
 pub struct Reason<'a> {
     /// Where the first stands.
     pub place: usize,
     /// How many they are.
     pub len: usize,
-    /// How far each other stands behind the one before.
+    /// How far each other stands after the one before.
     pub step: u32,
     /// The bytes, if they stand side by side.
     pub bytes: &'a [u8],
-    /// The row of which they tell, if it is a single one.
+    /// The row that they decide, if it is a single one.
     pub row: Option<usize>,
     /// Whether it accepts by them.
     pub accepts: bool,

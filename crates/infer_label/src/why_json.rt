@@ -15,7 +15,7 @@ use infer::Type;
 /// What stands between two ranges.
 const COMMA: &[u8] = b",";
 
-/// Writes why bytes have their answer, if that is told.
+/// Writes why bytes have their answer, if that is asked for.
 pub fn write_why_member(why: Option<&Why<'_>>, out: &mut Room<'_>)
     ensures { Writes out.old out.new (why_member (option_map (λ w. why_listed w.now) why.entry)) }
 {
@@ -56,7 +56,7 @@ fn write_ranges(why: &Why<'_>, out: &mut Room<'_>)
     }
 }
 
-/// Writes a range, behind a comma if one stands before it.
+/// Writes a range, after a comma if one stands before it.
 fn write_range(reason: &Reason<'_>, before: bool, out: &mut Room<'_>)
     ensures { Writes out.old out.new (in_row COMMA.now before (range_object (reason_listed reason.now) ∷ [])) }
 {

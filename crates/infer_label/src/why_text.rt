@@ -17,7 +17,7 @@ const MOST_SHOWN: usize = 16;
 /// What stands between two reasons.
 const MARK: &[u8] = b"; ";
 
-/// Writes why bytes have their answer, if that is told.
+/// Writes why bytes have their answer, if that is asked for.
 pub fn write_why(why: Option<&Why<'_>>, out: &mut Room<'_>)
     ensures { Writes out.old out.new (why_text (option_map (λ w. why_listed w.now) why.entry)) }
 {
@@ -37,7 +37,7 @@ pub fn write_reasons(why: &Why<'_>, out: &mut Room<'_>)
     write_room(why.is_whole(), before, out);
 }
 
-/// Writes the bytes by which a row accepts. This and each function below that writes reasons tells whether some stand before
+/// Writes the bytes by which a row accepts. This and each function below that writes reasons answers whether some stand before
 /// what follows.
 fn write_own(why: &Why<'_>, out: &mut Room<'_>) -> bool
     ensures texts { Writes out.old out.new (in_row MARK.now false (own_texts (why_listed why.now).reasons)) }
@@ -119,7 +119,7 @@ fn has_first(reason: &Reason<'_>) -> bool
     reason.row.is_some() && reason.place == 0 && reason.len > 0
 }
 
-/// Whether some bytes end there, or behind, where the least length does.
+/// Whether some bytes end there, or after, where the least length does.
 fn reaches_least(why: &Why<'_>) -> bool
     ensures { result ≡ list_any (reaches (why_listed why.now).least) (why_listed why.now).reasons }
 {
@@ -142,14 +142,14 @@ fn reaches(n: usize, reason: &Reason<'_>) -> bool
     n <= reason.place.saturating_add(extent).saturating_add(1)
 }
 
-/// Whether the reason rules out, and that is to be told.
+/// Whether the reason rules out, and that is to be reported.
 fn is_other(first_is_told: bool, reason: &Reason<'_>) -> bool
     ensures { result ≡ is_other first_is_told (reason_listed reason.now) }
 {
     !reason.accepts && (reason.row.is_some() || !first_is_told)
 }
 
-/// Writes a reason, if it is to be told.
+/// Writes a reason, if it is to be reported.
 fn write_if(is_told: bool, reason: &Reason<'_>, before: bool, out: &mut Room<'_>) -> bool
     ensures texts { Writes out.old out.new (in_row MARK.now before (text_if is_told (reason_listed reason.now))) }
     ensures before { result ≡ stands_before before (text_if is_told (reason_listed reason.now)) }

@@ -78,7 +78,7 @@ impl<'a, W: Write> WatchedWriter<'a, W> {
     }
 }
 
-/// Where a run writes: its lines to `out`, and what it tells of faults to `err`.
+/// Where a run writes: its lines to `out`, and what it reports of faults to `err`.
 #[derive(Drop)]
 pub struct Output<'a, W: Write, E: Write> {
     pub out: WatchedWriter<'a, W>,

@@ -76,7 +76,7 @@ pub use Rattle.infer_sig.specs.Signature.{fits, has_part}
 pub use Rattle.infer_more.specs.Decided.{MayWiden}
 pub use Rattle.infer_more.specs.Ended.{ended_shown}
 pub use Rattle.infer_more.specs.Entries.{left_lines, row_lines}
-pub use Rattle.infer_more.specs.Index.{HasTagText, IsFoundBelow, IsLeast, IsNamed, IsOfProgram, IsRooted, IsRootedBy, told_by}
+pub use Rattle.infer_more.specs.Index.{HasTagText, IsFoundBelow, IsLeast, IsNamed, IsOfProgram, IsRooted, IsRootedBy, name_at}
 pub use Rattle.infer_more.specs.Index.{IsRowOf, IsTried, ascends, candidate, candidates, has_byte}
 pub use Rattle.infer_more.specs.Index.{is_covered, is_listed, is_plain, is_settled, is_tried_parentless}
 pub use Rattle.infer_more.specs.Index.{is_true_below, named_row, bucket_of, rooted_row, tried_parentless}
@@ -106,5 +106,5 @@ pub use Rattle.infer_more.specs.declared.index.Parentless.{Parentless}
 pub use Rattle.infer_more.specs.declared.index.Rooted.{Rooted}
 pub use Rattle.infer_more.specs.declared.index.generated.TheConstants.{FURTHER_COUNT}
 pub use Rattle.infer_more.specs.declared.samples.TheConstants.{SAMPLE_SIZE}
-pub use Rattle.infer_more.specs.declared.listed.Piece.{Piece}
-pub use Rattle.infer_more.specs.declared.listed.FurtherRow.{FurtherRow}
+pub use Rattle.infer_more.specs.declared.row_data.Piece.{Piece}
+pub use Rattle.infer_more.specs.declared.row_data.FurtherRow.{FurtherRow}

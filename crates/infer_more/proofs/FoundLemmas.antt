@@ -14,22 +14,22 @@ use Rattle.infer_formats.specs.Tiff.{HasTag}
 use Rattle.infer_formats.specs.Markup.{HasInTag, MayBeRooted}
 use Rattle.infer_sig.specs.Signature as fixed
 use Rattle.infer_sig.proofs.OccurrenceLemmas.{not_both}
-use Rattle.infer_more.specs.Index.{AllApplications, AreClassIds, AreWaysBelow, EachIsLed, EachIsTold, EachParentlessIsFound, FindsBelow, FindsLed, FindsParentless, IsFoundParentless, IsKeyed, IsKeyedBy, IsTold, IsWayBelow, IsTextRow, HasKeyValue, MayBeTold, all_ascend, are_keyed, are_rooted, are_roots_of, are_texts, are_true, asks_class_id, asks_folder, asks_key, asks_program, asks_root, below_at, bucket_by, has_byte, has_named, has_rooted, keyed_row, roots_of, is_application, is_child, is_found_below, is_found_parentless, is_in_class_ids, is_in_folders, is_in_keys, is_in_programs, is_in_roots, is_json, is_lines, is_of_name, is_of_tag, is_row_below, is_row_parentless, is_row_parentless_found, is_row_with, is_text_row, is_told, is_tried_below, bucket_at, same, same_text, told_by}
+use Rattle.infer_more.specs.Index.{AllApplications, AreClassIds, AreWaysBelow, EachIsByLead, EachIsFoundByName, EachParentlessIsFound, FindsBelow, FindsByLead, FindsParentless, IsFoundParentless, IsKeyed, IsKeyedBy, IsFoundByName, IsWayBelow, IsTextRow, HasKeyValue, MayHaveName, all_ascend, are_keyed, are_rooted, are_roots_of, are_texts, are_true, asks_class_id, asks_folder, asks_key, asks_program, asks_root, below_at, bucket_by, has_byte, has_named, has_rooted, keyed_row, roots_of, is_application, is_child, is_found_below, is_found_parentless, is_in_class_ids, is_in_folders, is_in_keys, is_in_programs, is_in_roots, is_json, is_lines, is_of_name, is_of_tag, is_row_below, is_row_parentless, is_row_parentless_found, is_row_with, is_text_row, is_found_by_name, is_tried_below, bucket_at, same, same_text, name_at}
 use Rattle.infer_notation.specs.Alternative.{Alternative}
-use Rattle.infer_more.specs.declared.listed.Span.{Span}
+use Rattle.infer_evidence.specs.declared.spans.Span.{Span}
 use Rattle.infer_more.specs.declared.index.Below as below
 use Rattle.infer_more.specs.declared.index.Below.TheVariants.{ClassIds, Entries, Packages, Programs, Roots, Tagged}
 use Rattle.infer_more.specs.declared.index.Entry.{Entry}
 use Rattle.infer_more.specs.declared.index.Keyed.{Keyed}
-use Rattle.infer_more.specs.declared.index.Led.{Led}
+use Rattle.infer_more.specs.declared.index.ByLead.{ByLead}
 use Rattle.infer_more.specs.declared.index.Texts.{Texts}
-use Rattle.infer_more.specs.declared.index.Told.{Told}
+use Rattle.infer_more.specs.declared.index.ByName.{ByName}
 use Rattle.infer_more.proofs.IndexLemmas.{both_left, both_right, covered_here, listed_left, listed_right, parentless_here}
 use Rattle.infer_more.proofs.LeastLemmas.{least_both, least_late, least_same, read_at}
 use Rattle.infer_more.proofs.OutlineLemmas.{has_lines, small_bytes}
 use Rattle.infer_more.proofs.NearLemmas.{element_by, element_is, near, near_is}
 use Rattle.infer_more.proofs.TableLemmas.{NoRowFails, each_row}
-use Rattle.infer_more.specs.Index.{entries_at, entries_by, is_led, led_rows, text_rows}
+use Rattle.infer_more.specs.Index.{entries_at, entries_by, is_by_lead, led_rows, text_rows}
 use Rattle.infer_more.specs.Wider.{IsWidest}
 use Rattle.std.proofs.Common.{ap₂}
 
@@ -46,8 +46,8 @@ same_true (x ∷ xs) (y ∷ ys) h =
 -- a name that is listed has its row
 listed_name : (P : List ℕ → Type 0) (i : ℕ) (names : List Named) (name : List ℕ) → IsTrue (has_named i names name) → P name → IsNamed P names i
 listed_name P i [] name h p = absurd (cc)
-listed_name P i (e ∷ names) name h p = elim (or_cases (e.row == i && same (told_by e.name) name) _ h) [
-  | inl here ↦ inl (eqb-true e.row i (both_left (e.row == i) _ here), subst P (sym (same_true (told_by e.name) name (both_right (e.row == i) _ here))) p)
+listed_name P i (e ∷ names) name h p = elim (or_cases (e.row == i && same (name_at e.name) name) _ h) [
+  | inl here ↦ inl (eqb-true e.row i (both_left (e.row == i) _ here), subst P (sym (same_true (name_at e.name) name (both_right (e.row == i) _ here))) p)
   | inr later ↦ inr (listed_name P i names name later p)
 ]
 
@@ -71,15 +71,15 @@ tag_text : (rest : List ℕ) (t : Option Span) (u : Option (List ℕ)) → IsTru
 tag_text rest None None h p = tt
 tag_text rest None (Some u) h p = absurd (cc)
 tag_text rest (Some t) None h p = absurd (cc)
-tag_text rest (Some t) (Some u) h p = subst (λ own. HasInTag own rest) (sym (same_true (told_by t) u h)) p
+tag_text rest (Some t) (Some u) h p = subst (λ own. HasInTag own rest) (sym (same_true (name_at t) u h)) p
 
 listed_root : (rest : List ℕ) (i : ℕ) (roots : List Rooted) (name : List ℕ) (u : Option (List ℕ)) → IsTrue (has_rooted i roots name u)
     → OwnText rest u → IsRootedBy name rest roots i
 listed_root rest i [] name u h p = absurd (cc)
-listed_root rest i (e ∷ roots) name u h p = elim (or_cases (e.row == i && (same (told_by e.name) name && same_text e.text u)) _ h) [
+listed_root rest i (e ∷ roots) name u h p = elim (or_cases (e.row == i && (same (name_at e.name) name && same_text e.text u)) _ h) [
   | inl here ↦
-      let and_from = both_right (e.row == i) (same (told_by e.name) name && same_text e.text u) here in
-      inl (eqb-true e.row i (both_left (e.row == i) _ here), (same_true (told_by e.name) name (both_left (same (told_by e.name) name) _ and_from), tag_text rest e.text u (both_right (same (told_by e.name) name) _ and_from) p))
+      let and_from = both_right (e.row == i) (same (name_at e.name) name && same_text e.text u) here in
+      inl (eqb-true e.row i (both_left (e.row == i) _ here), (same_true (name_at e.name) name (both_left (same (name_at e.name) name) _ and_from), tag_text rest e.text u (both_right (same (name_at e.name) name) _ and_from) p))
   | inr later ↦ inr (listed_root rest i roots name u later p)
 ]
 
@@ -92,15 +92,15 @@ key_value : (rest : List ℕ) (t : Option Span) (u : Option (List ℕ)) → IsTr
 key_value rest None None h p = tt
 key_value rest None (Some u) h p = absurd (cc)
 key_value rest (Some t) None h p = absurd (cc)
-key_value rest (Some t) (Some u) h p = subst (λ own. HasValue own rest) (sym (same_true (told_by t) u h)) p
+key_value rest (Some t) (Some u) h p = subst (λ own. HasValue own rest) (sym (same_true (name_at t) u h)) p
 
 listed_key : (rest : List ℕ) (i : ℕ) (keys : List Keyed) (key : List ℕ) (u : Option (List ℕ))
-    → IsTrue (list_any (λ e. e.row == i && (same (told_by e.key) key && same_text e.value u)) keys) → OwnValue rest u → IsKeyedBy key rest keys i
+    → IsTrue (list_any (λ e. e.row == i && (same (name_at e.key) key && same_text e.value u)) keys) → OwnValue rest u → IsKeyedBy key rest keys i
 listed_key rest i [] key u h p = absurd (cc)
-listed_key rest i (e ∷ keys) key u h p = elim (or_cases (e.row == i && (same (told_by e.key) key && same_text e.value u)) _ h) [
+listed_key rest i (e ∷ keys) key u h p = elim (or_cases (e.row == i && (same (name_at e.key) key && same_text e.value u)) _ h) [
   | inl here ↦
-      let both = both_right (e.row == i) (same (told_by e.key) key && same_text e.value u) here in
-      inl (eqb-true e.row i (both_left (e.row == i) _ here), (same_true (told_by e.key) key (both_left (same (told_by e.key) key) _ both), key_value rest e.value u (both_right (same (told_by e.key) key) _ both) p))
+      let both = both_right (e.row == i) (same (name_at e.key) key && same_text e.value u) here in
+      inl (eqb-true e.row i (both_left (e.row == i) _ here), (same_true (name_at e.key) key (both_left (same (name_at e.key) key) _ both), key_value rest e.value u (both_right (same (name_at e.key) key) _ both) p))
   | inr later ↦ inr (listed_key rest i keys key u later p)
 ]
 
@@ -132,18 +132,18 @@ module _ (by_place : (place : ℕ) (t buf : List ℕ) → IsTrue (stands place t
   ]
 
   -- or few bytes leave it
-  line_led : (led : Led) (some : List fixed.Alternative)
-      → IsTrue (list_all (λ l. is_tried_parentless (entries_at led.index) led.index.spots.now i l || is_covered i l led.beside.now) some) → IsTrue (accepts some b)
-      → IsTrue (is_listed (tried_parentless led.index b ++ candidates b led.beside.now) i)
-  line_led led [] h k = absurd (cc)
-  line_led led (l ∷ some) h k =
-      let here = is_tried_parentless (entries_at led.index) led.index.spots.now i l in
+  line_by_lead : (by_lead : ByLead) (some : List fixed.Alternative)
+      → IsTrue (list_all (λ l. is_tried_parentless (entries_at by_lead.index) by_lead.index.spots.now i l || is_covered i l by_lead.beside.now) some) → IsTrue (accepts some b)
+      → IsTrue (is_listed (tried_parentless by_lead.index b ++ candidates b by_lead.beside.now) i)
+  line_by_lead by_lead [] h k = absurd (cc)
+  line_by_lead by_lead (l ∷ some) h k =
+      let here = is_tried_parentless (entries_at by_lead.index) by_lead.index.spots.now i l in
       elim (or_cases (fits b l) _ k) [
-        | inl e ↦ elim (or_cases here _ (both_left (here || is_covered i l led.beside.now) _ h)) [
-          | inl at_spot ↦ listed_left (tried_parentless led.index b) _ i (parentless_here by_place led.index b i l at_spot e)
-          | inr other ↦ listed_right (tried_parentless led.index b) _ i (covered_here by_place b i l led.beside.now other e)
+        | inl e ↦ elim (or_cases here _ (both_left (here || is_covered i l by_lead.beside.now) _ h)) [
+          | inl at_spot ↦ listed_left (tried_parentless by_lead.index b) _ i (parentless_here by_place by_lead.index b i l at_spot e)
+          | inr other ↦ listed_right (tried_parentless by_lead.index b) _ i (covered_here by_place b i l by_lead.beside.now other e)
         ]
-        | inr e ↦ line_led led some (both_right (here || is_covered i l led.beside.now) _ h) e
+        | inr e ↦ line_by_lead by_lead some (both_right (here || is_covered i l by_lead.beside.now) _ h) e
       ]
 
   text_listed : (t : Texts) (a : Alternative) → IsTrue (is_text_row t i a) → IsTrue (is_listed (text_rows t) i)
@@ -152,15 +152,15 @@ module _ (by_place : (place : ℕ) (t buf : List ℕ) → IsTrue (stands place t
   text_listed t (related plain_text) h = or_right (t.lines == i) _ (or_right (t.json == i) _ (or_left (t.plain == i) _ h))
   text_listed t other h = absurd (cc)
 
-  led_by : (led : Led) (signature : List Alternative) → IsTrue (list_all (is_led (entries_at led.index) led.index.spots.now led.beside.now led.index.texts i) signature) → Accepted signature b
-      → IsTrue (is_listed (led_rows led b) i)
-  led_by led [] h k = absurd (k)
-  led_by led (a ∷ signature) h (inr k) =
-      led_by led signature (both_right (is_led (entries_at led.index) led.index.spots.now led.beside.now led.index.texts i a) _ h) k
-  led_by led (a ∷ signature) h (inl k) =
-      elim (or_cases (is_text_row led.index.texts i a) _ (both_left (is_led (entries_at led.index) led.index.spots.now led.beside.now led.index.texts i a) _ h)) [
-        | inl text ↦ listed_right (tried_parentless led.index b ++ candidates b led.beside.now) _ i (text_listed led.index.texts a text)
-        | inr rows ↦ listed_left (tried_parentless led.index b ++ candidates b led.beside.now) _ i (line_led led (lines a) rows (has_lines leads b a (λ plain. small) k))
+  led_by : (by_lead : ByLead) (signature : List Alternative) → IsTrue (list_all (is_by_lead (entries_at by_lead.index) by_lead.index.spots.now by_lead.beside.now by_lead.index.texts i) signature) → Accepted signature b
+      → IsTrue (is_listed (led_rows by_lead b) i)
+  led_by by_lead [] h k = absurd (k)
+  led_by by_lead (a ∷ signature) h (inr k) =
+      led_by by_lead signature (both_right (is_by_lead (entries_at by_lead.index) by_lead.index.spots.now by_lead.beside.now by_lead.index.texts i a) _ h) k
+  led_by by_lead (a ∷ signature) h (inl k) =
+      elim (or_cases (is_text_row by_lead.index.texts i a) _ (both_left (is_by_lead (entries_at by_lead.index) by_lead.index.spots.now by_lead.beside.now by_lead.index.texts i a) _ h)) [
+        | inl text ↦ listed_right (tried_parentless by_lead.index b ++ candidates b by_lead.beside.now) _ i (text_listed by_lead.index.texts a text)
+        | inr rows ↦ listed_left (tried_parentless by_lead.index b ++ candidates b by_lead.beside.now) _ i (line_by_lead by_lead (lines a) rows (has_lines leads b a (λ plain. small) k))
       ]
 
   tried : (entries : List Entry) (a : Alternative) → IsTrue (is_tried_below i entries a) → Fits a b → IsTrue (is_listed (candidates b entries) i)
@@ -237,34 +237,34 @@ module _ (by_place : (place : ℕ) (t buf : List ℕ) → IsTrue (stands place t
     found_below way (a ∷ signature) h (inl k) = found_by way a (both_left (is_found_below way i a) _ h) k
     found_below way (a ∷ signature) h (inr k) = found_below way signature (both_right (is_found_below way i a) _ h) k
 
-  module _ (index : Parentless) (told : Told) where
-    found_by_name : (a : Alternative) → IsTrue (is_of_name a) → IsTrue (is_told told i a) → Fits a b → IsTold told b i
+  module _ (index : Parentless) (names : ByName) where
+    found_by_name : (a : Alternative) → IsTrue (is_of_name a) → IsTrue (is_found_by_name names i a) → Fits a b → IsFoundByName names b i
     found_by_name a is h k = elim (or_cases (not (is_of_name a)) _ h) [
       | inl is_none ↦ absurd (not_both (is_of_name a) is is_none)
-      | inr listed ↦ elim (or_cases (is_in_roots i told.roots.now a) _ listed) [
-        | inl r ↦ inl (in_roots told.roots.now a r k)
-        | inr r ↦ inr (in_keys told.keys.now a r k)
+      | inr listed ↦ elim (or_cases (is_in_roots i names.roots.now a) _ listed) [
+        | inl r ↦ inl (in_roots names.roots.now a r k)
+        | inr r ↦ inr (in_keys names.keys.now a r k)
       ]
     ]
 
     found_otherwise : WidensAt None b i → (a : Alternative) → IsTrue (is_text_row index.texts i a || list_all (is_tried_parentless (entries_at index) index.spots.now i) (lines a)) → Fits a b
-        → IsFoundParentless index told b i
+        → IsFoundParentless index names b i
     found_otherwise w a h k = elim (or_cases (is_text_row index.texts i a) _ h) [
       | inl text ↦ inr (inr (in_texts index.texts a text k))
       | inr rows ↦ inl (line_tried_parentless index (lines a) rows (has_lines leads b a (λ plain. small) k), w)
     ]
 
     found_parentless : WidensAt None b i → (signature : List Alternative) → IsTrue (list_all (is_found_parentless (entries_at index) index.spots.now index.texts i) signature)
-        → IsTrue (list_all (is_told told i) signature) → Accepted signature b → IsFoundParentless index told b i
+        → IsTrue (list_all (is_found_by_name names i) signature) → Accepted signature b → IsFoundParentless index names b i
     found_parentless w [] h t k = absurd (k)
     found_parentless w (a ∷ signature) h t (inl k) = elim (or_cases (is_of_name a) _ (both_left (is_found_parentless (entries_at index) index.spots.now index.texts i a) _ h)) [
-      | inl named ↦ inr (inl (found_by_name a named (both_left (is_told told i a) _ t) k))
+      | inl named ↦ inr (inl (found_by_name a named (both_left (is_found_by_name names i a) _ t) k))
       | inr other ↦ found_otherwise w a other k
     ]
     found_parentless w (a ∷ signature) h t (inr k) =
-        found_parentless w signature (both_right (is_found_parentless (entries_at index) index.spots.now index.texts i a) _ h) (both_right (is_told told i a) _ t) k
+        found_parentless w signature (both_right (is_found_parentless (entries_at index) index.spots.now index.texts i a) _ h) (both_right (is_found_by_name names i a) _ t) k
 
--- a row that is told by a name widens the answer
+-- a row that is found by a name widens the answer
 any_of : (test : Alternative → Bool) (b : List ℕ) → ((a : Alternative) → IsTrue (test a) → Fits a b) → (signature : List Alternative) → IsTrue (list_any test signature)
     → Accepted signature b
 any_of test b sound [] h = absurd (cc)
@@ -304,7 +304,7 @@ module _ (b : List ℕ) where
 
   in_tag : (rest : List ℕ) (t : Option Span) (u : List ℕ) → IsTrue (same_text t (Some u)) → HasTagText rest t → HasInTag u rest
   in_tag rest None u h p = absurd (cc)
-  in_tag rest (Some t) u h p = subst (λ own. HasInTag own rest) (same_true (told_by t) u h) p
+  in_tag rest (Some t) u h p = subst (λ own. HasInTag own rest) (same_true (name_at t) u h) p
 
   module _ (name rest : List ℕ) (element : IsRootElement name rest b) where
     fits_root : (own : List ℕ) (t : Option Span) → (own ≡ name) × HasTagText rest t → (a : Alternative) → IsTrue (asks_root own t a) → Fits a b
@@ -327,7 +327,7 @@ module _ (b : List ℕ) where
 
   own_value : (rest : List ℕ) (t : Option Span) (u : List ℕ) → IsTrue (same_text t (Some u)) → HasKeyValue rest t → HasValue u rest
   own_value rest None u h p = absurd (cc)
-  own_value rest (Some t) u h p = subst (λ own. HasValue own rest) (same_true (told_by t) u h) p
+  own_value rest (Some t) u h p = subst (λ own. HasValue own rest) (same_true (name_at t) u h) p
 
   module _ (key rest : List ℕ) (is : IsFirstKey key rest b) where
     fits_key : (own : List ℕ) (t : Option Span) → (own ≡ key) × HasKeyValue rest t → (a : Alternative) → IsTrue (asks_key own t a) → Fits a b
@@ -358,41 +358,41 @@ module _ (b : List ℕ) where
   fits_plain p (related plain_text) h = p
   fits_plain p other h = absurd (cc)
 
-  -- what is told of each element, and one more thing
+  -- what is found of each element, and one more thing
   second_of_each : (P Q : Named → Bool) (xs : List Named) → IsTrue (list_all (λ e. P e && Q e) xs) → IsTrue (list_all Q xs)
   second_of_each P Q [] h = refl
   second_of_each P Q (e ∷ xs) h = and_from (Q e) _ (both_right (P e) (Q e) (both_left (P e && Q e) _ h)) (second_of_each P Q xs (both_right (P e && Q e) _ h))
 
   widens_root : (parent : Option ℕ) (roots : List (Bor (List Rooted))) (i : ℕ) → IsTrue (are_roots_of parent roots) → IsRooted b roots i → WidensAt parent b i
   widens_root parent roots i h (name, rest, element, is) =
-      rows_widen rooted_row (λ e. (told_by e.name ≡ name) × HasTagText rest e.text) (λ e. asks_root (told_by e.name) e.text) parent b
-      (λ e p. fits_root name rest element (told_by e.name) e.text p) (roots_of roots name) i
-      (listed_in_bucket (list_all (λ e. is_row_with parent (asks_root (told_by e.name) e.text) e.row)) refl _ roots name h) is
+      rows_widen rooted_row (λ e. (name_at e.name ≡ name) × HasTagText rest e.text) (λ e. asks_root (name_at e.name) e.text) parent b
+      (λ e p. fits_root name rest element (name_at e.name) e.text p) (roots_of roots name) i
+      (listed_in_bucket (list_all (λ e. is_row_with parent (asks_root (name_at e.name) e.text) e.row)) refl _ roots name h) is
 
   widens_key : (keys : List Keyed) (i : ℕ) → IsTrue (are_keyed keys) → IsKeyed b keys i → WidensAt None b i
   widens_key keys i h (key, rest, first, is) =
-      rows_widen keyed_row (λ e. (told_by e.key ≡ key) × HasKeyValue rest e.value) (λ e. asks_key (told_by e.key) e.value) None b
-      (λ e p. fits_key key rest first (told_by e.key) e.value p) keys i (both_right (ascends keyed_row keys) _ h) is
+      rows_widen keyed_row (λ e. (name_at e.key ≡ key) × HasKeyValue rest e.value) (λ e. asks_key (name_at e.key) e.value) None b
+      (λ e p. fits_key key rest first (name_at e.key) e.value p) keys i (both_right (ascends keyed_row keys) _ h) is
 
   widens_below : (parent : ℕ) (way : below.Below) (i : ℕ) → IsTrue (is_true_below parent way) → IsFoundBelow way parent b i → WidensAt (Some parent) b i
   widens_below parent Nothing i h is = absurd (is)
   widens_below parent (Entries entries) i h is = is.1
   widens_below parent (ClassIds entries ids) i h (inl is) = is.1
   widens_below parent (ClassIds entries ids) i h (inr is) =
-      rows_widen named_row (λ e. HasClassId (told_by e.name) b) (λ e. asks_class_id (told_by e.name)) (Some parent) b (λ e p. fits_class_id (told_by e.name) p) ids.now i
-      (second_of_each (λ e. length (told_by e.name) == 16) (λ e. is_row_with (Some parent) (asks_class_id (told_by e.name)) e.row) ids.now
+      rows_widen named_row (λ e. HasClassId (name_at e.name) b) (λ e. asks_class_id (name_at e.name)) (Some parent) b (λ e p. fits_class_id (name_at e.name) p) ids.now i
+      (second_of_each (λ e. length (name_at e.name) == 16) (λ e. is_row_with (Some parent) (asks_class_id (name_at e.name)) e.row) ids.now
       (both_right (ascends named_row ids.now) _ h)) is
   widens_below parent (Programs entries lists) i h (inl is) = is.1
   widens_below parent (Programs entries lists) i h (inr (name, p, is)) =
-      rows_widen named_row (λ e. (told_by e.name) ≡ name) (λ e. asks_program (told_by e.name)) (Some parent) b
-      (λ e same. fits_program (told_by e.name) (subst (λ n. IsProgram n b) (sym same) p)) (bucket_of lists.now name) i
-      (listed_in_bucket (list_all (λ e. is_row_with (Some parent) (asks_program (told_by e.name)) e.row)) refl _ lists.now name
+      rows_widen named_row (λ e. (name_at e.name) ≡ name) (λ e. asks_program (name_at e.name)) (Some parent) b
+      (λ e same. fits_program (name_at e.name) (subst (λ n. IsProgram n b) (sym same) p)) (bucket_of lists.now name) i
+      (listed_in_bucket (list_all (λ e. is_row_with (Some parent) (asks_program (name_at e.name)) e.row)) refl _ lists.now name
       (both_right (all_ascend named_row lists.now) _ h)) is
   widens_below parent (Roots roots) i h is = widens_root (Some parent) roots.now i (both_right (all_ascend rooted_row roots.now) _ h) is
   widens_below parent (Packages entries folders) i h (inl is) = is.1
   widens_below parent (Packages entries folders) i h (inr is) =
-      rows_widen named_row (λ e. IsPackageWith (told_by e.name) b) (λ e. asks_folder (told_by e.name)) (Some parent) b (λ e p. fits_folder (told_by e.name) p) folders.now i
-      (second_of_each (λ e. is_application (told_by e.name)) (λ e. is_row_with (Some parent) (asks_folder (told_by e.name)) e.row) folders.now
+      rows_widen named_row (λ e. IsPackageWith (name_at e.name) b) (λ e. asks_folder (name_at e.name)) (Some parent) b (λ e p. fits_folder (name_at e.name) p) folders.now i
+      (second_of_each (λ e. is_application (name_at e.name)) (λ e. is_row_with (Some parent) (asks_folder (name_at e.name)) e.row) folders.now
       (both_right (ascends named_row folders.now) _ h)) is
   widens_below parent (Tagged entries tag other tagged) i h (inl is) = is.1
   widens_below parent (Tagged entries tag other tagged) i h (inr (has, is)) = is.1
@@ -443,7 +443,7 @@ pub way_of_list : (apart : List ℕ) (ways : List below.Below) → AreWaysBelow 
     → IsWayBelow parent (below_at ways parent)
 way_of_list apart ways each parent other = record {
   found = λ i lt. found_alone apart ways parent other i (slice_get further i) (each.found i lt);
-  told = true_below ways parent each.told;
+  names = true_below ways parent each.names;
 }
 
 -- each folder of a package is that of an application
@@ -456,21 +456,21 @@ one_of t (other ∷ others) h = elim (or_cases (same t other) _ h) [
 
 module _ (parent : ℕ) where
   abbrev is_folder : Named → Bool
-  is_folder e = is_application (told_by e.name) && is_row_with (Some parent) (asks_folder (told_by e.name)) e.row
+  is_folder e = is_application (name_at e.name) && is_row_with (Some parent) (asks_folder (name_at e.name)) e.row
 
   pub all_applications : (entries : Bor (List Entry)) (folders : Bor (List Named)) → IsTrue (is_true_below parent (Packages entries folders)) → AllApplications folders.now
   all_applications entries folders h = λ k d lt.
-      let name = told_by (get_or folders.now k d).name in
+      let name = name_at (get_or folders.now k d).name in
       one_of name applications (both_left (is_application name) _ (AllPass-from_list_all is_folder folders.now (both_right (ascends named_row folders.now) _ h) k d lt))
 
 -- each class id has its bytes
 module _ (parent : ℕ) where
   abbrev is_class_id : Named → Bool
-  is_class_id e = length (told_by e.name) == 16 && is_row_with (Some parent) (asks_class_id (told_by e.name)) e.row
+  is_class_id e = length (name_at e.name) == 16 && is_row_with (Some parent) (asks_class_id (name_at e.name)) e.row
 
   pub are_class_ids : (entries : Bor (List Entry)) (ids : Bor (List Named)) → IsTrue (is_true_below parent (ClassIds entries ids)) → AreClassIds ids.now
   are_class_ids entries ids h = λ k d lt.
-      let long = length (told_by (get_or ids.now k d).name) in
+      let long = length (name_at (get_or ids.now k d).name) in
       eqb-true long 16 (both_left (long == 16) _ (AllPass-from_list_all is_class_id ids.now (both_right (ascends named_row ids.now) _ h) k d lt))
 
 -- a row is found by its parent, or without one
@@ -500,39 +500,39 @@ module _ (by_place : (place : ℕ) (t buf : List ℕ) → IsTrue (stands place t
     | inr (past, none) ↦ absurd (let lt = w.0 in omega arith)
   ]
 
-  finds_parentless : (index : Parentless) (told : Told) → EachParentlessIsFound index → EachIsTold told → (b : List ℕ) → IsBuffer b → (i : ℕ) → WidensAt None b i
-      → IsFoundParentless index told b i
-  finds_parentless index told each named b all i w = elim (slice_get_cases further i).1 [
+  finds_parentless : (index : Parentless) (names : ByName) → EachParentlessIsFound index → EachIsFoundByName names → (b : List ℕ) → IsBuffer b → (i : ℕ) → WidensAt None b i
+      → IsFoundParentless index names b i
+  finds_parentless index names each named b all i w = elim (slice_get_cases further i).1 [
     | inl (r, within, found, same_row) ↦
         let holds : Widens None b r = subst (Widens None b) same_row (w.1 r) in
         let own = parentless_by i r found within (is_found_parentless (entries_at index) index.spots.now index.texts) each.found holds.0 in
-        found_parentless by_place leads b (small_bytes b all) i index told w r.signature own (parentless_by i r found within (is_told told) named.found holds.0) holds.1
+        found_parentless by_place leads b (small_bytes b all) i index names w r.signature own (parentless_by i r found within (is_found_by_name names) named.found holds.0) holds.1
     | inr (past, none) ↦ absurd (let lt = w.0 in omega arith)
   ]
 
-  pub finds_led : (led : Led) → EachIsLed led → FindsLed led
-  finds_led led each = record {
+  pub finds_by_lead : (by_lead : ByLead) → EachIsByLead by_lead → FindsByLead by_lead
+  finds_by_lead by_lead each = record {
     left = λ b all i w. elim (slice_get_cases further i).1 [
       | inl (r, within, found, same_row) ↦
           let holds : Widens None b r = subst (Widens None b) same_row (w.1 r) in
-          let own = parentless_by i r found within (is_led (entries_at led.index) led.index.spots.now led.beside.now led.index.texts) each.left holds.0 in
-          led_by by_place leads b (small_bytes b all) i led r.signature own holds.1
+          let own = parentless_by i r found within (is_by_lead (entries_at by_lead.index) by_lead.index.spots.now by_lead.beside.now by_lead.index.texts) each.left holds.0 in
+          led_by by_place leads b (small_bytes b all) i by_lead r.signature own holds.1
       | inr (past, none) ↦ absurd (let lt = w.0 in omega arith)
     ];
   }
 
   pub all_below : (parent : ℕ) (way : below.Below) → IsWayBelow parent way → FindsBelow parent way
-  all_below parent way each b all i = (widens_below b parent way i each.told, finds_below parent way each b all i)
+  all_below parent way each b all i = (widens_below b parent way i each.names, finds_below parent way each b all i)
 
-  pub all_parentless : (index : Parentless) (told : Told) → EachParentlessIsFound index → EachIsTold told → FindsParentless index told
-  all_parentless index told each named b all i = (
+  pub all_parentless : (index : Parentless) (names : ByName) → EachParentlessIsFound index → EachIsFoundByName names → FindsParentless index names
+  all_parentless index names each named b all i = (
     λ is. elim is [
       | inl tried_row ↦ tried_row.1
-      | inr (inl (inl r)) ↦ widens_root b None told.roots.now i (both_right (all_ascend rooted_row told.roots.now) _ named.roots) r
-      | inr (inl (inr r)) ↦ widens_key b told.keys.now i named.keys r
+      | inr (inl (inl r)) ↦ widens_root b None names.roots.now i (both_right (all_ascend rooted_row names.roots.now) _ named.roots) r
+      | inr (inl (inr r)) ↦ widens_key b names.keys.now i named.keys r
       | inr (inr t) ↦ widens_text b index.texts i each.texts t
     ],
-    finds_parentless index told each named b all i,
+    finds_parentless index names each named b all i,
   )
 
 pub texts_ascend : (t : Texts) → IsTrue (are_texts t) → (t.lines ≤ t.json) × (t.json ≤ t.plain)
@@ -545,9 +545,9 @@ pub least_below : (parent : ℕ) (way : below.Below) → FindsBelow parent way �
     → IsLeast (IsFoundBelow way parent b) FURTHER_COUNT least → IsLeast (WidensAt (Some parent) b) FURTHER_COUNT least
 least_below parent way all b bytes least h = least_same _ _ FURTHER_COUNT least (λ i. (all b bytes i).0) (λ i. (all b bytes i).1) h
 
-module _ (index : Parentless) (told : Told) (all : FindsParentless index told) (b : List ℕ) (bytes : IsBuffer b) where
+module _ (index : Parentless) (names : ByName) (all : FindsParentless index names) (b : List ℕ) (bytes : IsBuffer b) where
   pub least_with_texts : (tried_least rooted least : ℕ) → IsLeast (IsTried None b (tried_parentless index b)) FURTHER_COUNT tried_least
-      → IsLeast (IsTold told b) tried_least rooted → IsLeast (IsTextRow index.texts b) rooted least
+      → IsLeast (IsFoundByName names b) tried_least rooted → IsLeast (IsTextRow index.texts b) rooted least
       → IsLeast (WidensAt None b) FURTHER_COUNT least
   least_with_texts tried_least rooted least h r k =
       least_same _ _ FURTHER_COUNT least (λ i. (all b bytes i).0) (λ i. (all b bytes i).1)
@@ -555,7 +555,7 @@ module _ (index : Parentless) (told : Told) (all : FindsParentless index told) (
 
   pub least_before_texts : (tried_least least : ℕ) → IsTrue (are_texts index.texts) → least ≤ index.texts.lines
       → IsLeast (IsTried None b (tried_parentless index b)) FURTHER_COUNT tried_least
-      → IsLeast (IsTold told b) tried_least least → IsLeast (WidensAt None b) FURTHER_COUNT least
+      → IsLeast (IsFoundByName names b) tried_least least → IsLeast (WidensAt None b) FURTHER_COUNT least
   least_before_texts tried_least least texts later h r =
       let (json_later, plain_later) = texts_ascend index.texts texts in
       least_with_texts tried_least least least h r (least_late _ least (λ i is. elim is [
@@ -567,11 +567,11 @@ module _ (index : Parentless) (told : Told) (all : FindsParentless index told) (
 -- as computed of each row: a refusal shows the numbers of the rows that are not found
 pub way_below : (parent : ℕ) (way : below.Below) → NoRowFails (λ i r. is_row_below (λ p. p == parent) (λ p. way) i r.parent r)
     → IsTrue (is_true_below parent way) → IsWayBelow parent way
-way_below parent way none told = record { found = λ i lt. each_row _ none i; told = told }
+way_below parent way none names = record { found = λ i lt. each_row _ none i; names = names }
 
 pub ways_below : (apart : List ℕ) (ways : List below.Below)
     → NoRowFails (λ i r. is_row_below (λ p. not (is_listed apart p)) (below_at ways) i r.parent r) → IsTrue (are_true 0 ways) → AreWaysBelow apart ways
-ways_below apart ways none told = record { found = λ i lt. each_row _ none i; told = told }
+ways_below apart ways none names = record { found = λ i lt. each_row _ none i; names = names }
 
 -- below a row without a further one no answer is wider
 pub none_below : (parent : ℕ) (way : below.Below) → FindsBelow parent way → way ≡ Nothing → IsWidest (Some parent)
@@ -592,16 +592,16 @@ each_parentless index none texts =
       texts = texts;
     }
 
-pub each_led : (led : Led)
-    → NoRowFails (λ i r. is_row_parentless (is_led (entries_near led.index.entries.now led.index.starts.now) led.index.spots.now led.beside.now led.index.texts i) r.parent r)
-    → EachIsLed led
-each_led led none =
-    let same : entries_near led.index.entries.now led.index.starts.now ≡ entries_at led.index = ap₂ entries_by (near_is led.index.entries.now) (element_is led.index.starts.now) in
-    record { left = λ i lt. each_row _ (subst (λ entries. NoRowFails (λ i r. is_row_parentless (is_led entries led.index.spots.now led.beside.now led.index.texts i) r.parent r)) same none) i }
+pub each_by_lead : (by_lead : ByLead)
+    → NoRowFails (λ i r. is_row_parentless (is_by_lead (entries_near by_lead.index.entries.now by_lead.index.starts.now) by_lead.index.spots.now by_lead.beside.now by_lead.index.texts i) r.parent r)
+    → EachIsByLead by_lead
+each_by_lead by_lead none =
+    let same : entries_near by_lead.index.entries.now by_lead.index.starts.now ≡ entries_at by_lead.index = ap₂ entries_by (near_is by_lead.index.entries.now) (element_is by_lead.index.starts.now) in
+    record { left = λ i lt. each_row _ (subst (λ entries. NoRowFails (λ i r. is_row_parentless (is_by_lead entries by_lead.index.spots.now by_lead.beside.now by_lead.index.texts i) r.parent r)) same none) i }
 
-pub each_told : (told : Told) → NoRowFails (λ i r. is_row_parentless (is_told told i) r.parent r) → IsTrue (are_rooted told.roots.now)
-    → IsTrue (are_keyed told.keys.now) → EachIsTold told
-each_told told none roots keys = record { found = λ i lt. each_row _ none i; roots = roots; keys = keys }
+pub each_by_name : (names : ByName) → NoRowFails (λ i r. is_row_parentless (is_found_by_name names i) r.parent r) → IsTrue (are_rooted names.roots.now)
+    → IsTrue (are_keyed names.keys.now) → EachIsFoundByName names
+each_by_name names none roots keys = record { found = λ i lt. each_row _ none i; roots = roots; keys = keys }
 
 blank_space : (x : ℕ) → IsBlank x → IsXmlSpace x
 blank_space x (inl e) = inr (inr (inr e))
@@ -610,7 +610,7 @@ blank_space x (inr (inr (inl e))) = inr (inl e)
 blank_space x (inr (inr (inr e))) = inr (inr (inl e))
 
 -- a root is that of markup, which begins with white space, "<" or a byte order mark
-pub root_starts : (b : List ℕ) → Leads → (name rest : List ℕ) → IsRootElement name rest b → MayBeTold b
+pub root_starts : (b : List ℕ) → Leads → (name rest : List ℕ) → IsRootElement name rest b → MayHaveName b
 root_starts b leads name rest element = elim (leads.root name b (rest, element)) [
   | inl o ↦ let fits = o.fits in (omega arith, inr (inr (inr (o.reads 0 (omega arith)))))
   | inr (k, low, spaces, starts) ↦ elim (cases_lt 0 k) [
@@ -625,28 +625,28 @@ dark_starts x [] (left, next) = absurd (cc)
 dark_starts x (y ∷ b) (left, inl e) = (omega arith, inr (let first : y ≡ x = cc in first))
 dark_starts x (y ∷ b) (left, inr (blank, next)) = (omega arith, inl (blank_space y blank))
 
-pub key_starts : (b key rest : List ℕ) → IsFirstKey key rest b → MayBeTold b
+pub key_starts : (b key rest : List ℕ) → IsFirstKey key rest b → MayHaveName b
 key_starts b key rest is = elim (key_first key rest b is) [
   | inl first ↦ let (some, begins) = dark_starts 0x7B b first in (some, elim begins [ inl space ↦ inl space | inr e ↦ inr (inr (inl e)) ])
   | inr first ↦ let (some, begins) = dark_starts 0xEF b first in (some, elim begins [ inl space ↦ inl space | inr e ↦ inr (inr (inr e)) ])
 ]
 
 -- what none begins has none
-pub none_told : (told : Told) (b : List ℕ) → Leads → (¬ MayBeTold b) → (i : ℕ) → ¬ IsTold told b i
-none_told told b leads none i (inl (name, rest, element, is)) = none (root_starts b leads name rest element)
-none_told told b leads none i (inr (key, rest, first, is)) = none (key_starts b key rest first)
+pub none_told : (names : ByName) (b : List ℕ) → Leads → (¬ MayHaveName b) → (i : ℕ) → ¬ IsFoundByName names b i
+none_told names b leads none i (inl (name, rest, element, is)) = none (root_starts b leads name rest element)
+none_told names b leads none i (inr (key, rest, first, is)) = none (key_starts b key rest first)
 
 -- the first byte behind white space tells which of them there may be
 module _ (b : List ℕ) (leads : Leads) where
   root_dark : (name rest : List ℕ) → IsRootElement name rest b → StandsFirst 0x3C b ⊎ StandsFirst 0xEF b
   root_dark name rest element = markup_first b (leads.root name b (rest, element))
 
-  pub none_dark : (told : Told) → ((x : ℕ) → (¬ IsBlank x) → ¬ StandsFirst x b) → (i : ℕ) → ¬ IsTold told b i
-  none_dark told none i (inl (name, rest, element, is)) = elim (root_dark name rest element) [
+  pub none_dark : (names : ByName) → ((x : ℕ) → (¬ IsBlank x) → ¬ StandsFirst x b) → (i : ℕ) → ¬ IsFoundByName names b i
+  none_dark names none i (inl (name, rest, element, is)) = elim (root_dark name rest element) [
     | inl first ↦ none 0x3C (λ h. grind arith) first
     | inr first ↦ none 0xEF (λ h. grind arith) first
   ]
-  none_dark told none i (inr (key, rest, is, others)) = elim (key_first key rest b is) [
+  none_dark names none i (inr (key, rest, is, others)) = elim (key_first key rest b is) [
     | inl first ↦ none 0x7B (λ h. grind arith) first
     | inr first ↦ none 0xEF (λ h. grind arith) first
   ]
@@ -670,16 +670,16 @@ front_stands : (x : ℕ) (b : List ℕ) → 0 < length b → slice_index b 0 ≡
 front_stands x [] lt e = absurd (omega arith)
 front_stands x (y ∷ b) lt e = let first : y ≡ x = e in subst (λ z. StandsFirst z (y ∷ b)) first (b, inl refl)
 
-pub told_rooted : (told : Told) (b : List ℕ) (on : Bool) (before after : ℕ) → on ≡ has_byte b 0 0x3C → on ≡ true
-    → IsLeast (IsRooted b told.roots.now) before after → IsLeast (IsTold told b) before after
-told_rooted told b on before after same holds h =
+pub told_rooted : (names : ByName) (b : List ℕ) (on : Bool) (before after : ℕ) → on ≡ has_byte b 0 0x3C → on ≡ true
+    → IsLeast (IsRooted b names.roots.now) before after → IsLeast (IsFoundByName names b) before after
+told_rooted names b on before after same holds h =
     let is : IsTrue (has_byte b 0 0x3C) = sym same ∙ holds in
     let lt : 0 < length b = ltb-true 0 (length b) (both_left (nat_lt 0 (length b)) _ is) in
     let first : slice_index b 0 ≡ 0x3C = eqb-true (slice_index b 0) 0x3C (both_right (nat_lt 0 (length b)) _ is) in
     least_same _ _ before after (λ i r. inl r)
     (λ i is. elim is [
       | inl r ↦ r
-      | inr k ↦ absurd (no_key b 0x3C (λ blank. grind arith) (front_stands 0x3C b lt first) told.keys.now (λ s. omega arith) (λ s. omega arith) i k)
+      | inr k ↦ absurd (no_key b 0x3C (λ blank. grind arith) (front_stands 0x3C b lt first) names.keys.now (λ s. omega arith) (λ s. omega arith) i k)
     ]) h
 
 -- and behind its first "<" stands an element or another "<"

@@ -3,7 +3,7 @@ use Rattle.infer_more.proofs.Common.{◌≡◌, ◌+◌, ◌-◌, ◌<◌, ◌�
 use Rattle.std.proofs.Common.{slice_get}
 use Rattle.infer_formats.specs.declared.relation.Relation as code
 use Rattle.infer_more.specs.Listed.{AreRelations, relations}
-use Rattle.infer_more.specs.declared.listed.relations.TheConstants.{RELATIONS_OF_A_LIST}
+use Rattle.infer_more.specs.declared.row_data.relations.TheConstants.{RELATIONS_OF_A_LIST}
 
 module _ {A : Type 0} where
   pub slice_get_front : (xs ys : List A) (i : ℕ) (x : A) → slice_get xs i ≡ Some x → slice_get (xs ++ ys) i ≡ Some x

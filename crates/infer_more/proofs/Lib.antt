@@ -34,6 +34,6 @@ pub mod DecidedLemmas
 pub mod DescribedLemmas
 pub mod OwnSizeLemmas
 pub mod AnswerLineLemmas
-pub mod WhyLemmas
-pub mod LedLemmas
+pub mod EvidenceLemmas
+pub mod ByLeadLemmas
 pub mod RuledLemmas

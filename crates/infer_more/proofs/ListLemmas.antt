@@ -3,15 +3,12 @@ use Rattle.infer_more.proofs.Common.{◌≡◌, ℕ, Bool, true, false, IsTrue, 
 use Rattle.std.proofs.lemmas.List.{take_all}
 use Rattle.std.proofs.lemmas.List.Folds.{list_all_more, list_any_more}
 use Rattle.std.proofs.lemmas.List.Sums.{AllPass-from_list_all}
+use Rattle.infer_evidence.proofs.ListedLemmas.{list_all_map}
 
 module _ {A B : Type 0} (p : B → Bool) (f : A → B) where
-  pub list_all_map : (xs : List A) → list_all p (map f xs) ≡ list_all (λ x. p (f x)) xs
-  list_all_map [] = refl
-  list_all_map (x ∷ xs) = ap (λ rest. p (f x) && rest) (list_all_map xs)
-
   -- a test that all images pass is passed by each
   pub passed_by : (xs : List A) (k : ℕ) (d : A) → k < length xs → IsTrue (list_all p (map f xs)) → IsTrue (p (f (get_or xs k d)))
-  passed_by xs k d lt all = AllPass-from_list_all (λ x. p (f x)) xs (sym (list_all_map xs) ∙ all) k d lt
+  passed_by xs k d lt all = AllPass-from_list_all (λ x. p (f x)) xs (sym (list_all_map p f xs) ∙ all) k d lt
 
 -- one more element, and all of them
 module _ {A : Type 0} (p : A → Bool) where

@@ -8,12 +8,13 @@ use Rattle.infer.specs.Triple.{triple}
 use Rattle.infer_formats.specs.Relation.{Relation, plain_text}
 use Rattle.infer_more.proofs.NearLemmas.{Stretches, element_by, element_is, near, near_is}
 use Rattle.infer_more.specs.Ended.{Ended}
-use Rattle.infer_more.specs.Listed.{alternative_listed, alternatives, asked_texts, ended_of, extensions, mime_types, pieces, relation_at, relations, stretch}
-use Rattle.infer_more.specs.declared.listed.Alternative.{Alternative}
-use Rattle.infer_more.specs.declared.listed.Alternative.TheVariants.{BinaryBytes, Bytes, Related}
-use Rattle.infer_more.specs.declared.listed.Bytes as code
-use Rattle.infer_more.specs.declared.listed.Piece.{Piece}
-use Rattle.infer_more.specs.declared.listed.Piece.TheVariants.{At, Between, OneOf}
+use Rattle.infer_more.specs.Listed.{alternative_listed, alternatives, asked_texts, ended_of, extensions, mime_types, pieces, relation_at, relations}
+use Rattle.infer_evidence.specs.Spans.{stretch}
+use Rattle.infer_more.specs.declared.row_data.Alternative.{Alternative}
+use Rattle.infer_more.specs.declared.row_data.Alternative.TheVariants.{BinaryBytes, Bytes, Related}
+use Rattle.infer_more.specs.declared.row_data.Bytes as code
+use Rattle.infer_more.specs.declared.row_data.Piece.{Piece}
+use Rattle.infer_more.specs.declared.row_data.Piece.TheVariants.{At, Between, OneOf}
 use Rattle.infer_notation.specs.Alternative as signature
 use Rattle.infer_notation.specs.Alternative.{binary_bytes, bytes, related}
 use Rattle.infer_sig.specs.Signature as fixed

@@ -3,7 +3,7 @@
 use Rattle.infer_more.proofs.Common.{archives, assorted, bitmaps, bundles, buried, captions, chunks, code, compiled, consoles, databases, deeper, dialects, disks, documents, elements, farther, further, games, headers, headlines, images, inner, keyrings, kinds, late, letters, markup, measures, media, mended, notations, objects, office, openings, others, packages, packed, papers, pictures, prefaces, prints, rasters, records, remarks, roots, schemas, science, scores, scripts, secrets, settings, shallow, shapes, sounds, squeezed, stores, texts, tunes, unheaded, volumes, ◌≡◌, drop, length, map, refl, subst}
 use Rattle.infer_more.proofs.ListedLemmas.{AreAlike, listed, listed_is, listed_near, shown, walked}
 use Rattle.infer_more.specs.Listed.{alternatives, asked_texts, extensions, mime_types, pieces, relations, rows}
-use Rattle.infer_more.specs.declared.listed.relations.TheConstants.{RELATION_COUNT}
+use Rattle.infer_more.specs.declared.row_data.relations.TheConstants.{RELATION_COUNT}
 
 from_0 : AreAlike listed_near shown rows further 0
 unfolding alternatives asked_texts extensions mime_types pieces relations rows archives assorted bitmaps bundles buried captions chunks code compiled consoles databases deeper dialects disks documents elements farther further games headers headlines images inner keyrings kinds late letters markup measures media mended notations objects office openings others packages packed papers pictures prefaces prints rasters records remarks roots schemas science scores scripts secrets settings shallow shapes sounds squeezed stores texts tunes unheaded volumes

@@ -3,7 +3,7 @@
 use Rattle.std.proofs.Common.{◌≡◌, ◌+◌, ◌*◌, ◌/◌, ◌%◌, ◌∙◌, ℕ, zero, suc, List, [], ◌∷◌, Option, ap, arith, drop, refl, slice_get, take}
 use Rattle.std.proofs.Math.Path.{fun_ext}
 use Rattle.std.proofs.lemmas.List.{drop-drop}
-use Rattle.infer_more.specs.Listed.{stretch}
+use Rattle.infer_evidence.specs.Spans.{stretch}
 
 -- what stands from a place on, so many elements
 abbrev pub Stretches : Type 0 → Type 0

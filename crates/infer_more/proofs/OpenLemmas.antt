@@ -12,7 +12,7 @@ use Rattle.infer_sig.specs.Open.{MayBecomeIsExact, agrees, is_alternative_sound,
 use Rattle.infer_sig.specs.Signature as fixed
 use Rattle.infer_sig.specs.Signature.{text, byte}
 use Rattle.infer_sig.proofs.PlaceLemmas.{stands_by_place}
-use Rattle.infer_more.specs.declared.listed.Alternative.{Alternative}
+use Rattle.infer_more.specs.declared.row_data.Alternative.{Alternative}
 
 same_tests : (r s : Bool) → (IsTrue r → IsTrue s) → (IsTrue s → IsTrue r) → r ≡ s
 same_tests true s f g = sym (f refl)

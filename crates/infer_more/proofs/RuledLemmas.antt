@@ -2,12 +2,12 @@
 use Rattle.infer_more.proofs.Common.{◌≡◌, ◌↔◌, ◌+◌, ◌<◌, ◌≤◌, ◌==◌, ◌&&◌, ◌∷◌, ◌∙◌, [], inl, inr, ℕ, zero, suc, Bool, true, false, false≢true, IsTrue, List, Option, None, Some, if◌then◌else◌, length, ap, subst, sym, arith, eq-eqb, eqb-true, cases_lt, has_byte, candidate, candidates, is_listed, IsBuffer, IsFirstOf, IsFoundBelow, IsLeast, IsRowOf, IsTried, Named, Rooted, Widens, WidensAt, Bor, further, FURTHER_COUNT}
 use Rattle.std.proofs.Common.{ap₂}
 use Rattle.std.proofs.lemmas.Bool.{or_cases, or_left, or_right}
-use Rattle.infer_more.specs.Index.{FindsBelow, FindsLed, bucket_at, bucket_by, led_rows, entries_at, picked, rows_in, rows_in_each, rows_of, named_row, rooted_row}
-use Rattle.infer_more.specs.Why.{IsSameAt}
+use Rattle.infer_more.specs.Index.{FindsBelow, FindsByLead, bucket_at, bucket_by, led_rows, entries_at, picked, rows_in, rows_in_each, rows_of, named_row, rooted_row}
+use Rattle.infer_more.specs.Evidence.{IsSameAt}
 use Rattle.infer_more.specs.declared.index.Below as below
 use Rattle.infer_more.specs.declared.index.Below.TheVariants.{ClassIds, Entries, Nothing, Packages, Programs, Roots, Tagged}
 use Rattle.infer_more.specs.declared.index.Entry.{Entry}
-use Rattle.infer_more.specs.declared.index.Led.{Led}
+use Rattle.infer_more.specs.declared.index.ByLead.{ByLead}
 use Rattle.infer_more.specs.declared.index.Parentless.{Parentless}
 use Rattle.infer_more.specs.declared.index.Spot.{Spot}
 use Rattle.infer_more.proofs.IndexLemmas.{listed_left, listed_right}
@@ -78,9 +78,9 @@ pub all_below : (parent : ℕ) (way : below.Below) → FindsBelow parent way →
     → IsLeast (WidensAt (Some parent) c) before before
 all_below parent way finds c bytes before h = all_listed (Some parent) c (rows_of way c) before (λ i w. of_way parent c i way ((finds c bytes i).1 w)) h
 
-pub all_led : (led : Led) → FindsLed led → (c : List ℕ) → IsBuffer c → (before : ℕ) → IsLeast (IsTried None c (led_rows led c)) before before
+pub all_by_lead : (by_lead : ByLead) → FindsByLead by_lead → (c : List ℕ) → IsBuffer c → (before : ℕ) → IsLeast (IsTried None c (led_rows by_lead c)) before before
     → IsLeast (WidensAt None c) before before
-all_led led finds c bytes before h = all_listed None c (led_rows led c) before (finds.left c bytes) h
+all_by_lead by_lead finds c bytes before h = all_listed None c (led_rows by_lead c) before (finds.left c bytes) h
 
 -- with the rows before it ruled out, the least that widens the answer of one buffer is that of another which it widens alike
 module _ (parent : Option ℕ) (b c : List ℕ) (least : ℕ) (own : IsLeast (WidensAt parent b) FURTHER_COUNT least) (before : IsLeast (WidensAt parent c) least least)

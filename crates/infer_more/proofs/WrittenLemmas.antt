@@ -13,7 +13,7 @@ use Rattle.infer_more.specs.Samples.{AllReach, HasNoSample, has_room_after, join
 use Rattle.infer_formats.specs.Relation.{least_of}
 use Rattle.infer.specs.declared.samples.TheConstants as built_in_samples
 use Rattle.infer_more.specs.Listed.{alternatives_of}
-use Rattle.infer_more.specs.declared.listed.Alternative as Listed
+use Rattle.infer_more.specs.declared.row_data.Alternative as Listed
 use Rattle.infer_more.proofs.IndexLemmas.{both_left, both_right}
 
 -- the sample of a row that is found

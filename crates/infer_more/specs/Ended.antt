@@ -1,7 +1,7 @@
 -- Texts with a zero after them.
 use Rattle.std.specs.Prelude.{ℕ, List, [], ◌∷◌, ◌++◌}
 use Rattle.infer.specs.Triple.{Triple}
-use Rattle.infer_more.specs.declared.listed.EndedTexts.{EndedTexts}
+use Rattle.infer_more.specs.declared.row_data.EndedTexts.{EndedTexts}
 
 -- the text and a zero after it
 abbrev pub ended : List ℕ → List ℕ

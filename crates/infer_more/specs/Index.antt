@@ -1,4 +1,4 @@
--- Which further rows are tried or told, and that these are all that can widen an answer.
+-- Which further rows are tried or found, and that these are all that can widen an answer.
 use Rattle.std.specs.Prelude.{◌≡◌, ◌⊎◌, ◌↔◌, ◌+◌, ◌-◌, ◌/◌, ◌%◌, ◌<◌, ◌≤◌, ◌==◌, ◌&&◌, ◌||◌, ℕ, suc, Bool, not, true, false, All, IsTrue, List, [], ◌∷◌, ◌++◌, Option, None, Some, if◌then◌else◌, length, nat_le, nat_lt, slice_get, slice_index}
 use Rattle.std.specs.List.{list_all, list_any, range_with_len}
 use Rattle.std.specs.Option.{option_map_or}
@@ -15,7 +15,7 @@ use Rattle.infer_sig.specs.Signature as fixed
 use Rattle.infer_sig.specs.Signature.{at_least, any_of, between, all_but, Part, text, any_text, byte, allows}
 use Rattle.infer.specs.Buffer.{IsBuffer}
 use Rattle.infer_more.specs.Outline.{lines}
-use Rattle.infer_more.specs.Listed.{stretch}
+use Rattle.infer_evidence.specs.Spans.{stretch}
 use Rattle.infer_more.specs.Row.{Further}
 use Rattle.infer_formats.specs.Relation as relation
 use Rattle.infer_formats.specs.Relation.{class_id, directory_tag, directory_tag_and_make, first_key, first_key_with, json_lines, json_text, package_with, plain_text, program, root, root_with}
@@ -26,15 +26,15 @@ use Rattle.infer_more.specs.declared.index.Below as below
 use Rattle.infer_more.specs.declared.index.Below.TheVariants.{ClassIds, Entries, Nothing, Packages, Programs, Roots, Tagged}
 use Rattle.infer_more.specs.declared.index.Entry.{Entry}
 use Rattle.infer_more.specs.declared.index.Keyed.{Keyed}
-use Rattle.infer_more.specs.declared.index.Led.{Led}
+use Rattle.infer_more.specs.declared.index.ByLead.{ByLead}
 use Rattle.infer_more.specs.declared.index.Named.{Named}
 use Rattle.infer_more.specs.declared.index.Parentless.{Parentless}
 use Rattle.infer_more.specs.declared.index.Rooted.{Rooted}
 use Rattle.infer_more.specs.declared.index.Spot.{Spot}
 use Rattle.infer_more.specs.declared.index.Texts.{Texts}
-use Rattle.infer_more.specs.declared.index.Told.{Told}
-use Rattle.infer_more.specs.declared.index.generated.TheConstants.{TOLD_TEXTS}
-use Rattle.infer_more.specs.declared.listed.Span.{Span}
+use Rattle.infer_more.specs.declared.index.ByName.{ByName}
+use Rattle.infer_more.specs.declared.index.generated.TheConstants.{NAME_TEXTS}
+use Rattle.infer_evidence.specs.declared.spans.Span.{Span}
 
 -- the number is one of the list
 abbrev pub is_listed : List ℕ → ℕ → Bool
@@ -92,10 +92,10 @@ abbrev pub text_rows : Texts → List ℕ
 text_rows t = t.lines ∷ t.json ∷ t.plain ∷ []
 
 -- the rows without a parent that few bytes of the buffer leave
-abbrev pub led_rows : Led → List ℕ → List ℕ
-led_rows led b = (tried_parentless led.index b ++ candidates b led.beside.now) ++ text_rows led.index.texts
+abbrev pub led_rows : ByLead → List ℕ → List ℕ
+led_rows by_lead b = (tried_parentless by_lead.index b ++ candidates b by_lead.beside.now) ++ text_rows by_lead.index.texts
 
--- how the rows below built-in row i are told
+-- how the rows below built-in row i are found
 abbrev pub below_at : List below.Below → ℕ → below.Below
 below_at ways i = option_map_or (λ way. way) (slice_get ways i) Nothing
 
@@ -114,12 +114,12 @@ abbrev pub IsRowOf : {A : Type 0} → (A → ℕ) → (A → Type 0) → List A 
 IsRowOf row Q [] i = ⊥
 IsRowOf row Q (e ∷ entries) i = ((row e ≡ i) × Q e) ⊎ IsRowOf row Q entries i
 
--- the texts by which rows are told, in one
-unfoldable pub told_texts : List ℕ
-told_texts = TOLD_TEXTS.now
+-- the texts by which rows are found, in one
+unfoldable pub name_texts : List ℕ
+name_texts = NAME_TEXTS.now
 
-abbrev pub told_by : Span → List ℕ
-told_by span = stretch told_texts span.start span.count
+abbrev pub name_at : Span → List ℕ
+name_at span = stretch name_texts span.start span.count
 
 abbrev pub named_row : Named → ℕ
 named_row e = e.row
@@ -132,7 +132,7 @@ keyed_row e = e.row
 
 -- row i is listed with a name that has P
 abbrev pub IsNamed : (List ℕ → Type 0) → List Named → ℕ → Type 0
-IsNamed P names i = IsRowOf named_row (λ e. P (told_by e.name)) names i
+IsNamed P names i = IsRowOf named_row (λ e. P (name_at e.name)) names i
 
 -- what stands in bucket i
 abbrev pub bucket_at : {A : Type 0} → List (Bor (List A)) → ℕ → List A
@@ -161,11 +161,11 @@ IsOfProgram b lists i = (name : List ℕ) × IsProgram name b × IsNamed (λ oth
 -- the text, if there is one, stands in a tag of which this is the rest
 abbrev pub HasTagText : List ℕ → Option Span → Type 0
 HasTagText rest None = Unit {0}
-HasTagText rest (Some t) = HasInTag (told_by t) rest
+HasTagText rest (Some t) = HasInTag (name_at t) rest
 
 -- row i is listed with the name of that root element and a text in its tag
 abbrev pub IsRootedBy : List ℕ → List ℕ → List Rooted → ℕ → Type 0
-IsRootedBy name rest roots i = IsRowOf rooted_row (λ e. (told_by e.name ≡ name) × HasTagText rest e.text) roots i
+IsRootedBy name rest roots i = IsRowOf rooted_row (λ e. (name_at e.name ≡ name) × HasTagText rest e.text) roots i
 
 -- row i is listed with the root element of the buffer
 abbrev pub IsRooted : List ℕ → List (Bor (List Rooted)) → ℕ → Type 0
@@ -174,21 +174,21 @@ IsRooted b buckets i = (name rest : List ℕ) × IsRootElement name rest b × Is
 -- the text, if there is one, is the value behind the colon of a key
 abbrev pub HasKeyValue : List ℕ → Option Span → Type 0
 HasKeyValue rest None = Unit {0}
-HasKeyValue rest (Some t) = HasValue (told_by t) rest
+HasKeyValue rest (Some t) = HasValue (name_at t) rest
 
 -- row i is listed with that key and its value
 abbrev pub IsKeyedBy : List ℕ → List ℕ → List Keyed → ℕ → Type 0
-IsKeyedBy key rest keys i = IsRowOf keyed_row (λ e. (told_by e.key ≡ key) × HasKeyValue rest e.value) keys i
+IsKeyedBy key rest keys i = IsRowOf keyed_row (λ e. (name_at e.key ≡ key) × HasKeyValue rest e.value) keys i
 
 -- row i is listed with the first key of the object that begins the buffer
 abbrev pub IsKeyed : List ℕ → List Keyed → ℕ → Type 0
 IsKeyed b keys i = (key rest : List ℕ) × IsFirstKey key rest b × IsKeyedBy key rest keys i
 
--- row i is told by the root element of the buffer, or by its first key
-abbrev pub IsTold : Told → List ℕ → ℕ → Type 0
-IsTold told b i = IsRooted b told.roots.now i ⊎ IsKeyed b told.keys.now i
+-- row i is found by the root element of the buffer, or by its first key
+abbrev pub IsFoundByName : ByName → List ℕ → ℕ → Type 0
+IsFoundByName names b i = IsRooted b names.roots.now i ⊎ IsKeyed b names.keys.now i
 
--- row i is found below the built-in row: it is tried and widens the answer, or told by a name
+-- row i is found below the built-in row: it is tried and widens the answer, or found by a name
 abbrev pub IsFoundBelow : below.Below → ℕ → List ℕ → ℕ → Type 0
 IsFoundBelow Nothing parent b i = ⊥
 IsFoundBelow (Entries entries) parent b i = IsTried (Some parent) b (candidates b entries.now) i
@@ -222,12 +222,12 @@ abbrev pub IsTextRow : Texts → List ℕ → ℕ → Type 0
 IsTextRow t b i = ((t.lines ≡ i) × IsJsonLines b) ⊎ ((t.json ≡ i) × IsJson b) ⊎ ((t.plain ≡ i) × IsText b)
 
 -- the first byte is white space, "<", "{" or the first of a byte order mark
-abbrev pub MayBeTold : List ℕ → Type 0
-MayBeTold b = (0 < length b) × (IsXmlSpace (slice_index b 0) ⊎ (slice_index b 0 ≡ 0x3C) ⊎ (slice_index b 0 ≡ 0x7B) ⊎ (slice_index b 0 ≡ 0xEF))
+abbrev pub MayHaveName : List ℕ → Type 0
+MayHaveName b = (0 < length b) × (IsXmlSpace (slice_index b 0) ⊎ (slice_index b 0 ≡ 0x3C) ⊎ (slice_index b 0 ≡ 0x7B) ⊎ (slice_index b 0 ≡ 0xEF))
 
 -- row i is found without a built-in answer
-abbrev pub IsFoundParentless : Parentless → Told → List ℕ → ℕ → Type 0
-IsFoundParentless index told b i = IsTried None b (tried_parentless index b) i ⊎ IsTold told b i ⊎ IsTextRow index.texts b i
+abbrev pub IsFoundParentless : Parentless → ByName → List ℕ → ℕ → Type 0
+IsFoundParentless index names b i = IsTried None b (tried_parentless index b) i ⊎ IsFoundByName names b i ⊎ IsTextRow index.texts b i
 
 -- the part settles the place, and allows there only bytes that pass the test
 abbrev pub is_settled : (ℕ → Bool) → ℕ → Part → Bool
@@ -270,25 +270,25 @@ same (x ∷ xs) (y ∷ ys) = x == y && same xs ys
 
 -- row i is listed with the name, or with the root
 abbrev pub has_named : ℕ → List Named → List ℕ → Bool
-has_named i names name = list_any (λ e. e.row == i && same (told_by e.name) name) names
+has_named i names name = list_any (λ e. e.row == i && same (name_at e.name) name) names
 
 abbrev pub same_text : Option Span → Option (List ℕ) → Bool
 same_text None None = true
 same_text None (Some t) = false
 same_text (Some s) None = false
-same_text (Some s) (Some t) = same (told_by s) t
+same_text (Some s) (Some t) = same (name_at s) t
 
 abbrev pub has_rooted : ℕ → List Rooted → List ℕ → Option (List ℕ) → Bool
-has_rooted i roots name t = list_any (λ e. e.row == i && (same (told_by e.name) name && same_text e.text t)) roots
+has_rooted i roots name t = list_any (λ e. e.row == i && (same (name_at e.name) name && same_text e.text t)) roots
 
 abbrev pub has_keyed : ℕ → List Keyed → List ℕ → Option (List ℕ) → Bool
-has_keyed i keys key value = has_no_quote key && list_any (λ e. e.row == i && (same (told_by e.key) key && same_text e.value value)) keys
+has_keyed i keys key value = has_no_quote key && list_any (λ e. e.row == i && (same (name_at e.key) key && same_text e.value value)) keys
 
 -- each buffer that fits the alternative has row i among those that the entries try
 abbrev pub is_tried_below : ℕ → List Entry → Alternative → Bool
 is_tried_below i entries a = list_all (λ l. is_covered i l entries) (lines a)
 
--- or is told row i by a name
+-- or is found row i by a name
 abbrev pub is_in_programs : ℕ → List (Bor (List Named)) → Alternative → Bool
 is_in_programs i lists (related (program name)) = has_named i (bucket_of lists name) name
 is_in_programs i lists other = false
@@ -334,8 +334,8 @@ is_text_row t i (related plain_text) = t.plain == i
 is_text_row t i other = false
 
 -- or each buffer that fits it is left by few bytes
-abbrev pub is_led : (ℕ → List Entry) → List Spot → List Entry → Texts → ℕ → Alternative → Bool
-is_led entries spots beside texts i a =
+abbrev pub is_by_lead : (ℕ → List Entry) → List Spot → List Entry → Texts → ℕ → Alternative → Bool
+is_by_lead entries spots beside texts i a =
     is_text_row texts i a || list_all (λ l. is_tried_parentless entries spots i l || is_covered i l beside) (lines a)
 
 -- it asks for a root or for a first key
@@ -351,8 +351,8 @@ abbrev pub is_found_parentless : (ℕ → List Entry) → List Spot → Texts �
 is_found_parentless entries spots texts i a = is_of_name a || (is_text_row texts i a || list_all (is_tried_parentless entries spots i) (lines a))
 
 -- it does not, or its row is that of the root, or of the first key
-abbrev pub is_told : Told → ℕ → Alternative → Bool
-is_told told i a = not (is_of_name a) || (is_in_roots i told.roots.now a || is_in_keys i told.keys.now a)
+abbrev pub is_found_by_name : ByName → ℕ → Alternative → Bool
+is_found_by_name names i a = not (is_of_name a) || (is_in_roots i names.roots.now a || is_in_keys i names.keys.now a)
 
 -- a row whose parent is one that is asked is found, in the way below that, of each buffer that its signature accepts
 abbrev pub is_row_below : (ℕ → Bool) → (ℕ → below.Below) → ℕ → Option ℕ → Further → Bool
@@ -423,26 +423,26 @@ is_application folder = list_any (same folder) applications
 
 -- each of the folders is
 abbrev pub AllApplications : List Named → Type 0
-AllApplications folders = All (λ (e : Named). IsOneOf (told_by e.name) applications) folders
+AllApplications folders = All (λ (e : Named). IsOneOf (name_at e.name) applications) folders
 
 -- each has the 16 bytes of a class id
 abbrev pub AreClassIds : List Named → Type 0
-AreClassIds ids = All (λ (e : Named). length (told_by e.name) ≡ 16) ids
+AreClassIds ids = All (λ (e : Named). length (name_at e.name) ≡ 16) ids
 
--- each root is one that the row which is told by it asks for
+-- each root is one that the row which is found by it asks for
 abbrev pub are_roots_of : Option ℕ → List (Bor (List Rooted)) → Bool
-are_roots_of parent buckets = list_all (λ some. list_all (λ e. is_row_with parent (asks_root (told_by e.name) e.text) e.row) some.now) buckets
+are_roots_of parent buckets = list_all (λ some. list_all (λ e. is_row_with parent (asks_root (name_at e.name) e.text) e.row) some.now) buckets
 
 -- so is each name below that row, and the rows ascend
 abbrev pub is_true_below : ℕ → below.Below → Bool
 is_true_below parent (Entries entries) = ascends entry_row entries.now
 is_true_below parent (ClassIds entries ids) =
-    ascends named_row ids.now && list_all (λ e. length (told_by e.name) == 16 && is_row_with (Some parent) (asks_class_id (told_by e.name)) e.row) ids.now
+    ascends named_row ids.now && list_all (λ e. length (name_at e.name) == 16 && is_row_with (Some parent) (asks_class_id (name_at e.name)) e.row) ids.now
 is_true_below parent (Programs entries lists) =
-    all_ascend named_row lists.now && list_all (λ names. list_all (λ e. is_row_with (Some parent) (asks_program (told_by e.name)) e.row) names.now) lists.now
+    all_ascend named_row lists.now && list_all (λ names. list_all (λ e. is_row_with (Some parent) (asks_program (name_at e.name)) e.row) names.now) lists.now
 is_true_below parent (Roots roots) = all_ascend rooted_row roots.now && are_roots_of (Some parent) roots.now
 is_true_below parent (Packages entries folders) =
-    ascends named_row folders.now && list_all (λ e. is_application (told_by e.name) && is_row_with (Some parent) (asks_folder (told_by e.name)) e.row) folders.now
+    ascends named_row folders.now && list_all (λ e. is_application (name_at e.name) && is_row_with (Some parent) (asks_folder (name_at e.name)) e.row) folders.now
 is_true_below parent other = true
 
 -- and so below each row from that one on
@@ -461,41 +461,41 @@ abbrev pub are_rooted : List (Bor (List Rooted)) → Bool
 are_rooted buckets = all_ascend rooted_row buckets && are_roots_of None buckets
 
 abbrev pub are_keyed : List Keyed → Bool
-are_keyed keys = ascends keyed_row keys && list_all (λ e. is_row_with None (asks_key (told_by e.key) e.value) e.row) keys
+are_keyed keys = ascends keyed_row keys && list_all (λ e. is_row_with None (asks_key (name_at e.key) e.value) e.row) keys
 
 -- in this way each further row below that built-in row is found, and none other
 pub record IsWayBelow (parent : ℕ) (way : below.Below) : Type 0 where
   pub found : (i : ℕ) → i < length further → IsTrue (is_row_below_found (λ p. p == parent) (λ p. way) i)
-  pub told : IsTrue (is_true_below parent way)
+  pub names : IsTrue (is_true_below parent way)
 
 -- in these ways each below its parent, but for the parents that stand apart
 pub record AreWaysBelow (apart : List ℕ) (ways : List below.Below) : Type 0 where
   pub found : (i : ℕ) → i < length further → IsTrue (is_row_below_found (λ p. not (is_listed apart p)) (below_at ways) i)
-  pub told : IsTrue (are_true 0 ways)
+  pub names : IsTrue (are_true 0 ways)
 
--- each row without a parent is told by a name or found otherwise
+-- each row without a parent is found by a name or found otherwise
 pub record EachParentlessIsFound (index : Parentless) : Type 0 where
   pub found : (i : ℕ) → i < length further → IsTrue (is_row_parentless_found (is_found_parentless (entries_at index) index.spots.now index.texts) i)
   pub texts : IsTrue (are_texts index.texts)
 
 -- and here just those by a name
-pub record EachIsTold (told : Told) : Type 0 where
-  pub found : (i : ℕ) → i < length further → IsTrue (is_row_parentless_found (is_told told) i)
-  pub roots : IsTrue (are_rooted told.roots.now)
-  pub keys : IsTrue (are_keyed told.keys.now)
+pub record EachIsFoundByName (names : ByName) : Type 0 where
+  pub found : (i : ℕ) → i < length further → IsTrue (is_row_parentless_found (is_found_by_name names) i)
+  pub roots : IsTrue (are_rooted names.roots.now)
+  pub keys : IsTrue (are_keyed names.keys.now)
 
 -- and few bytes leave each row without a parent of a buffer that its signature accepts
-pub record EachIsLed (led : Led) : Type 0 where
-  pub left : (i : ℕ) → i < length further → IsTrue (is_row_parentless_found (is_led (entries_at led.index) led.index.spots.now led.beside.now led.index.texts) i)
+pub record EachIsByLead (by_lead : ByLead) : Type 0 where
+  pub left : (i : ℕ) → i < length further → IsTrue (is_row_parentless_found (is_by_lead (entries_at by_lead.index) by_lead.index.spots.now by_lead.beside.now by_lead.index.texts) i)
 
 -- few bytes leave each row that widens no answer
-pub record FindsLed (led : Led) : Type 0 where
-  pub left : (b : List ℕ) → IsBuffer b → (i : ℕ) → WidensAt None b i → IsTrue (is_listed (led_rows led b) i)
+pub record FindsByLead (by_lead : ByLead) : Type 0 where
+  pub left : (b : List ℕ) → IsBuffer b → (i : ℕ) → WidensAt None b i → IsTrue (is_listed (led_rows by_lead b) i)
 
 -- just the rows that widen that answer are found
 abbrev pub FindsBelow : ℕ → below.Below → Type 0
 FindsBelow parent way = (b : List ℕ) → IsBuffer b → (i : ℕ) → IsFoundBelow way parent b i ↔ WidensAt (Some parent) b i
 
 -- and those that widen none
-abbrev pub FindsParentless : Parentless → Told → Type 0
-FindsParentless index told = (b : List ℕ) → IsBuffer b → (i : ℕ) → IsFoundParentless index told b i ↔ WidensAt None b i
+abbrev pub FindsParentless : Parentless → ByName → Type 0
+FindsParentless index names = (b : List ℕ) → IsBuffer b → (i : ℕ) → IsFoundParentless index names b i ↔ WidensAt None b i

@@ -3,7 +3,7 @@ pub mod Table
 pub mod Ended
 pub mod Listed
 pub mod Wider
-pub mod Why
+pub mod Evidence
 pub mod Line
 pub mod Text
 pub mod Entries

@@ -1,5 +1,5 @@
 -- The further rows as the code lists them.
-use Rattle.std.specs.Prelude.{◌≡◌, ◌==◌, ◌+◌, ℕ, List, [], ◌∷◌, drop, get_or, if◌then◌else◌, map, take}
+use Rattle.std.specs.Prelude.{◌≡◌, ◌==◌, ◌+◌, ℕ, List, [], ◌∷◌, get_or, if◌then◌else◌, map}
 use Rattle.std.specs.List.{flat_map}
 use Rattle.infer_formats.specs.Relation.{Relation, plain_text, relation_listed}
 use Rattle.infer_formats.specs.declared.relation.Relation as code
@@ -11,19 +11,16 @@ use Rattle.infer_more.specs.Row.{Further}
 use Rattle.infer_more.specs.Table.{further}
 use Rattle.infer_notation.specs.Alternative as signature
 use Rattle.infer_notation.specs.Alternative.{binary_bytes, bytes, related}
-use Rattle.infer_more.specs.declared.listed.Alternative.{Alternative}
-use Rattle.infer_more.specs.declared.listed.Alternative.TheVariants.{BinaryBytes, Bytes, Related}
-use Rattle.infer_more.specs.declared.listed.Bytes as listed
-use Rattle.infer_more.specs.declared.listed.FurtherRow.{FurtherRow}
-use Rattle.infer_more.specs.declared.listed.Piece.{Piece}
-use Rattle.infer_more.specs.declared.listed.Piece.TheVariants.{At, OneOf, Between}
-use Rattle.infer_more.specs.declared.listed.Span.{Span}
-use Rattle.infer_more.specs.declared.listed.generated.TheConstants.{ALTERNATIVES, ASKED_TEXTS, EXTENSIONS, MIME_TYPES, PIECES, ROWS}
-use Rattle.infer_more.specs.declared.listed.relations.TheConstants.{RELATIONS_OF_A_LIST}
-
--- so many elements of a list from a place on, or those that there are
-abbrev pub stretch : {A : Type 0} → List A → ℕ → ℕ → List A
-stretch list start count = take count (drop start list)
+use Rattle.infer_more.specs.declared.row_data.Alternative.{Alternative}
+use Rattle.infer_more.specs.declared.row_data.Alternative.TheVariants.{BinaryBytes, Bytes, Related}
+use Rattle.infer_more.specs.declared.row_data.Bytes as listed
+use Rattle.infer_more.specs.declared.row_data.FurtherRow.{FurtherRow}
+use Rattle.infer_more.specs.declared.row_data.Piece.{Piece}
+use Rattle.infer_more.specs.declared.row_data.Piece.TheVariants.{At, OneOf, Between}
+use Rattle.infer_evidence.specs.Spans.{stretch}
+use Rattle.infer_evidence.specs.declared.spans.Span.{Span}
+use Rattle.infer_more.specs.declared.row_data.generated.TheConstants.{ALTERNATIVES, ASKED_TEXTS, EXTENSIONS, MIME_TYPES, PIECES, ROWS}
+use Rattle.infer_more.specs.declared.row_data.relations.TheConstants.{RELATIONS_OF_A_LIST}
 
 -- the MIME types and the extensions of all rows, a zero after each, and what they ask for
 unfoldable pub mime_types : List ℕ

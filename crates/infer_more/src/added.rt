@@ -8,7 +8,7 @@ use crate::answers::get;
 use infer::{Infer, Type};
 use std::alloc::Allocator;
 
-/// The type of the first added row that accepts the buffer, or that of the wider answer.
+/// The type of the first row that was added to `infer` and accepts `buf`, or of the wider answer of `buf` if none does.
 pub fn get_with<A: Allocator>(infer: &Infer<A>, buf: &[u8]) -> Option<Type>
     ensures { IsAnswerWith (custom_rows infer.now) buf.now (option_map triple_of result) }
 {

@@ -15,8 +15,8 @@ ghost use Rattle.infer_more.specs.declared.index.generated.TheConstants.{FURTHER
 
 use crate::index::FURTHER_COUNT;
 use crate::index::search::{found, found_parentless};
-use crate::listed::{EndedTexts, FurtherRow, alternatives_of, ended_at, row_at};
-use crate::{listed, signature};
+use crate::row_data::{EndedTexts, FurtherRow, alternatives_of, ended_at, row_at};
+use crate::{row_data, signature};
 use infer::rows::{ROW_COUNT, numbers as law_numbers};
 use infer::{Identify, Type};
 
@@ -31,7 +31,7 @@ fn widened(parent: Option<usize>, buf: &[u8]) -> Option<usize>
     }
 }
 
-/// The number of the wider answer.
+/// The number of the wider answer of `buf`, and `None` exactly if no row accepts it.
 #[tactic(auto, using(crate::proofs::BelowLemmas::is_wider))]
 #[inline(always)]
 pub fn position(buf: &[u8]) -> Option<usize>
@@ -41,9 +41,9 @@ pub fn position(buf: &[u8]) -> Option<usize>
     widened(infer::position(buf), buf)
 }
 
-/// The type of the wider answer of a buffer whose built-in answer is this.
+/// [`get`] where the number of the built-in answer is known already.
 #[tactic(auto, using(crate::proofs::BelowLemmas::is_wider))]
-pub fn get_from(parent: Option<usize>, buf: &[u8]) -> Option<Type>
+pub fn get_below(parent: Option<usize>, buf: &[u8]) -> Option<Type>
     requires { IsFirstOf (Accepts buf.now) table parent }
     ensures { IsWiderAnswer buf.now (option_map triple_of result) }
 {
@@ -51,11 +51,16 @@ pub fn get_from(parent: Option<usize>, buf: &[u8]) -> Option<Type>
     row(found)
 }
 
-/// The type of the wider answer.
+/// The type of the wider answer of `buf`, and `None` exactly if no row accepts it.
+///
+/// ```
+/// let found = infer_more::get(b"{\"name\": 1}").ok_or("JSON")?;
+/// assert_eq!(rt; found.mime_type(), "application/json");
+/// ```
 pub fn get(buf: &[u8]) -> Option<Type>
     ensures { IsWiderAnswer buf.now (option_map triple_of result) }
 {
-    get_from(infer::position(buf), buf)
+    get_below(infer::position(buf), buf)
 }
 
 /// Asks for the type of the wider answer.
@@ -82,8 +87,8 @@ fn type_of(row: &FurtherRow) -> Type
 {
     Type::new(
         row.matcher_type,
-        listed::mime_type(row),
-        listed::extension(row),
+        row_data::mime_type(row),
+        row_data::extension(row),
         never,
     )
 }
@@ -99,7 +104,7 @@ fn further_type(i: usize) -> Option<Type>
     }
 }
 
-/// The type of row `i`, built-in or further.
+/// The type of row `i`, built-in or further, and `None` from the sum of `ROW_COUNT` and [`FURTHER_COUNT`] on.
 #[tactic(auto, using(crate::proofs::ShownLemmas::shown_built_in, crate::proofs::ShownLemmas::shown_further))]
 #[inline(always)]
 pub fn row(i: usize) -> Option<Type>
@@ -112,7 +117,7 @@ pub fn row(i: usize) -> Option<Type>
     further_type(i - ROW_COUNT)
 }
 
-/// The texts of further row `i`, each with a zero after it.
+/// The texts of further row `i`, each with a zero after it, and `None` of any other number.
 #[tactic(auto, using(crate::proofs::ShownLemmas::shown_further))]
 pub fn ended_texts(i: usize) -> Option<EndedTexts>
     ensures built_in { i < ROW_COUNT → result ≡ None }
@@ -126,7 +131,7 @@ pub fn ended_texts(i: usize) -> Option<EndedTexts>
     ended_at(i - ROW_COUNT)
 }
 
-/// The number of the parent of row `i`.
+/// The number of the built-in row that is the parent of further row `i`, and `None` if it has none or is no further row.
 pub fn parent(i: usize) -> Option<usize>
     ensures { result ≡ parent_at i }
 {
@@ -139,7 +144,8 @@ pub fn parent(i: usize) -> Option<usize>
     }
 }
 
-/// Whether the signature of row `i`, built-in or further, accepts the buffer.
+/// Whether the signature of row `i`, built-in or further, accepts `buf`, which need not be the answer. A further row's
+/// parent is not asked.
 pub fn accepts(buf: &[u8], i: usize) -> bool
     ensures { IsTrue result ↔ AcceptsAt buf.now i }
 {
@@ -166,7 +172,7 @@ fn shows_extension(i: usize, extension: &str) -> bool
         × HoldsAt (λ r. r.shows.extension ≡ extension.now) further i) }
 {
     match row_at(i) {
-        Some(row) => is_same(listed::extension(row), extension),
+        Some(row) => is_same(row_data::extension(row), extension),
         None => false,
     }
 }
@@ -190,7 +196,7 @@ fn shows_mime_type(i: usize, mime_type: &str) -> bool
         × HoldsAt (λ r. r.shows.mime_type ≡ mime_type.now) further i) }
 {
     match row_at(i) {
-        Some(row) => is_same(listed::mime_type(row), mime_type),
+        Some(row) => is_same(row_data::mime_type(row), mime_type),
         None => false,
     }
 }

@@ -9,12 +9,17 @@ ghost use Rattle.infer_notation.specs.Alternative.{Accepted};
 ghost use Rattle.infer_more.specs.Table.{further};
 
 use crate::index::FURTHER_COUNT;
-use crate::listed::{FurtherRow, alternatives_of, row_at};
-use crate::open::{may_become_accepted, stays_accepted};
+use crate::more_bytes::{may_become_accepted, stays_accepted};
+use crate::row_data::{FurtherRow, alternatives_of, row_at};
 use crate::signature;
 use infer::rows::ROW_COUNT;
 
-/// Whether no bytes after the buffer change its wider answer, as far as this tells: a yes is certain.
+/// Whether no bytes after `buf` change its wider answer, which is the number of the row or that there is none. A yes is
+/// certain. A no is not: where a row asks for a relation, it may be that none do.
+///
+/// ```
+/// assert!(rt; infer_more::is_decided(b"\0asm\x01\0\0\0") && !infer_more::is_decided(b"\0asm"));
+/// ```
 pub fn is_decided(buf: &[u8]) -> bool
     ensures { IsTrue result → IsDecided buf.now }
 {
@@ -91,8 +96,8 @@ fn row_may_widen(row: &FurtherRow, parent: Option<usize>, buf: &[u8]) -> bool
     row.parent == parent && may_become_accepted(alternatives_of(row), buf)
 }
 
-/// Whether some bytes after the buffer, or none, may make row `i`, built-in or further, accept it: a no is certain, and so
-/// is a yes but of a further row that asks for a relation.
+/// Whether some bytes after `buf`, or none, may make the signature of row `i`, built-in or further, accept it. A further
+/// row's parent is not asked. A no is certain, and so is a yes but of a further row that asks for a relation.
 #[tactic(auto, using(std::proofs::lemmas::Bool::and_parts, crate::proofs::NamedLemmas::row_passes, crate::proofs::TableLemmas::all_sound))]
 pub fn may_become(buf: &[u8], i: usize) -> bool
     ensures may { MayBecomeAt buf.now i → IsTrue result }

@@ -2,9 +2,10 @@
 //! row and one more byte that it asks, so that a row is tried whole only where the buffer has that byte too. Rows that ask for
 //! a name, or for the first key of an object, are found by it, which is read once for all of them.
 ghost use Rattle.std.specs.Prelude.{◌≡◌};
-ghost use Rattle.infer_more.specs.Index.{EachIsTold, EachParentlessIsFound, FindsBelow, FindsLed, FindsParentless, IsWayBelow, told_by};
+ghost use Rattle.infer_more.specs.Index.{EachIsFoundByName, EachParentlessIsFound, FindsBelow, FindsByLead, FindsParentless, IsWayBelow, name_at};
 
-use crate::listed::{Span, span, stretch};
+use crate::row_data::span;
+use infer_evidence::Span;
 
 /// A row, by its number among the further rows, that is tried only if a buffer has the byte at the place.
 pub(crate) struct Entry {
@@ -13,27 +14,27 @@ pub(crate) struct Entry {
     pub byte: u8,
 }
 
-/// A row, by its number among the further rows, that is told by a name, which may be a class id.
+/// A row, by its number among the further rows, that is found by a name, which may be a class id.
 pub(crate) struct Named {
     pub row: u16,
     pub name: Span,
 }
 
-/// A row that is told by the name of a root element, and by a text in its tag if there is one.
+/// A row that is found by the name of a root element, and by a text in its tag if there is one.
 pub(crate) struct Rooted {
     pub row: u16,
     pub name: Span,
     pub text: Option<Span>,
 }
 
-/// A row that is told by the first key of an object, and by its value if there is one.
+/// A row that is found by the first key of an object, and by its value if there is one.
 pub(crate) struct Keyed {
     pub row: u16,
     pub key: Span,
     pub value: Option<Span>,
 }
 
-/// How the rows below a built-in row are told.
+/// How the rows below a built-in row are found.
 pub(crate) enum Below {
     /// There are none.
     Nothing,
@@ -59,7 +60,7 @@ pub(crate) struct Texts {
     pub plain: u16,
 }
 
-/// A place at which each byte picks the entries of a span: that which stands so far behind the first as the byte says.
+/// A place at which each byte picks the entries of a span: that which stands so far after the first as the byte says.
 pub(crate) struct Spot {
     pub place: u32,
     pub first: u16,
@@ -78,14 +79,14 @@ pub(crate) struct Parentless {
 /// The rows without a parent by few bytes that rule them out: the first byte picks the entries of those that allow it, and beside
 /// them stand those that ask nothing of it. The texts rule out themselves.
 #[derive(Clone, Copy)]
-pub(crate) struct Led {
+pub(crate) struct ByLead {
     pub index: Parentless,
     pub beside: &'static [Entry],
 }
 
-/// The rows without a parent that are told by the root of markup or by the first key of an object, which is looked for once
+/// The rows without a parent that are found by the root of markup or by the first key of an object, which is looked for once
 /// for all of them. A static of its own, as the check of one takes time quadratic in the lists inside it.
-pub(crate) struct Told {
+pub(crate) struct ByName {
     pub roots: &'static [&'static [Rooted]],
     pub keys: &'static [Keyed],
 }
@@ -176,25 +177,25 @@ pub(crate) mod search;
 
 pub use generated::FURTHER_COUNT;
 use generated::{
-    BESIDE, ENTRIES, LED_ENTRIES, LED_SPOTS, LED_STARTS, SPOTS, STARTS, TEXTS, TOLD, told_below,
-    told_texts,
+    BESIDE, BY_NAME, ENTRIES, LEAD_ENTRIES, LEAD_SPOTS, LEAD_STARTS, SPOTS, STARTS, TEXTS,
+    name_texts, way_listed,
 };
 
-/// The text at a span of those by which rows are told.
+/// The text at a span of those by which rows are found.
 #[inline(always)]
-fn told_by(span: Span) -> &'static [u8]
-    ensures { result.now ≡ told_by span }
+fn name_at(span: Span) -> &'static [u8]
+    ensures { result.now ≡ name_at span }
 {
-    stretch(told_texts(), span)
+    span.of(name_texts())
 }
 
-/// How the rows below this built-in row are told: in a way by which just those are found that widen its answer.
+/// How the rows below this built-in row are found: in a way by which just those are found that widen its answer.
 #[inline(always)]
 pub(crate) fn way_below(parent: usize) -> &'static Below
     ensures each { IsWayBelow parent result.now }
     ensures finds { FindsBelow parent result.now }
 {
-    let way = told_below(parent);
+    let way = way_listed(parent);
     law_finds_below(parent, way);
     way
 }
@@ -211,7 +212,7 @@ fn law_finds_below(parent: usize, way: &Below)
     infer_sig::laws::by_place();
 }
 
-/// The rows without a parent, but for those that are told by a name.
+/// The rows without a parent, but for those that are found by a name.
 #[inline(always)]
 pub(crate) fn without_parent() -> Parentless
     ensures { EachParentlessIsFound result }
@@ -224,40 +225,40 @@ pub(crate) fn without_parent() -> Parentless
     }
 }
 
-/// The rows without a parent that are told by a name.
+/// The rows without a parent that are found by a name.
 #[inline(always)]
-pub(crate) fn told_without_parent() -> &'static Told
-    ensures { EachIsTold result.now }
+pub(crate) fn named_without_parent() -> &'static ByName
+    ensures { EachIsFoundByName result.now }
 {
-    &TOLD
+    &BY_NAME
 }
 
 /// The rows without a parent, by what rules them out.
-pub(crate) fn all_led() -> Led
-    ensures { FindsLed result }
+pub(crate) fn all_by_lead() -> ByLead
+    ensures { FindsByLead result }
 {
     infer_formats::laws::leads();
     infer_sig::laws::by_place();
-    Led {
+    ByLead {
         index: Parentless {
-            spots: &LED_SPOTS,
-            starts: &LED_STARTS,
-            entries: &LED_ENTRIES,
+            spots: &LEAD_SPOTS,
+            starts: &LEAD_STARTS,
+            entries: &LEAD_ENTRIES,
             texts: TEXTS,
         },
         beside: &BESIDE,
     }
 }
 
-/// A law: by an index that has each row without a parent, and by the names of those that are told by one, just those are found
+/// A law: by an index that has each row without a parent, and by the names of those that are found by one, just those are found
 /// that widen an answer below which there is none.
-pub(crate) fn law_finds_parentless(index: &Parentless, told: &Told)
+pub(crate) fn law_finds_parentless(index: &Parentless, names: &ByName)
     requires each { EachParentlessIsFound index.now }
-    requires named { EachIsTold told.now }
-    ensures { FindsParentless index.now told.now }
+    requires named { EachIsFoundByName names.now }
+    ensures { FindsParentless index.now names.now }
 {
     let _ = index;
-    let _ = told;
+    let _ = names;
     infer_formats::laws::leads();
     infer_sig::laws::by_place();
 }

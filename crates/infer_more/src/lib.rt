@@ -1,4 +1,4 @@
-//! Tells more types of files than the built-in rows of `infer`, as a further step after their answer.
+//! Identifies more types of files than the built-in rows of `infer`, as a further step after their answer.
 //!
 //! A further row has a class, a MIME type, an extension, a signature and often a parent, which is a built-in row. Let p be
 //! what [`infer::position`] answers. The wider answer is the first further row whose parent is p and whose signature
@@ -7,143 +7,47 @@
 //!
 //! The numbers of the further rows go on from the built-in ones: the first has the number `ROW_COUNT`.
 //!
-//! Each module uses only those before it: `signature`, one function that decides any signature; `table`, the rows, and that
-//! function for each of them; `index`, which rows are asked; `answers`, what they answer, and each row by its number;
-//! `types`, those that a text describes; `added`, the rows of a caller; `laws`, facts about all of these; `samples`; `open`,
-//! what the bytes after a buffer can bring a signature; `decided`, what they can change of the answer; `why`, which bytes
-//! decide it.
+//! Each module uses only those before it: `row_data`, the rows; `signature`, one function that decides any
+//! signature, and whether a row widens an answer; `index`, which rows are asked; `answers`, what they answer, and each row
+//! by its number; `types`, those that a text describes; `added`, the rows of a caller; `laws`, facts about all of these;
+//! `samples`; `more_bytes`, what the bytes after a buffer can bring a signature; `decided`, what they can change of the
+//! answer; `deciding_bytes`, which bytes decide it.
 #![tactic(auto)]
 
-ghost use Rattle.std.specs.Prelude.{◌≡◌, ◌+◌, ◌<◌, ◌≤◌, ◌↔◌, ◌⊎◌, IfOk, IfSome, IsTrue, None, option_map, slice_get};
-ghost use Rattle.infer.specs.First.{IsFirstOf};
+ghost use Rattle.std.specs.Prelude.{◌≡◌, ◌≤◌, ◌↔◌, IfOk, IsTrue, None};
 ghost use Rattle.infer.specs.Reading.{AnswersOpened, AnswersReader, AnswersSome};
-ghost use Rattle.infer.specs.Row.{Accepts};
-ghost use Rattle.infer.specs.Rows.{custom_rows};
-ghost use Rattle.infer.specs.Table.{table};
-ghost use Rattle.infer.specs.Triple.{triple_of};
 ghost use Rattle.infer.specs.Watched.{fault_of};
-ghost use Rattle.infer.specs.declared.table.rows.TheConstants.{ROW_COUNT};
 ghost use Rattle.infer_formats.specs.Text.{IsEncodingOf, IsText};
-ghost use Rattle.infer_more.specs.Added.{IsAnswerWith};
-ghost use Rattle.infer_more.specs.Decided.{AsksForRelation, IsDecided, MayBecomeAt};
-ghost use Rattle.infer_more.specs.Ended.{ended_listed, ended_shown};
-ghost use Rattle.infer_more.specs.Wider.{AcceptsAt, IsWider, IsWiderAnswer, ShowsExtension, ShowsMimeType, parent_at, shown};
-ghost use Rattle.infer_more.specs.declared.index.generated.TheConstants.{FURTHER_COUNT};
+ghost use Rattle.infer_more.specs.Wider.{IsWiderAnswer, ShowsExtension, ShowsMimeType};
 
 mod added;
 mod answers;
 mod decided;
+mod deciding_bytes;
 mod index;
 pub mod laws;
-mod listed;
-mod open;
+mod more_bytes;
+mod row_data;
 mod samples;
 mod signature;
-mod table;
 pub mod types;
-mod why;
 
+pub use added::get_with;
 use answers::Wider;
+pub use answers::{accepts, ended_texts, get, get_below, parent, position, row};
+pub use decided::{is_decided, may_become};
+pub use deciding_bytes::evidence;
 pub use index::FURTHER_COUNT;
-use infer::{FRONT, Fault, Infer, Type, Watched, identify_opened, identify_path, identify_reader};
+use infer::{FRONT, Fault, Type, Watched, identify_opened, identify_path, identify_reader};
 pub use infer_formats::text;
 pub use infer_notation::Reason;
-pub use listed::EndedTexts;
+pub use row_data::EndedTexts;
 pub use samples::{SAMPLE_SIZE, sample};
 use std::alloc::Allocator;
 use std::io;
 use std::io::Read;
 use std::rt::Files;
 pub use types::{Mistake, Rows, Types};
-pub use why::evidence;
-
-/// The type of the wider answer of `buf`, and `None` exactly if no row accepts it.
-///
-/// ```
-/// let found = infer_more::get(b"{\"name\": 1}").ok_or("JSON")?;
-/// assert_eq!(rt; found.mime_type(), "application/json");
-/// ```
-pub fn get(buf: &[u8]) -> Option<Type>
-    ensures { IsWiderAnswer buf.now (option_map triple_of result) }
-{
-    answers::get(buf)
-}
-
-/// [`get`] where the number of the built-in answer is known already.
-pub fn get_below(parent: Option<usize>, buf: &[u8]) -> Option<Type>
-    requires { IsFirstOf (Accepts buf.now) table parent }
-    ensures { IsWiderAnswer buf.now (option_map triple_of result) }
-{
-    answers::get_from(parent, buf)
-}
-
-/// The type of the first row that was added to `infer` and accepts `buf`, or of the wider answer of `buf` if none does.
-pub fn get_with<A: Allocator>(infer: &Infer<A>, buf: &[u8]) -> Option<Type>
-    ensures { IsAnswerWith (custom_rows infer.now) buf.now (option_map triple_of result) }
-{
-    added::get_with(infer, buf)
-}
-
-/// The number of the wider answer of `buf`, and `None` exactly if no row accepts it.
-#[inline(always)]
-pub fn position(buf: &[u8]) -> Option<usize>
-    ensures wider { IsWider buf.now result }
-    ensures bound { IfSome result (λ i. i < ROW_COUNT + FURTHER_COUNT) }
-{
-    answers::position(buf)
-}
-
-/// The type of row `i`, built-in or further, and `None` from the sum of `ROW_COUNT` and [`FURTHER_COUNT`] on.
-pub fn row(i: usize) -> Option<Type>
-    ensures { option_map triple_of result ≡ slice_get shown i }
-{
-    answers::row(i)
-}
-
-/// The texts of further row `i`, each with a zero after it, and `None` of any other number.
-pub fn ended_texts(i: usize) -> Option<EndedTexts>
-    ensures built_in { i < ROW_COUNT → result ≡ None }
-    ensures further { ROW_COUNT ≤ i → option_map ended_listed result
-        ≡ option_map ended_shown (slice_get shown i) }
-{
-    answers::ended_texts(i)
-}
-
-/// The number of the built-in row that is the parent of further row `i`, and `None` if it has none or is no further row.
-pub fn parent(i: usize) -> Option<usize>
-    ensures { result ≡ parent_at i }
-{
-    answers::parent(i)
-}
-
-/// Whether the signature of row `i`, built-in or further, accepts `buf`, which need not be the answer. A further row's
-/// parent is not asked.
-pub fn accepts(buf: &[u8], i: usize) -> bool
-    ensures { IsTrue result ↔ AcceptsAt buf.now i }
-{
-    answers::accepts(buf, i)
-}
-
-/// Whether no bytes after `buf` change its wider answer, which is the number of the row or that there is none. A yes is
-/// certain. A no is not: where a row asks for a relation, it may be that none do.
-///
-/// ```
-/// assert!(rt; infer_more::is_decided(b"\0asm\x01\0\0\0") && !infer_more::is_decided(b"\0asm"));
-/// ```
-pub fn is_decided(buf: &[u8]) -> bool
-    ensures { IsTrue result → IsDecided buf.now }
-{
-    decided::is_decided(buf)
-}
-
-/// Whether some bytes after `buf`, or none, may make the signature of row `i`, built-in or further, accept it. A further
-/// row's parent is not asked. A no is certain, and so is a yes but of a further row that asks for a relation.
-pub fn may_become(buf: &[u8], i: usize) -> bool
-    ensures may { MayBecomeAt buf.now i → IsTrue result }
-    ensures exact { IsTrue result → MayBecomeAt buf.now i ⊎ AsksForRelation i }
-{
-    decided::may_become(buf, i)
-}
 
 /// Whether some row, built-in or further, has this extension.
 pub fn is_supported(extension: &str) -> bool
@@ -170,7 +74,7 @@ pub fn is_text(buf: &[u8]) -> bool
     text::is_text(buf)
 }
 
-/// How the text `buf` is encoded, and `None` if it is no text or its encoding is not known. A byte order mark tells UTF-16,
+/// How the text `buf` is encoded, and `None` if it is no text or its encoding is not known. A byte order mark means UTF-16,
 /// bytes below 80 alone are US-ASCII, and it is UTF-8 if some bytes can follow so that the whole is: a character that is
 /// cut at the end makes no difference.
 ///

@@ -15,7 +15,7 @@ ghost use Rattle.infer.specs.declared.samples.TheConstants as built_in_samples;
 ghost use Rattle.infer_more.specs.declared.samples.TheConstants.{SAMPLE_SIZE};
 
 use crate::laws;
-use crate::listed::{
+use crate::row_data::{
     Alternative, FurtherRow, Piece, alternatives_of, asked, pieces_of, relation_at, row_at,
 };
 use infer::rows::{DLL, EPUB_ARCHIVE, HTML, ROW_COUNT, XML};
@@ -80,7 +80,7 @@ fn prolog(parent: Option<usize>) -> &'static [u8]
     }
 }
 
-/// Writes a sample of the alternative over what is there: the root element behind that prolog.
+/// Writes a sample of the alternative over what is there: the root element after that prolog.
 fn put_model(prolog: &'static [u8], alternative: &Alternative, out: &mut [u8])
     requires least { least_of (model prolog.now (alternative_listed alternative.now)) ≤ SAMPLE_SIZE }
     requires room { IsTrue (list_all (is_inside (length out.old))

@@ -1,14 +1,27 @@
-//! One function that decides all signatures.
+//! One function that decides all signatures, and whether a further row widens an answer.
 ghost use Rattle.std.specs.Prelude.{◌≡◌, ◌↔◌, IsTrue, length, map};
 ghost use Rattle.std.specs.List.{list_all};
 ghost use Rattle.infer_sig.specs.Signature.{allows, any_of, between, fits, has_part};
 ghost use Rattle.infer_more.specs.Listed.{alternative_listed, bytes_listed, part_listed, signature_listed};
 ghost use Rattle.infer_more.specs.Row.{is_closed, is_closed_alternative, is_inside};
+ghost use Rattle.infer_more.specs.Wider.{WidensAt};
 ghost use Rattle.infer_notation.specs.Alternative.{Accepted, Fits};
 
-use crate::listed::{Alternative, Bytes, Piece, asked, pieces_of, relation_at};
+use crate::row_data::{
+    Alternative, Bytes, Piece, alternatives_of, asked, pieces_of, relation_at, row_at,
+};
 use infer_deep::places::same_text;
 use infer_formats::text::is_binary;
+
+/// Whether further row `i` has this parent and accepts the buffer.
+pub(crate) fn widens(i: usize, parent: Option<usize>, buf: &[u8]) -> bool
+    ensures { IsTrue result ↔ WidensAt parent buf.now i }
+{
+    match row_at(i) {
+        Some(row) => row.parent == parent && accepts(alternatives_of(row), buf),
+        None => false,
+    }
+}
 
 /// Whether the buffer has what one of the alternatives asks.
 pub(crate) fn accepts(signature: &[Alternative], buf: &[u8]) -> bool
@@ -38,7 +51,7 @@ fn fits(alternative: &Alternative, buf: &[u8]) -> bool
 
 /// Whether the buffer has the least length and every piece.
 #[inline(always)]
-#[tactic(auto, using(crate::proofs::ListLemmas::list_all_map))]
+#[tactic(auto, using(infer_evidence::proofs::ListedLemmas::list_all_map))]
 fn has_bytes(bytes: &Bytes, buf: &[u8]) -> bool
     requires { IsTrue (is_closed (bytes_listed bytes.now)) }
     ensures { result ≡ fits buf.now (bytes_listed bytes.now) }

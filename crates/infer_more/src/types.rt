@@ -38,7 +38,7 @@ pub struct Mistake {
     pub column: usize,
 }
 
-/// Types that a text describes. A question reads only those of the first 160 that may fit, and all behind them. It takes
+/// Types that a text describes. A question reads only those of the first 160 that may fit, and all after them. It takes
 /// some 5,200 bytes, whatever the text is.
 #[derive(Clone, Copy)]
 pub struct Types<'a> {
@@ -262,7 +262,7 @@ fn wider<'a>(parent: Option<usize>, buf: &[u8]) -> Option<Found<'a>>
     requires { IsFirstOf (Accepts buf.now) table parent }
     ensures { IsWiderAnswer buf.now (option_map found_shows result) }
 {
-    match answers::get_from(parent, buf) {
+    match answers::get_below(parent, buf) {
         Some(found) => Some(Found {
             matcher_type: found.matcher_type(),
             mime_type: found.mime_type(),

@@ -1,4 +1,4 @@
--- A name whose last byte is none of an ending of a copy is no copy.
+-- The last byte of a name that ends in an ending.
 use Rattle.std.proofs.Common.{◌≡◌, ◌+◌, ◌-◌, ◌<◌, ◌∙◌, ℕ, true, false, List, ap, arith, codes, drop, get_or, length, refl, subst, sym}
 use Rattle.std.proofs.lemmas.Bool.{and_parts, false_from_ne_true, ltb-true}
 use Rattle.std.proofs.lemmas.List.{get_or-drop, get_or-map, length-drop}
@@ -6,7 +6,7 @@ use Rattle.std.proofs.lemmas.Slice.Eq.{bytes_eq-Decides}
 use Rattle.std.specs.Char.{to_ascii_lowercase}
 use Rattle.std.specs.Prelude.{nat_lt}
 use Rattle.std.specs.Str.{bytes_eq}
-use Rattle.infer_named.specs.Names.{copy_length, ends_copy, ends_in, small}
+use Rattle.infer_named.specs.Names.{ends_in, small}
 
 -- the last byte of a base in small letters is that of its ending
 pub last_is : (base ending : List ℕ) → 0 < length ending → ends_in base ending ≡ true
@@ -21,12 +21,3 @@ last_is base ending some is =
     let at : from + place ≡ length base - 1 = omega arith in
     ap to_ascii_lowercase (ap (λ i. get_or base i 0) (sym at) ∙ sym (get_or-drop from base place 0))
     ∙ (sym (get_or-map to_ascii_lowercase (drop from base) place 0 0 (omega (arith, rest))) ∙ ap (λ l. get_or l place 0) same)
-
-module _ (base : List ℕ) (off : ends_copy (to_ascii_lowercase (get_or base (length base - 1) 0)) ≡ false) where
-  not_in : (ending : List ℕ) → 0 < length ending → ends_copy (get_or ending (length ending - 1) 0) ≡ true → ends_in base ending ≡ false
-  not_in ending some ends = false_from_ne_true _ (λ is. let on = subst (λ x. ends_copy x ≡ true) (sym (last_is base ending some is)) ends in absurd (cc))
-
-  pub no_copy : copy_length base ≡ 0
-  no_copy =
-      rw (not_in (codes "~") (omega arith) refl)
-      (rw (not_in (codes ".bak") (omega arith) refl) (rw (not_in (codes ".orig") (omega arith) refl) (rw (not_in (codes ".old") (omega arith) refl) refl)))

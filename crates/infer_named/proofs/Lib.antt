@@ -3,7 +3,6 @@ pub mod ListLemmas
 pub mod StretchLemmas
 pub mod ListedLemmas
 pub mod FindLemmas
-pub mod MarkLemmas
 pub mod Placed
 pub mod PlacedLemmas
 pub mod TableLemmas

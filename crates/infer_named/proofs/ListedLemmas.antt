@@ -3,13 +3,14 @@ use Rattle.std.proofs.Common.{◌≡◌, ◌∙◌, ℕ, List, ap, ap₂, map}
 use Rattle.std.specs.List.{flat_map}
 use Rattle.infer_more.proofs.NearLemmas.{Stretches, near, near_is}
 use Rattle.infer_named.specs.Key.{Key, NamedType, Origin, Reading, key, known, named, own, reading, row}
-use Rattle.infer_named.specs.Listed.{key_listed, key_texts, leads_at, mime_types, ranges, reading_listed, readings, row_spans, row_texts, set_listed, stretch, type_listed}
+use Rattle.infer_named.specs.Listed.{key_listed, key_texts, leads_at, mime_types, ranges, reading_listed, readings, row_spans, row_texts, set_listed, type_listed}
+use Rattle.infer_evidence.specs.Spans.{stretch}
 use Rattle.infer_named.specs.declared.table.Key as code_key
 use Rattle.infer_named.specs.declared.table.NamedType as code_type
 use Rattle.infer_named.specs.declared.table.Origin as code_origin
 use Rattle.infer_named.specs.declared.table.Origin.TheVariants.{Known, Own, Row}
 use Rattle.infer_named.specs.declared.table.Reading as code_reading
-use Rattle.infer_named.specs.declared.table.Span.{Span}
+use Rattle.infer_evidence.specs.declared.spans.Span.{Span}
 
 -- a type, by the stretches of the MIME types and of the rows' texts
 abbrev origin_by : Stretches ℕ → code_origin.Origin → Origin

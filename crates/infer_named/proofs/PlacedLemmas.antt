@@ -2,7 +2,6 @@
 use Rattle.std.proofs.Common.{◌≡◌, [], map, refl, subst}
 use Rattle.infer_named.proofs.FindLemmas.{right_append, wrong_from}
 use Rattle.infer_named.proofs.ListedLemmas.{key_is, key_near}
-use Rattle.infer_named.proofs.MarkLemmas.{AreMarked, marked_append}
 use Rattle.infer_named.specs.Listed.{key_listed, key_texts, mime_types, ranges, readings, row_spans, row_texts}
 use Rattle.infer_named.specs.Slots.{starts}
 use Rattle.infer_named.specs.Table.{keys}
@@ -36,18 +35,6 @@ right =
     (right_append starts 2321 1481 281 _ _ refl k5.many k5.right
     (right_append starts 2321 1762 286 _ _ refl k6.many k6.right
     (k7.right)))))))
-
-pub marked : AreMarked keys
-unfolding keys
-marked =
-    marked_append k0.marked
-    (marked_append k1.marked
-    (marked_append k2.marked
-    (marked_append k3.marked
-    (marked_append k4.marked
-    (marked_append k5.marked
-    (marked_append k6.marked
-    (k7.marked)))))))
 
 keys_alike : map key_near KEYS ≡ keys
 unfolding keys of_k0.keys of_k1.keys of_k2.keys of_k3.keys of_k4.keys of_k5.keys of_k6.keys of_k7.keys key_texts readings mime_types ranges row_spans row_texts lead_lists

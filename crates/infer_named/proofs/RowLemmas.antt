@@ -6,7 +6,7 @@ use Rattle.std.specs.Str.{bytes_eq}
 use Rattle.infer.specs.Triple.{Triple}
 use Rattle.infer_named.specs.Join.{is_among}
 use Rattle.infer_named.specs.Listed.{range_listed, set_listed}
-use Rattle.infer_named.specs.declared.table.Span.{Span}
+use Rattle.infer_evidence.specs.declared.spans.Span.{Span}
 
 -- an element of some lists passes a test exactly if one of a list does
 any_in_each : {X Y : Type 0} (p : Y → Bool) (f : X → List Y) (xs : List X) → list_any p (flat_map f xs) ≡ list_any (λ x. list_any p (f x)) xs

@@ -1,7 +1,7 @@
 -- Stretches of a list of the code and of the definition.
 use Rattle.std.proofs.Common.{◌≡◌, ◌∙◌, ℕ, List, ap, drop, map, sym, take}
 use Rattle.std.proofs.lemmas.List.{drop-map, take-map}
-use Rattle.infer_named.specs.Listed.{stretch}
+use Rattle.infer_evidence.specs.Spans.{stretch}
 
 module _ {A B : Type 0} (f : A → B) (xs : List A) (ys : List B) where
   pub stretch_listed : (start count : ℕ) → map f xs ≡ ys → map f (stretch xs start count) ≡ stretch ys start count

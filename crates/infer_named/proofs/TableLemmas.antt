@@ -1,16 +1,13 @@
 -- A key of the table is found in the slot of its text, and none is wrong.
-use Rattle.std.proofs.Common.{◌≡◌, ℕ, List, None, arith, false}
+use Rattle.std.proofs.Common.{◌≡◌, ℕ, List, arith}
 use Rattle.std.specs.List.{find}
 use Rattle.infer_named.proofs.FindLemmas.{begin_of, end_of, found_in, none_wrong, same_slot}
-use Rattle.infer_named.proofs.MarkLemmas.{none_whole}
-use Rattle.infer_named.proofs.PlacedLemmas.{marked, right}
+use Rattle.infer_named.proofs.PlacedLemmas.{right}
 use Rattle.infer_named.specs.Laws.{KeysAreRight}
-use Rattle.infer_named.specs.Marks.{is_marked, mark_of, whole_marks}
-use Rattle.infer_named.specs.Names.{entry, is_key, slot_of, small}
+use Rattle.infer_named.specs.Names.{is_key, slot_of}
 use Rattle.infer_named.specs.Slots.{keys_of_slot, starts}
 use Rattle.infer_named.specs.Table.{keys}
 use Rattle.infer_named.specs.declared.table.Part.{Part}
-use Rattle.infer_named.specs.declared.table.Part.TheVariants.{Whole}
 
 pub found_in_slot : (of : Part) (text : List ℕ) → find (is_key of text) keys ≡ find (is_key of text) (keys_of_slot (slot_of text))
 found_in_slot of text =
@@ -19,7 +16,3 @@ found_in_slot of text =
 -- no key is wrong
 pub all_right : KeysAreRight
 all_right = none_wrong starts _ 0 keys right
-
--- a text without a mark is no whole name
-pub no_whole : (text : List ℕ) → is_marked whole_marks (mark_of (small text)) ≡ false → entry keys Whole text ≡ None
-no_whole text off = none_whole (small text) off keys marked.all

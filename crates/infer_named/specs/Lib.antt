@@ -5,7 +5,6 @@ pub mod Names
 pub mod Keys
 pub mod Table
 pub mod Slots
-pub mod Marks
 pub mod Bytes
 pub mod Asks
 pub mod Join

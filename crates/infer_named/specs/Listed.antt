@@ -1,7 +1,9 @@
 -- The table as the code lists it.
-use Rattle.std.specs.Prelude.{ℕ, List, [], drop, get_or, map, take}
+use Rattle.std.specs.Prelude.{ℕ, List, [], get_or, map}
 use Rattle.std.specs.List.{flat_map}
 use denote.Ref.{Bor}
+use Rattle.infer_evidence.specs.Spans.{stretch}
+use Rattle.infer_evidence.specs.declared.spans.Span.{Span}
 use Rattle.infer_named.specs.Key.{Key, NamedType, Origin, Reading, key, known, own, reading, row}
 use Rattle.infer_named.specs.Texts.{lead_lists}
 use Rattle.infer_named.specs.declared.table.Key as code_key
@@ -9,14 +11,9 @@ use Rattle.infer_named.specs.declared.table.NamedType as code_type
 use Rattle.infer_named.specs.declared.table.Origin as code_origin
 use Rattle.infer_named.specs.declared.table.Origin.TheVariants.{Known, Own, Row}
 use Rattle.infer_named.specs.declared.table.Reading as code_reading
-use Rattle.infer_named.specs.declared.table.Span.{Span}
 use Rattle.infer_named.specs.declared.table.generated.keys.TheConstants.{READINGS}
 use Rattle.infer_named.specs.declared.table.generated.sets.TheConstants.{RANGES, ROWS}
 use Rattle.infer_named.specs.declared.table.generated.texts.TheConstants.{KEY_TEXTS, MIME_TYPES, ROW_TEXTS}
-
--- so many elements of a list from a place on, or those that there are
-abbrev pub stretch : {A : Type 0} → List A → ℕ → ℕ → List A
-stretch list start count = take count (drop start list)
 
 -- the texts of the keys, of the types and of the rows, each text behind the other
 unfoldable pub key_texts : List ℕ

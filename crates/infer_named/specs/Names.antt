@@ -34,10 +34,6 @@ ends_in text ending = nat_lt (length ending) (length text) && bytes_eq (small (d
 abbrev pub copies : List (List ℕ)
 copies = codes "~" ∷ codes ".bak" ∷ codes ".orig" ∷ codes ".old" ∷ []
 
--- whether the byte is the last of one of them
-abbrev pub ends_copy : ℕ → Bool
-ends_copy x = x == 0x7E || x == 0x6B || x == 0x67 || x == 0x64
-
 -- how many bytes of the base are the ending of a copy
 abbrev pub copy_length : List ℕ → ℕ
 copy_length base = option_map_or length (find (ends_in base) copies) 0

@@ -5,7 +5,7 @@ use Rattle.std.specs.List.{list_any, starts_with}
 use Rattle.memchr.specs.Find.{Passes, is_byte}
 use Rattle.infer_named.specs.Key.{Key}
 use Rattle.infer_named.specs.Names.{IsBase, IsLastDot, entry, extension_at}
-use Rattle.infer_named.specs.declared.odd.Oddities.{Oddities}
+use Rattle.infer_named.specs.declared.suspicious_name.Oddities.{Oddities}
 use Rattle.infer_named.specs.declared.table.Part.TheVariants.{Extension}
 
 -- a control character of ASCII

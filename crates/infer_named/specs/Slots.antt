@@ -1,7 +1,7 @@
 -- The slots of keys. A slot has those that stand from where it begins to where the next does.
 use Rattle.std.specs.Prelude.{◌+◌, ◌-◌, ℕ, List, get_or}
 use Rattle.infer_named.specs.Key.{Key}
-use Rattle.infer_named.specs.Listed.{stretch}
+use Rattle.infer_evidence.specs.Spans.{stretch}
 use Rattle.infer_named.specs.Table.{keys}
 use Rattle.infer_named.specs.declared.table.generated.keys.TheConstants.{STARTS}
 

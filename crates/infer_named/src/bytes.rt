@@ -10,7 +10,7 @@ use memchr::memchr;
 pub enum Kind {
     /// There are none.
     Empty,
-    /// A text, as `infer_more::is_text` tells it.
+    /// A text, as `infer_more::is_text` says.
     Text,
     /// No text, with a byte 00.
     Binary,
@@ -39,7 +39,7 @@ impl Lead {
     }
 }
 
-/// What the bytes are.
+/// What the bytes are, as far as names ask.
 pub fn kind_of(buf: &[u8]) -> Kind
     ensures { IsKind buf.now result }
 {
@@ -62,7 +62,7 @@ fn has_zero(buf: &[u8]) -> bool
     memchr(0, buf).is_some()
 }
 
-/// The first two bytes behind a byte order mark and white space, or fewer if there are no more. Of UTF-16 the bytes 00 are
+/// The first two bytes after a byte order mark and white space, or fewer if there are no more. Of UTF-16 the bytes 00 are
 /// left out.
 pub fn lead_of(buf: &[u8]) -> Lead
     ensures { lead_bytes result ≡ lead_of buf.now }
@@ -76,7 +76,7 @@ pub fn lead_of(buf: &[u8]) -> Lead
     first_visible(buf, false)
 }
 
-/// The first two bytes behind white space, or fewer if there are no more, without the bytes 00 if these are skipped.
+/// The first two bytes after white space, or fewer if there are no more, without the bytes 00 if these are skipped.
 fn first_visible(bytes: &[u8], skips_zeros: bool) -> Lead
     ensures { lead_bytes result ≡ take 2 (without_white (shown skips_zeros bytes.now)) }
 {

@@ -1,4 +1,4 @@
-//! What a name and the bytes tell together.
+//! What a name and the bytes say together.
 ghost use Rattle.std.specs.Prelude.{◌≡◌, None, Some, map, nat_eq, option_map};
 ghost use Rattle.std.specs.List.{list_any, starts_with};
 ghost use Rattle.infer.specs.Triple.{triple_of};
@@ -22,9 +22,9 @@ use infer::{Identify, Type};
 pub enum Standing {
     /// The bytes are of the type that the name has.
     Agree,
-    /// The bytes may begin a file of the type that the name has, which is told.
+    /// The bytes may begin a file of the type that the name has, which is reported.
     NameRefines,
-    /// The bytes are of a finer kind of the type that the name has. Theirs is told.
+    /// The bytes are of a finer kind of the type that the name has. Theirs is reported.
     BytesRefine,
     /// The name says nothing, and the bytes have a type.
     BytesAlone,
@@ -36,7 +36,7 @@ pub enum Standing {
     Nothing,
 }
 
-/// A type that is told.
+/// A type that is reported.
 #[derive(Clone, Copy, Debug)]
 pub enum Told {
     /// That of the row that accepts the bytes.
@@ -96,12 +96,12 @@ fn is_own(origin: Origin) -> bool
     }
 }
 
-/// What a name and bytes tell.
+/// What a name and bytes say.
 #[derive(Clone, Copy)]
 pub struct Named {
     /// What the name did.
     pub standing: Standing,
-    /// The type, if one is told.
+    /// The type, if one is reported.
     pub told: Option<Told>,
     /// The key of the name, if it has one.
     pub key: Option<&'static Key>,
@@ -129,14 +129,14 @@ fn first_type(readings: &[Reading]) -> Option<Told>
     }
 }
 
-/// What the name and the bytes tell.
+/// What the name and the bytes say.
 pub fn named_of(name: &[u8], buf: &[u8]) -> Named
     ensures { IsNamed name.now buf.now result }
 {
-    answer(name, buf, infer_more::get(buf))
+    named_with(name, buf, infer_more::get(buf))
 }
 
-/// Asks what this name and the bytes tell.
+/// Asks what this name and the bytes say.
 #[derive(Drop)]
 pub struct WithName<'a> {
     pub name: &'a [u8],
@@ -152,10 +152,10 @@ impl Identify for WithName<'_> {
     }
 }
 
-/// What the name and the bytes tell, whose wider answer has this type. It is not inlined, so that its instructions are counted
-/// by its name.
+/// What the name and the bytes say where the type of the wider answer of the bytes is known already.
+// Not inlined, so that bench/run can count its instructions by its name.
 #[inline(never)]
-pub fn answer(name: &[u8], buf: &[u8], found: Option<Type>) -> Named
+pub fn named_with(name: &[u8], buf: &[u8], found: Option<Type>) -> Named
     requires { IsWiderAnswer buf.now (option_map triple_of found) }
     ensures { IsNamed name.now buf.now result }
 {
@@ -198,7 +198,7 @@ fn silent(standing: Standing, key: Option<&'static Key>) -> Named
     }
 }
 
-/// What a key tells of bytes with this type, or without one.
+/// What a key says of bytes with this type, or without one.
 fn keyed(key: &'static Key, found: Option<Type>, buf: &[u8]) -> Named
     ensures answer { (kind : Kind) → IsKind buf.now kind
         → answer_of result ≡ keyed (key_listed key.now) (option_map triple_of found) kind (lead_of buf.now) }
@@ -210,7 +210,7 @@ fn keyed(key: &'static Key, found: Option<Type>, buf: &[u8]) -> Named
     }
 }
 
-/// What it tells of bytes without one.
+/// What it says of bytes without one.
 #[tactic(auto, using(crate::proofs::KindLemmas::one_kind))]
 fn keyed_alone(key: &'static Key, buf: &[u8]) -> Named
     ensures answer { (kind : Kind) → IsKind buf.now kind
@@ -226,7 +226,7 @@ fn keyed_alone(key: &'static Key, buf: &[u8]) -> Named
     }
 }
 
-/// What it tells of bytes with this type: what the first reading tells that the bytes fit and that has it in a set.
+/// What it says of bytes with this type: what the first reading says that the bytes fit and that has it in a set.
 #[tactic(auto, using(crate::proofs::SetLemmas::takes_is))]
 fn joined(key: &'static Key, t: Type, buf: &[u8]) -> Named
     ensures answer { answer_of result ≡ joined_with (key_listed key.now).is_loose (triple_of t)
@@ -243,7 +243,7 @@ fn joined(key: &'static Key, t: Type, buf: &[u8]) -> Named
     untaken(key, t)
 }
 
-/// What it tells of bytes with this type, which no reading has.
+/// What it says of bytes with this type, which no reading has.
 fn untaken(key: &'static Key, t: Type) -> Named
     ensures answer { answer_of result ≡ joined_with (key_listed key.now).is_loose (triple_of t) None }
     ensures key { key_of result ≡ Some (key_listed key.now) }
@@ -255,7 +255,7 @@ fn untaken(key: &'static Key, t: Type) -> Named
     }
 }
 
-/// What a reading tells of a type, by what the set that has it makes of the name.
+/// What a reading says of a type, by what the set that has it makes of the name.
 #[tactic(auto, using(crate::proofs::SetLemmas::told_refined, crate::proofs::SetLemmas::told_agreed, crate::proofs::SetLemmas::told_others))]
 fn told_by(key: &'static Key, reading: &Reading, standing: Option<Standing>, t: Type) -> Named
     requires { standing_in (triple_of t) (reading_listed reading.now) ≡ standing }
@@ -325,7 +325,7 @@ pub fn begins_with(lead: &[u8], leads: &[&[u8]]) -> bool
     false
 }
 
-/// Whether the lead begins with the text. Of most leads the first byte tells that they do not.
+/// Whether the lead begins with the text. Of most leads the first byte shows that they do not.
 #[tactic(auto, using(crate::proofs::ListLemmas::other_first))]
 fn begins(lead: &[u8], text: &[u8]) -> bool
     ensures { result ≡ starts_with nat_eq lead.now text.now }

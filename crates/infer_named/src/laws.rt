@@ -2,13 +2,13 @@
 //! table. To use a law, call it.
 ghost use Rattle.infer_named.specs.Laws.{AnswersLast, AnswersLastByKind, CaseChangesNoKey, ChangesOnce, CopiesChangeNoKey, DecidedAnswersLast, EachKeyIsReached, EachReadingIsFound, EachRowIsNamed, FoldersChangeNoKey, KeysAreRight, KindsLast, LeadsLast, LiesStayVisible, NothingIsInvented, OnlyTheKeyCounts, OnlyThreeCount, SilenceIsExact, TheBytesWin};
 
-/// The bytes win: no type is told that they contradict, and theirs is told but where a name refines it.
+/// The bytes win: no type is reported that they contradict, and theirs is reported but where a name refines it.
 #[tactic(auto, using(crate::proofs::LawLemmas::bytes_win))]
 pub fn bytes_win()
     ensures { TheBytesWin }
 {}
 
-/// Nothing is invented: a name alone tells a type only of bytes that no row accepts, and that may be of it.
+/// Nothing is invented: a name alone gives a type only to bytes that no row accepts, and that may be of it.
 #[tactic(auto, using(crate::proofs::LawLemmas::nothing_invented))]
 pub fn nothing_is_invented()
     ensures { NothingIsInvented }
@@ -20,12 +20,12 @@ pub fn silence_is_exact()
     ensures { SilenceIsExact }
 {}
 
-/// Two names with one key, or without one, tell the same of the same bytes.
+/// Two names with one key, or without one, say the same of the same bytes.
 pub fn only_the_key_counts()
     ensures { OnlyTheKeyCounts }
 {}
 
-/// No key is another by the case of letters, by a folder before the name, or by the ending of a copy behind a name that is none
+/// No key is another by the case of letters, by a folder before the name, or by the ending of a copy after a name that is none
 /// itself.
 pub fn keys_stay()
     ensures case { CaseChangesNoKey }
@@ -62,7 +62,7 @@ pub fn each_key_is_reached()
     ensures { EachKeyIsReached }
 {}
 
-/// No reading is hidden by those before it: of some row's type, or of some bytes without one, it is what is told. But the only
+/// No reading is hidden by those before it: of some row's type, or of some bytes without one, it is what is reported. But the only
 /// reading of a loose key may say no more than what type the name has.
 pub fn each_reading_is_found()
     ensures { EachReadingIsFound }

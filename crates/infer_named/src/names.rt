@@ -4,14 +4,12 @@ ghost use Rattle.std.specs.Char.{to_ascii_lowercase};
 ghost use Rattle.std.specs.List.{find, list_any};
 ghost use Rattle.std.specs.Str.{bytes_eq};
 ghost use Rattle.infer_named.specs.Listed.{key_listed};
-ghost use Rattle.infer_named.specs.Marks.{mark_of};
 ghost use Rattle.infer_named.specs.Parts.{are_parts_from};
-ghost use Rattle.infer_named.specs.Names.{IsBase, IsDottedKey, IsExtensionKey, IsKey, IsLastDot, IsMakerKey, IsStemKey, IsVersioned, copy_length, ends_copy, ends_in, entry, extension_at, is_digit, is_key, is_version, makers, same_part, slot_of, small, stem_of};
+ghost use Rattle.infer_named.specs.Names.{IsBase, IsDottedKey, IsExtensionKey, IsKey, IsLastDot, IsMakerKey, IsStemKey, IsVersioned, copy_length, ends_in, entry, extension_at, is_digit, is_key, is_version, makers, same_part, slot_of, small, stem_of};
 ghost use Rattle.infer_named.specs.Table.{keys};
 ghost use Rattle.infer_named.specs.declared.table.Part.TheVariants.{Extension, Whole};
 
-use crate::marks::{is_marked, mark};
-use crate::table::{Key, Part, key_text, slot, whole_marks};
+use crate::table::{Key, Part, key_text, slot};
 use memchr::{memchr, memrchr, memrchr2};
 
 /// The key of the name, and `None` exactly if it has none.
@@ -24,7 +22,7 @@ pub fn key(name: &[u8]) -> Option<&'static Key>
     }
 }
 
-/// What stands behind the last "/" or "\".
+/// What stands after the last "/" or "\".
 pub fn base(name: &[u8]) -> &[u8]
     ensures { IsBase name.now result.now }
 {
@@ -46,9 +44,6 @@ fn copy_length(base: &[u8]) -> usize
     ensures value { result ≡ copy_length base.now }
     ensures bound { result ≤ length base.now }
 {
-    if !may_be_copy(base) {
-        return 0;
-    }
     if ends_in(base, b"~") {
         return 1;
     }
@@ -62,23 +57,6 @@ fn copy_length(base: &[u8]) -> usize
         return 4;
     }
     0
-}
-
-/// Whether the last byte is that of the ending of a copy, which most names do not have.
-#[tactic(auto, using(crate::proofs::CopyLemmas::no_copy))]
-fn may_be_copy(base: &[u8]) -> bool
-    ensures { result ≡ false → copy_length base.now ≡ 0 }
-{
-    match base {
-        [.., last] => ends_copy(last.to_ascii_lowercase()),
-        [] => true,
-    }
-}
-
-fn ends_copy(last: u8) -> bool
-    ensures { result ≡ ends_copy last }
-{
-    last == b'~' || last == b'k' || last == b'g' || last == b'd'
 }
 
 /// Whether the text ends in this ending, whose letters are small, and something stands before it.
@@ -109,34 +87,10 @@ fn is_small(text: &[u8], other: &[u8]) -> bool
 fn key_of_stem(stem: &[u8]) -> Option<&'static Key>
     ensures { IsStemKey keys stem.now (option_map (λ k. key_listed k.now) result) }
 {
-    match whole_key(stem) {
+    match entry(Part::Whole, stem) {
         Some(found) => Some(found),
         None => dotted_key(stem),
     }
-}
-
-/// The whole name that the stem is, if it is one. The mark of most stems is that of none.
-fn whole_key(stem: &[u8]) -> Option<&'static Key>
-    ensures { option_map (λ k. key_listed k.now) result ≡ entry keys Whole stem.now }
-{
-    if is_marked(whole_marks(), small_mark(stem)) {
-        entry(Part::Whole, stem)
-    } else {
-        None
-    }
-}
-
-/// The mark of a text in small letters.
-#[tactic(auto, using(crate::proofs::MarkLemmas::mark_small))]
-fn small_mark(text: &[u8]) -> usize
-    ensures { result ≡ mark_of (small text.now) }
-{
-    if text.is_empty() {
-        return mark(0, 0, 0);
-    }
-    let first = small_number(text[0]);
-    let last = small_number(text[text.len() - 1]);
-    mark(text.len(), first, last)
 }
 
 fn dotted_key(stem: &[u8]) -> Option<&'static Key>
@@ -175,7 +129,7 @@ pub fn last_dot(stem: &[u8], before: usize) -> Option<usize>
     }
 }
 
-/// The extension behind a dot, if there is one.
+/// The extension after a dot, if there is one.
 pub fn extension_at(stem: &[u8], dot: Option<usize>) -> Option<&'static Key>
     requires { IfSome dot (λ place. place < length stem.now) }
     ensures { option_map (λ k. key_listed k.now) result ≡ extension_at keys stem.now dot }
@@ -186,7 +140,7 @@ pub fn extension_at(stem: &[u8], dot: Option<usize>) -> Option<&'static Key>
     }
 }
 
-/// Whether digits and dots at the end are a version behind ".so". Its "o" is the last one.
+/// Whether digits and dots at the end are a version after ".so". Its "o" is the last one.
 fn is_versioned(stem: &[u8]) -> bool
     ensures { IsVersioned stem.now result }
 {
@@ -202,7 +156,7 @@ fn is_digit(byte: u8) -> bool
     b'0' <= byte && byte <= b'9'
 }
 
-/// Whether the text is parts of digits only, each behind a dot.
+/// Whether the text is parts of digits only, each after a dot.
 #[tactic(auto, using(crate::proofs::VersionLemmas::version_by_parts))]
 fn is_version(text: &[u8]) -> bool
     ensures { result ≡ is_version text.now }
@@ -213,7 +167,7 @@ fn is_version(text: &[u8]) -> bool
     }
 }
 
-/// Whether these are such parts behind the first byte, in which a digit is due if it is none.
+/// Whether these are such parts after the first byte, in which a digit is due if it is none.
 #[tactic(auto, using(crate::proofs::VersionLemmas::passed_by, crate::proofs::VersionLemmas::parts_ended))]
 fn are_parts(text: &[u8]) -> bool
     requires { 0 < length text.now }
@@ -227,7 +181,7 @@ fn are_parts(text: &[u8]) -> bool
     all & is_digit(text[text.len() - 1])
 }
 
-/// The whole name before the first dot, if it is one of the four that may have anything behind them.
+/// The whole name before the first dot, if it is one of the four that may have anything after them.
 fn maker_key(stem: &[u8]) -> Option<&'static Key>
     ensures { IsMakerKey keys stem.now (option_map (λ k. key_listed k.now) result) }
 {

@@ -4,8 +4,9 @@ ghost use Rattle.infer.specs.Triple.{triple_of};
 ghost use Rattle.infer_named.specs.Join.{is_among};
 ghost use Rattle.infer_named.specs.Listed.{range_listed, set_listed};
 
-use crate::table::{Span, ranges, row_bytes, rows};
+use crate::table::{ranges, row_bytes, rows};
 use infer::Type;
+use infer_evidence::Span;
 
 /// Whether a row of the set has the extension or the MIME type.
 pub fn is_among(t: &Type, set: Span) -> bool

@@ -1,9 +1,11 @@
-//! What names tell, as data: the names, and the readings of each. The prover reads numbers and texts at once, so the table is
+//! What names say, as data: the names, and the readings of each. The prover reads numbers and texts at once, so the table is
 //! lists of numbers, and one text of the keys, one of the types and one of the rows.
 ghost use Rattle.std.specs.Prelude.{◌≡◌, ◌<◌, IsAscii, map};
 ghost use Rattle.std.specs.List.{flat_map};
-ghost use Rattle.infer_named.specs.Listed.{key_listed, leads_at, mime_type, range_listed, reading_listed, row_text, set_listed, stretch, texts};
+ghost use Rattle.infer_named.specs.Listed.{key_listed, leads_at, mime_type, range_listed, reading_listed, row_text, set_listed, texts};
 ghost use Rattle.infer_named.specs.Slots.{keys_of_slot};
+
+use infer_evidence::{Span, stretch};
 
 /// What of a file's name a key is.
 #[derive(Clone, Copy, Debug)]
@@ -14,13 +16,6 @@ pub enum Part {
     Extension,
 }
 
-/// Where something begins in a list, and how much of it there is.
-#[derive(Clone, Copy, Debug)]
-pub struct Span {
-    pub(crate) start: u16,
-    pub(crate) count: u8,
-}
-
 /// Who names a type.
 #[derive(Clone, Copy, Debug)]
 pub enum Origin {
@@ -28,11 +23,11 @@ pub enum Origin {
     Row(Span),
     /// No row, but a registry or another program.
     Known,
-    /// Nobody else, so that it tells files apart and is not to be sent.
+    /// Nobody else, so that it only distinguishes files and is not to be sent.
     Own,
 }
 
-/// A type that a name tells, whose MIME type stands there among those of all.
+/// A type that a name has, whose MIME type stands there among those of all.
 #[derive(Clone, Copy, Debug)]
 pub struct NamedType {
     pub(crate) mime_type: Span,
@@ -86,7 +81,7 @@ macro_rules! is_loose {
 
 macro_rules! span {
     ($start:literal $count:literal) => {
-        Span {
+        infer_evidence::Span {
             start: $start,
             count: $count,
         }
@@ -152,30 +147,9 @@ pub(crate) use spans;
 
 mod generated;
 
-pub(crate) use generated::whole_marks;
 use generated::{
     all_keys, all_ranges, all_readings, key_texts, mime_types, row_spans, row_texts, starts,
 };
-
-/// So many elements from a place on, or those that there are.
-fn stretch<T>(list: &[T], start: usize, count: usize) -> &[T]
-    ensures { result.now ≡ stretch list.now start count }
-{
-    let Some(rest) = list.get(start..) else {
-        return &[];
-    };
-    match rest.get(..count) {
-        Some(stretch) => stretch,
-        None => rest,
-    }
-}
-
-/// What stands in a list at a span.
-fn at<T>(list: &[T], span: Span) -> &[T]
-    ensures { result.now ≡ stretch list.now span.start span.count }
-{
-    stretch(list, usize::from(span.start), usize::from(span.count))
-}
 
 /// The keys of a slot.
 #[tactic(auto, using(crate::proofs::StretchLemmas::stretch_listed))]
@@ -193,52 +167,42 @@ pub(crate) fn slot(number: usize) -> &'static [Key]
 pub(crate) fn key_text(key: &Key) -> &'static [u8]
     ensures { result.now ≡ (key_listed key.now).text }
 {
-    at(key_texts(), key.text)
+    key.text.of(key_texts())
 }
 
 /// The readings of a key.
 pub(crate) fn readings_of(key: &Key) -> &'static [Reading]
     ensures { map reading_listed result.now ≡ (key_listed key.now).readings }
 {
-    at(all_readings(), key.readings)
-}
-
-/// What stands in an ASCII text at a span.
-fn text_at(text: &'static str, span: Span) -> &'static str
-    requires { IsAscii text.now }
-    ensures { result.now ≡ stretch text.now span.start span.count }
-{
-    let start = usize::from(span.start).min(text.len());
-    let end = (start + usize::from(span.count)).min(text.len());
-    &text[start..end]
+    key.readings.of(all_readings())
 }
 
 /// The MIME type at a span.
 pub(crate) fn mime_type(span: Span) -> &'static str
     ensures { result.now ≡ mime_type span }
 {
-    text_at(mime_types(), span)
+    span.of_text(mime_types())
 }
 
 /// The text of a row at a span.
 pub(crate) fn row_text(span: Span) -> &'static str
     ensures { result.now ≡ row_text span }
 {
-    text_at(row_texts(), span)
+    span.of_text(row_texts())
 }
 
 /// The same as bytes, which takes less.
 pub(crate) fn row_bytes(span: Span) -> &'static [u8]
     ensures { result.now ≡ row_text span }
 {
-    at(row_texts().as_bytes(), span)
+    span.of(row_texts().as_bytes())
 }
 
 /// The ranges of a set.
 pub(crate) fn ranges(set: Span) -> &'static [Span]
     ensures { flat_map range_listed result.now ≡ set_listed set }
 {
-    at(all_ranges(), set)
+    set.of(all_ranges())
 }
 
 /// Where the texts of the rows of a range stand. A row has its extension there, or its MIME type where two types have one
@@ -247,7 +211,7 @@ pub(crate) fn ranges(set: Span) -> &'static [Span]
 pub(crate) fn rows(range: Span) -> &'static [Span]
     ensures { map row_text result.now ≡ range_listed range }
 {
-    at(row_spans(), range)
+    range.of(row_spans())
 }
 
 /// The leads of this number, each of one or two bytes. Any is one if there are none.

@@ -19,19 +19,19 @@ use infer_formats::token::Token;
 pub enum Wanted {
     /// The least length of an alternative.
     Length,
-    /// The colon behind it.
+    /// The colon after it.
     Colon,
     /// "@".
     At,
-    /// The place behind it.
+    /// The place after it.
     Place,
     /// Bytes.
     Bytes,
     /// More of the signature, or its end.
     More,
-    /// The byte behind "not".
+    /// The byte after "not".
     Byte,
-    /// "binary", behind "and".
+    /// "binary", after "and".
     Binary,
     /// "or", or the end of the signature.
     Or,
@@ -55,7 +55,7 @@ pub enum Effect {
     Opens(bool),
 }
 
-/// Where the reading goes on behind the token, and what it adds for the buffer.
+/// Where the reading goes on after the token, and what it adds for the buffer.
 #[tactic(auto, unfolding(crate::specs::Fixed::step))]
 pub fn step(cursor: Cursor, token: Token<'_>, buf: &[u8]) -> Result<(Cursor, Effect), Reason>
     ensures found { found_by result ≡ option_map (step_seen buf.now)

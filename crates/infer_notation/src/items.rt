@@ -1,4 +1,4 @@
-//! Relations that tokens ask for, behind a name.
+//! Relations that tokens ask for, after a name.
 ghost use Rattle.std.specs.Prelude.{◌≡◌, ◌∷◌, [], map, option_map};
 ghost use Rattle.infer_formats.specs.Relation.{relation_listed};
 ghost use Rattle.infer_notation.specs.Alternative.{related};
@@ -12,7 +12,7 @@ use infer_formats::relation::{OfText, Relation, Takes};
 use infer_formats::token::Token;
 use infer_formats::token::Token::{Quoted, Word};
 
-/// Whether the buffer has the relation that the tokens ask for behind a name that takes this, if they ask for one.
+/// Whether the buffer has the relation that the tokens ask for after a name that takes this, if they ask for one.
 pub fn has_relation(takes: Takes, tokens: &[Token<'_>], buf: &[u8]) -> Option<bool>
     ensures { IsSeen (option_map (λ r. related r ∷ []) (item_of takes
         (map token_listed tokens.now))) buf.now result }
@@ -65,7 +65,7 @@ fn has_directory(tokens: &[Token<'_>], buf: &[u8]) -> Option<bool>
     }
 }
 
-/// What stands behind the tag: nothing, or `and make "MAKE"`.
+/// What stands after the tag: nothing, or `and make "MAKE"`.
 fn has_tag(tag: u16, tokens: &[Token<'_>], buf: &[u8]) -> Option<bool>
     ensures { IsSeen (option_map (λ r. related r ∷ []) (behind_tag tag
         (map token_listed tokens.now))) buf.now result }

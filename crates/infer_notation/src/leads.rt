@@ -107,7 +107,7 @@ fn fixed_lead(text: &[u8]) -> Option<Lead>
     }
 }
 
-/// What is known behind the token at the front, and how many bytes it takes behind its first.
+/// What is known after the token at the front, and how many bytes it takes after its first.
 fn next(reading: Reading, text: &[u8]) -> Option<(Reading, usize)>
     requires some { 0 < length text.now }
     requires no_blank { is_blank (slice_index text.now 0) ≡ false }
@@ -126,7 +126,7 @@ fn next(reading: Reading, text: &[u8]) -> Option<(Reading, usize)>
     Some((taken(reading, cursor, effect, lead), count))
 }
 
-/// What is known behind a token, if each buffer that has what the token asks for has that lead.
+/// What is known after a token, if each buffer that has what the token asks for has that lead.
 fn taken(reading: Reading, cursor: Cursor, effect: Effect, lead: Option<Lead>) -> Reading
     ensures cursor { result.cursor ≡ cursor }
     ensures known { (e : spec.Effect) (any last : List ℕ → Bool) → effect_seen [] e ≡ effect

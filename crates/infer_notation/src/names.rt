@@ -8,7 +8,7 @@ use infer_formats::relation::{Takes, names};
 use infer_formats::token::Token;
 use infer_formats::token::Token::{Quoted, Separator, Set, Word};
 
-/// What stands behind the name by which the tokens begin, and the tokens there.
+/// What stands after the name by which the tokens begin, and the tokens there.
 pub fn named<'a, 'b>(tokens: &'b [Token<'a>]) -> Option<(Takes, &'b [Token<'a>])>
     ensures { option_map rest_listed result ≡ named_in names (map token_listed tokens.now) }
 {

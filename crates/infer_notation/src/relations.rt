@@ -111,7 +111,7 @@ pub fn is_related(text: &[u8], buf: &[u8]) -> Result<bool, Flaw>
     Ok(any)
 }
 
-/// Whether the buffer has what the tokens ask behind a name that takes this. The text is that of the tokens.
+/// Whether the buffer has what the tokens ask after a name that takes this. The text is that of the tokens.
 fn asked(takes: Takes, tokens: &[Token<'_>], text: &[u8], buf: &[u8]) -> Result<bool, Flaw>
     ensures seen { IsSeen (items_of takes (map token_listed tokens.now)) buf.now (found_by result) }
     ensures flaw { IfErr result (IsFlawOf text.now) }

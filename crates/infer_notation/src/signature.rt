@@ -55,7 +55,7 @@ pub fn accepts_fixed(text: &[u8], buf: &[u8]) -> Result<bool, Flaw>
 }
 
 /// Whether the buffer fits an alternative of the fixed signature that the text describes. It stops at a part that the
-/// buffer lacks, if no "o" stands behind it: then no "or" does.
+/// buffer lacks, if no "o" stands after it: then no "or" does.
 pub fn fits_fixed(text: &[u8], buf: &[u8]) -> bool
     ensures { (alternatives : List Asked) → alternatives_of text.now ≡ Some alternatives
         → result ≡ accepts alternatives buf.now }
@@ -124,7 +124,7 @@ fn is_length(wanted: Wanted) -> bool
     }
 }
 
-/// The state behind the token at the front, and how many bytes it takes behind its first.
+/// The state after the token at the front, and how many bytes it takes after its first.
 fn next(state: State, text: &[u8], buf: &[u8]) -> Result<(State, usize), Reason>
     requires some { 0 < length text.now }
     requires no_blank { is_blank (slice_index text.now 0) ≡ false }

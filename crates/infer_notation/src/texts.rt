@@ -49,7 +49,7 @@ fn front(bytes: &[u8], count: usize) -> &[u8]
     }
 }
 
-/// The text before the first of these words, and what stands behind the word, if it is there.
+/// The text before the first of these words, and what stands after the word, if it is there.
 pub fn text_before<'a, 'b>(
     word: &[u8],
     tokens: &'b [Token<'a>],
@@ -61,7 +61,7 @@ pub fn text_before<'a, 'b>(
     Some((text, behind))
 }
 
-/// The tokens before the first of these words, and those behind it, if it is there.
+/// The tokens before the first of these words, and those after it, if it is there.
 fn parted<'a, 'b>(
     word: &[u8],
     tokens: &'b [Token<'a>],
@@ -90,7 +90,7 @@ pub fn read_text<'a>(tokens: &[Token<'a>]) -> Option<Text<'a>>
     }
 }
 
-/// The pieces, one behind the other.
+/// The pieces, one after the other.
 fn join(tokens: &[Token<'_>]) -> Option<Joined>
     ensures { option_map joined_listed result ≡ option_and_then in_room (pieces_of (map token_listed tokens.now)) }
 {
@@ -104,7 +104,7 @@ fn join(tokens: &[Token<'_>]) -> Option<Joined>
     Some(joined)
 }
 
-/// What was joined, and a piece behind it.
+/// What was joined, and a piece after it.
 fn with_piece(joined: Joined, token: Token<'_>) -> Option<Joined>
     ensures { option_map joined_listed result
         ≡ behind (joined_listed joined) (piece_of (token_listed token.entry)) }

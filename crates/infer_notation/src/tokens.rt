@@ -18,7 +18,7 @@ enum Run {
     Set,
 }
 
-/// The token at the front of a text, and how many bytes it takes behind its first.
+/// The token at the front of a text, and how many bytes it takes after its first.
 #[tactic(auto, unfolding(crate::specs::Tokens::token_at))]
 pub fn token_at(text: &[u8]) -> Result<(Token<'_>, usize), Reason>
     ensures value { option_map pair_listed (found_by result) ≡ token_at text.now }
@@ -55,7 +55,7 @@ pub fn next_token(text: &[u8]) -> Result<Option<(Token<'_>, &[u8])>, Flaw>
     }
 }
 
-/// A quoted text behind its first quote, and how many bytes it takes there.
+/// A quoted text after its first quote, and how many bytes it takes there.
 fn quoted_at(text: &[u8]) -> Result<(Token<'_>, usize), Reason>
     ensures value { option_map pair_listed (found_by result) ≡ quoted_at text.now }
     ensures bound { IfOk result (λ t. t.1 ≤ length text.now) }
@@ -73,7 +73,7 @@ fn quoted_at(text: &[u8]) -> Result<(Token<'_>, usize), Reason>
     Ok((Token::Quoted(&text[..n]), n + 1))
 }
 
-/// A set behind its brace, and how many bytes it takes there.
+/// A set after its brace, and how many bytes it takes there.
 fn set_at(text: &[u8]) -> Result<(Token<'_>, usize), Reason>
     ensures value { option_map pair_listed (found_by result) ≡ set_at text.now }
     ensures bound { IfOk result (λ t. t.1 ≤ length text.now) }
@@ -85,7 +85,7 @@ fn set_at(text: &[u8]) -> Result<(Token<'_>, usize), Reason>
     Ok((Token::Set(&text[..n]), n + 1))
 }
 
-/// A bare word, and how many bytes it takes behind its first.
+/// A bare word, and how many bytes it takes after its first.
 fn bare_at(text: &[u8]) -> Result<(Token<'_>, usize), Reason>
     ensures value { option_map pair_listed (found_by result) ≡ bare_at text.now }
     ensures bound { IfOk result (λ t. t.1 < length text.now) }

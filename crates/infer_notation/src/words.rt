@@ -17,7 +17,7 @@ pub struct Hex {
 pub fn is_blank(byte: u8) -> bool
     ensures { result ≡ is_blank byte }
 {
-    // Most bytes are told by one comparison.
+    // Most bytes are decided by one comparison.
     byte <= b' ' && (byte == b' ' || byte == b'\t' || byte == b'\r')
 }
 
@@ -35,7 +35,7 @@ pub fn skip_blanks(text: &[u8]) -> &[u8]
     &[]
 }
 
-/// The bytes up to the first blank, and what follows the blanks behind them.
+/// The bytes up to the first blank, and what follows the blanks after them.
 #[tactic(auto, unfolding(crate::specs::Words::word, crate::specs::Words::behind_word))]
 pub fn split_word(text: &[u8]) -> (&[u8], &[u8])
     ensures word { result.0.now ≡ word text.now }

@@ -1,4 +1,4 @@
-//! Matchers of the file types that fixed bytes at fixed places tell, by class.
+//! Matchers of the file types that fixed bytes at fixed places identify, by class.
 //!
 //! The modules pass on the matchers of `infer_deep` too, so that each holds all of its class.
 #![tactic(auto)]

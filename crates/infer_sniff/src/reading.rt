@@ -1,4 +1,4 @@
-//! The type of what a reader gives, of which no more is read than it takes to tell it.
+//! The type of what a reader gives, of which no more is read than it takes to identify it.
 ghost use Rattle.std.specs.Prelude.{◌≡◌, ◌≤◌, ℕ, List, None, IfOk, IfSome, IsErrOf, OnErr, OnOk, length};
 ghost use Rattle.std.specs.Io.KnownBytes.{Consumes};
 ghost use Rattle.infer.specs.Buffer.{IsBuffer, head};

@@ -88,7 +88,7 @@ impl<A: Allocator> Sniffer<A> {
         self.verdict
     }
 
-    /// Whether no bytes after those that are kept change their answer, told exactly. It asks the rows anew.
+    /// Whether no bytes after those that are kept change their answer, exactly. It asks the rows anew.
     pub fn is_decided(&self) -> bool
         ensures { IsTrue result ↔ IsDecided self.now }
     {

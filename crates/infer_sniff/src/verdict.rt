@@ -11,7 +11,7 @@ use infer::{Type, laws, position, row, rows};
 /// So many bytes decide every row that is not far.
 const LEAST: usize = 1024;
 
-/// What the bytes so far tell: the type that [`infer::get`] answers for them, and whether that is certain to stay.
+/// What the bytes so far say: the type that [`infer::get`] answers for them, and whether that is certain to stay.
 #[derive(Clone, Copy, Debug)]
 pub enum Verdict {
     /// More bytes may change the type, or it is not known that none do.

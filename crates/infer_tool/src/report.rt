@@ -34,7 +34,7 @@ pub fn report<W: Write, E: Write>(
     report_watched(name, answer, &mut output)
 }
 
-/// [`report`] through watched writers. A fault is told also if a write of lines has failed.
+/// [`report`] through watched writers. A fault is reported also if a write of lines has failed.
 pub fn report_watched<W: Write, E: Write>(
     name: &str,
     answer: Result<Option<Type>, Fault>,
@@ -144,7 +144,7 @@ pub fn run_path_within<R: Files, A: Allocator, W: Write, E: Write>(
 /// name.
 ///
 /// They are read into `room`, which is made `n` bytes long if it is shorter, so that one room serves many files. Before a
-/// fault is told, the writer of lines is flushed, so that lines and faults come in their order if both writers write to
+/// fault is reported, the writer of lines is flushed, so that lines and faults come in their order if both writers write to
 /// the same file.
 pub fn run_opened<A: Allocator, R: Read, W: Write, E: Write>(
     room: &mut Vec<u8, A>,

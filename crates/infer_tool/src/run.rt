@@ -27,7 +27,7 @@ const LIMITS: &[u8] = b"front must be 1 to 65536\n";
 ///
 /// Only the first word can be an option. After `--front` stand the number of bytes to look at, from 1 to 65536 in
 /// place of 8192, and then paths, or none for `input`. After `--sample` stands one extension, and the sample of the
-/// first type with it is written instead. If these words are wrong, `err` is told, nothing is read and nothing is
+/// first type with it is written instead. If these words are wrong, `err` is informed, nothing is read and nothing is
 /// written to `out`. The outcome is the worst one, and `Failed` if a write to `out` failed.
 pub fn run<R: Files, A: Allocator + Copy, I: Read + Drop, W: Write, E: Write>(
     rt: &R,
@@ -51,7 +51,7 @@ pub fn run<R: Files, A: Allocator + Copy, I: Read + Drop, W: Write, E: Write>(
     run_watched(rt, alloc, words, &mut Watched::new(input), &mut output)
 }
 
-/// [`run`] over a watched input and through watched writers: what is told stands also once one of them has failed, and
+/// [`run`] over a watched input and through watched writers: what is reported stands also once one of them has failed, and
 /// a fault of the input is that of a read.
 pub fn run_watched<R: Files, A: Allocator + Copy, I: Read, W: Write, E: Write>(
     rt: &R,

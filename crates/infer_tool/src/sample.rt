@@ -17,7 +17,7 @@ use infer_lines::{Outcome, Output};
 use std::io::Write;
 
 /// Writes the sample of the first row with this extension, and nothing after it. If there is no such row, or it has no
-/// sample, that is told, and nothing else is written.
+/// sample, that is reported, and nothing else is written.
 pub fn run_sample<W: Write, E: Write>(extension: &str, output: &mut Output<'_, W, E>) -> Outcome
     ensures sample { (i : ℕ) → HasSample extension.now i
         → Says W.contents E.contents output.old output.new result (WritesSample i) }

@@ -1,4 +1,4 @@
-//! What no clause says: that calls succeed, what a failed write leaves behind, how many writes there are, and what is
+//! What no clause says: that calls succeed, what a failed write leaves after, how many writes there are, and what is
 //! asked of memory. Lines, statuses and words are asked of the program as a process, by `process-tests`.
 use crate::lines::run_lines;
 use crate::report::{report, run_path, run_path_within, run_reader};
@@ -66,7 +66,7 @@ fn through<R: Files + AllocGlobal + Abort>(
     Ok((outcome.status(), given, (out, err)))
 }
 
-/// Faults are told and later files are asked, whichever write fails.
+/// Faults are reported and later files are asked, whichever write fails.
 #[test]
 fn each_write_fails_in_turn(rt: HostRuntime) -> Result<(), Fail> {
     fs::write(&rt, "e.jpg", &JPEG)?;
@@ -115,7 +115,7 @@ fn nothing_follows_a_failed_write(rt: HostRuntime) -> Result<(), Fail> {
     Ok(())
 }
 
-/// A block holds lines of several files, and is written out before a fault is told and at the end.
+/// A block holds lines of several files, and is written out before a fault is reported and at the end.
 #[test]
 fn lines_in_blocks(rt: HostRuntime) -> Result<(), Fail> {
     fs::write(&rt, "h.jpg", &JPEG)?;
@@ -133,7 +133,7 @@ fn lines_in_blocks(rt: HostRuntime) -> Result<(), Fail> {
     Ok(())
 }
 
-/// A run over a reader and one over a path, with memory that grows until it is enough. Refused memory is told, and then
+/// A run over a reader and one over a path, with memory that grows until it is enough. Refused memory is reported, and then
 /// nothing was read.
 #[test]
 fn each_request_is_refused_in_turn(rt: HostRuntime) -> Result<(), Fail> {
@@ -192,7 +192,7 @@ fn one_room_for_all_files(rt: HostRuntime) -> Result<(), Fail> {
     Ok(())
 }
 
-/// Over writers that are not watched, no clause says which fault is told.
+/// Over writers that are not watched, no clause says which fault is reported.
 #[test]
 fn faults_over_plain_writers(rt: HostRuntime) -> Result<(), Fail> {
     let (mut out, mut err) = (PieceWriter::new(512), PieceWriter::new(512));

@@ -1,4 +1,4 @@
-//! A catalogue that keeps wider answers: what they tell of the built-in ones, and records of one length.
+//! A catalogue that keeps wider answers: what they say of the built-in ones, and records of one length.
 ghost use Rattle.std.specs.Prelude.{◌≡◌, ◌≤◌, ℕ, List, ◌++◌, drop, length};
 ghost use Rattle.infer.specs.First.{IsFirstOf};
 ghost use Rattle.infer.specs.Row.{Accepts};

@@ -34,8 +34,8 @@ pub fn is_of_class(front: &[u8], class: MatcherType) -> bool
 
 /// Whether an upload that begins so can still get the row as its answer: by some bytes after these, or by none.
 ///
-/// It is told of the first row that may still accept the upload and of those before it, and of the answer so far and
-/// of those after it. Of the others it is told if they can accept no more; if they can, earlier rows could be in their
+/// It is decided for the first row that may still accept the upload and of those before it, and of the answer so far and
+/// of those after it. For the others it is decided if they can accept no more; if they can, earlier rows could be in their
 /// way whatever follows, and it is `None`.
 pub fn may_answer(front: &[u8], row: usize) -> Option<bool>
     ensures told { IfSome result (λ yes. IsTrue yes ↔ MayAnswer front.now row) }
@@ -51,7 +51,7 @@ pub fn may_answer(front: &[u8], row: usize) -> Option<bool>
     }
 }
 
-/// What [`may_answer`] tells of a row before the answer so far, or of any row if there is none.
+/// What [`may_answer`] says of a row before the answer so far, or of any row if there is none.
 fn may_answer_before(front: &[u8], row: usize) -> Option<bool>
     ensures told { IfSome result (λ yes. IsTrue yes ↔ MayAnswer front.now row) }
     ensures after { result ≡ None → RowHas (MayBecomeRow front.now) row

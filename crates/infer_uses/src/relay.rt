@@ -1,4 +1,4 @@
-//! A relay, which passes a stream on and tells its type.
+//! A relay, which passes a stream on and identifies its type.
 ghost use Rattle.std.specs.Prelude.{ℕ, List, IfOk};
 ghost use Rattle.infer_uses.specs.Relays.{IsLabelled, IsPassed};
 

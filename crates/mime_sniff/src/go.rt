@@ -14,10 +14,10 @@ mod table;
 /// How many bytes are looked at.
 pub const HEADER_LENGTH: usize = 512;
 
-/// The MIME type of a file that begins with these bytes, as Go's `http.DetectContentType` tells it, byte for byte. What
+/// The MIME type of a file that begins with these bytes, as Go's `http.DetectContentType` gives it, byte for byte. What
 /// no rule accepts is `application/octet-stream`. The text has 29 bytes at most.
 ///
-/// Only the first 512 bytes count. A text has its encoding behind it, as in `text/html; charset=utf-8`.
+/// Only the first 512 bytes count. A text has its encoding after it, as in `text/html; charset=utf-8`.
 ///
 /// ```
 /// let told = mime_sniff::go::detect_content_type(b"<p>Hello");

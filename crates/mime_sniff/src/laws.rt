@@ -6,7 +6,7 @@ pub fn one_type()
     ensures { HasOneType }
 {}
 
-/// What stands behind the header makes no difference.
+/// What stands after the header makes no difference.
 pub fn header_decides()
     ensures { HeaderDecides }
 {}
@@ -16,7 +16,7 @@ pub fn one_computed()
     ensures { ComputesOne }
 {}
 
-/// What stands behind the first 1445 bytes makes no difference to a computed type.
+/// What stands after the first 1445 bytes makes no difference to a computed type.
 pub fn header_computes()
     ensures { HeaderComputes }
 {}
@@ -36,19 +36,19 @@ pub fn decided_stays()
     ensures { DecidedStays }
 {}
 
-/// Of a resource of which nothing is known, what a row tells is told whatever follows: only what is told where none accepts may
+/// Of a resource of which nothing is known, what a row says is said whatever follows: only what is said where none accepts may
 /// change.
 pub fn rows_stay()
     ensures { RowsStay }
 {}
 
 /// And what is binary data, since no row accepts it, stays so as long as none does. So the type of a resource of which nothing is
-/// known changes twice at most as bytes come: from text to binary data, and from either to what a row tells.
+/// known changes twice at most as bytes come: from text to binary data, and from either to what a row says.
 pub fn octets_stay()
     ensures { OctetsStay }
 {}
 
-/// A computed type may run scripts only if the supplied type may; or if none that tells anything was supplied, sniffing was
+/// A computed type may run scripts only if the supplied type may; or if none that says anything was supplied, sniffing was
 /// not forbidden, and a rule of what may run scripts accepts the first bytes.
 pub fn escalation()
     ensures { Escalates }
@@ -64,18 +64,18 @@ pub fn escalates_for_good()
     ensures { EscalatesForGood }
 {}
 
-/// A supplied type that tells something stays, or becomes another of its kind: an image another image, audio or video another
+/// A supplied type that says something stays, or becomes another of its kind: an image another image, audio or video another
 /// of these, and a text of an old server a text or binary data. No other type becomes another.
 pub fn of_its_kind()
     ensures { StaysOfItsKind }
 {}
 
-/// Where sniffing is forbidden, a supplied type that tells something stays, whatever the bytes are.
+/// Where sniffing is forbidden, a supplied type that says something stays, whatever the bytes are.
 pub fn stays_if_forbidden()
     ensures { StaysIfForbidden }
 {}
 
-/// No type that is told in place of the supplied one is JavaScript, so what is computed is JavaScript only if that was supplied.
+/// No type that is given in place of the supplied one is JavaScript, so what is computed is JavaScript only if that was supplied.
 pub fn tells_no_script()
     ensures { TellsNoScript }
 {}

@@ -1,4 +1,4 @@
-//! HTML and XML, which begin with "<" behind white space.
+//! HTML and XML, which begin with "<" after white space.
 ghost use Rattle.std.specs.Prelude.{◌≡◌, map, option_map};
 ghost use Rattle.mime_sniff.specs.Listed.{rule_listed};
 ghost use Rattle.infer_deep.specs.Joined.{NoneBegins};

@@ -2,7 +2,7 @@
 ghost use Rattle.std.specs.Prelude.{◌≡◌, ◌↔◌, ◌*◌, ◌+◌, ◌≤◌, IsTrue, length, slice_index};
 ghost use Rattle.mime_sniff.specs.Mp3.{IsHeader, IsMp3, bit_rate, divisor, frame_length, is_version_1, padding, rates_of_1, rates_of_2, sample_rate, samples_of_1, scale};
 
-/// MP3: a frame, and the header of the next one behind it.
+/// MP3: a frame, and the header of the next one after it.
 pub(crate) fn is_mp3(buf: &[u8]) -> bool
     ensures { IsTrue result ↔ IsMp3 buf.now }
 {

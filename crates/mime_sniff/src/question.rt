@@ -71,7 +71,7 @@ fn asked_of_unknown(no_sniff: bool) -> Question
     Question::Anything
 }
 
-/// Whether a supplied type tells nothing.
+/// Whether a supplied type says nothing.
 fn is_unknown(found: &MimeType<'_>) -> bool
     ensures { IsTrue result ↔ IsUnknown (Some (kind_of found.now)) }
 {
@@ -89,7 +89,7 @@ fn asked_of_image(found: &MimeType<'_>, supplied: &Supplied<'_>) -> Question
     Question::Images
 }
 
-/// What is asked where a type that tells something, and is no image, is supplied.
+/// What is asked where a type that says something, and is no image, is supplied.
 fn asked_of_known(found: &MimeType<'_>, supplied: &Supplied<'_>) -> Question
     requires { ¬ IsImage (kind_of found.now) }
     ensures { IsAskedOf (supply_of supplied.now) (kind_of found.now) result }

@@ -8,7 +8,7 @@ ghost use Rattle.mime_sniff.specs.Rule.{FitsRule, TellsFirst};
 
 use infer_deep::places::same_text;
 
-/// What a row asks of a buffer, and the type that it tells.
+/// What a row asks of a buffer, and the type that it gives.
 #[derive(Clone, Copy)]
 pub(crate) struct Row {
     /// The bytes, where the mask has bits.

@@ -1,4 +1,4 @@
-//! What the rules tell of bytes that may go on, whatever follows them. None means that more bytes may change it.
+//! What the rules say of bytes that may go on, whatever follows them. None means that more bytes may change it.
 ghost use Rattle.std.specs.Prelude.{◌≡◌, ◌∷◌, ◌++◌, ◌↔◌, [], IfSome, IsSome, IsTrue, codes, option_map};
 ghost use Rattle.mime_sniff.specs.Growth.{AnswerForGood, FitForGood, MayBeginHeader, TellForGood, told_or_else};
 ghost use Rattle.mime_sniff.specs.Standard.{archives, documents, fonts, markup, marks, media, mp3_rule, mp4_rule, scriptable, text_or_binary_rules, text_rule, texts, unscripted, webm_rule};
@@ -18,7 +18,7 @@ use infer_deep::places::may_stand_at;
 use infer_deep::text::{after_white_space, is_html, may_become_html};
 use infer_formats::text::is_binary;
 
-/// What the question's rules tell of the header.
+/// What the question's rules say of the header.
 pub(crate) fn settled(question: Question, header: &[u8]) -> Option<Option<&'static str>>
     ensures good { IfSome result (λ told. AnswerForGood question header.now (option_map (λ t. t.now) told)) }
     ensures nothing { question ≡ Question.Nothing → IsSome result }
@@ -222,7 +222,7 @@ fn of_mp3(header: &[u8]) -> Option<Option<&'static str>>
     Some(None)
 }
 
-/// What the first rules tell, or those behind them if the first ones tell nothing.
+/// What the first rules say, or those after them if the first ones say nothing.
 fn or_else(
     first: Option<Option<&'static str>>,
     behind: Option<Option<&'static str>>,

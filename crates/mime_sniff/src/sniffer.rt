@@ -45,7 +45,7 @@ impl Sniffer {
         }
     }
 
-    /// Adds a piece behind the bytes so far, of which the first 1445 are kept.
+    /// Adds a piece after the bytes so far, of which the first 1445 are kept.
     pub fn push(&mut self, piece: &[u8])
         ensures { self.new ≡ header (self.old ++ piece.now) }
     {

@@ -2,9 +2,9 @@
 ghost use Rattle.std.specs.Prelude.{◌≡◌, ◌∷◌, ◌++◌, [], Some, option_map};
 ghost use Rattle.std.specs.Option.{option_or};
 ghost use Rattle.mime_sniff.specs.Computed.{Answers};
-ghost use Rattle.mime_sniff.specs.Rule.{Accepts, FitsRule, TellsFirst};
+ghost use Rattle.mime_sniff.specs.Rule.{Accepts, TellsFirst};
 ghost use Rattle.mime_sniff.specs.Standard.{archives, documents, fonts, marks, media, octets, scriptable, text_or_binary_rules, text_rule, texts, unscripted};
-ghost use Rattle.mime_sniff.specs.Table.{images, led_by, sounds};
+ghost use Rattle.mime_sniff.specs.Table.{images, sounds};
 
 use crate::markup::of_markup;
 use crate::mp3::is_mp3;
@@ -17,11 +17,10 @@ use infer_formats::text::is_binary;
 
 pub(crate) mod table;
 
-/// The type of what no rule tells, where one has to be told.
+/// The type of what no rule identifies, where one has to be given.
 const OCTETS: &str = "application/octet-stream";
 
-/// What the rules that are asked tell of the header. Most are asked in functions of their own, so that images save no
-/// registers for them.
+/// What the rules that are asked say of the header.
 pub(crate) fn answer(question: Question, header: &[u8]) -> Option<&'static str>
     ensures { Answers question header.now (option_map (λ t. t.now) result) }
 {
@@ -39,7 +38,7 @@ pub(crate) fn answer(question: Question, header: &[u8]) -> Option<&'static str>
     }
 }
 
-/// What is told, or else that the bytes are unknown.
+/// What is identified, or else that the bytes are unknown.
 pub(crate) fn or_octets(told: Option<&'static str>) -> Option<&'static str>
     ensures { option_map (λ t. t.now) result ≡ option_or (option_map (λ t. t.now) told.entry) (Some octets) }
 {
@@ -49,7 +48,6 @@ pub(crate) fn or_octets(told: Option<&'static str>) -> Option<&'static str>
     }
 }
 
-#[inline(never)]
 fn of_anything(header: &[u8]) -> Option<&'static str>
     ensures { TellsFirst (Accepts header.now) (scriptable ++ unscripted) (option_map (λ t. t.now) result) }
 {
@@ -120,7 +118,6 @@ fn of_marks(header: &[u8]) -> Option<&'static str>
     first_type(table::marks(), header)
 }
 
-#[inline(never)]
 fn of_text_or_binary(header: &[u8]) -> Option<&'static str>
     ensures { TellsFirst (Accepts header.now) text_or_binary_rules (option_map (λ t. t.now) result) }
 {
@@ -131,30 +128,13 @@ fn of_text_or_binary(header: &[u8]) -> Option<&'static str>
 }
 
 /// The type of the first rule of images, of those with the first byte.
-#[inline(always)]
 pub(crate) fn of_images(header: &[u8]) -> Option<&'static str>
     ensures { TellsFirst (Accepts header.now) images (option_map (λ t. t.now) result) }
 {
     if header.is_empty() {
         return None;
     }
-    image_led_by(header[0], header)
-}
-
-/// Each first byte by itself, so that the compiler knows the rows: to find them takes longer than to ask them.
-#[inline(always)]
-fn image_led_by(first: u8, header: &[u8]) -> Option<&'static str>
-    ensures { TellsFirst (FitsRule header.now) (led_by first images) (option_map (λ t. t.now) result) }
-{
-    match first {
-        0x00 => first_type(images(0x00), header),
-        b'B' => first_type(images(b'B'), header),
-        b'G' => first_type(images(b'G'), header),
-        b'R' => first_type(images(b'R'), header),
-        0x89 => first_type(images(0x89), header),
-        0xFF => first_type(images(0xFF), header),
-        other => first_type(images(other), header),
-    }
+    first_type(images(header[0]), header)
 }
 
 /// The type of the first rule of sounds, of those with the first byte.
@@ -167,7 +147,6 @@ pub(crate) fn of_sounds(header: &[u8]) -> Option<&'static str>
     first_type(sounds(header[0]), header)
 }
 
-#[inline(never)]
 fn of_fonts(header: &[u8]) -> Option<&'static str>
     ensures { TellsFirst (Accepts header.now) fonts (option_map (λ t. t.now) result) }
 {

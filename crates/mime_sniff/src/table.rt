@@ -2,14 +2,13 @@
 //! are asked.
 //!
 //! BMP, JPEG, AIFF and WAVE are signatures of `infer_sig` too, as is gzip: `laws::shares_rows`. They are data here, and no calls,
-//! since one function asks all rows, and another tells what more bytes may bring to them.
+//! since one function asks all rows, and another says what more bytes may bring to them.
 ghost use Rattle.std.specs.Prelude.{◌≡◌, map};
 ghost use Rattle.mime_sniff.specs.Listed.{rule_listed};
 ghost use Rattle.mime_sniff.specs.Table.{images, led_by, sounds};
 
 use crate::row::{Row, one_row, rows};
 
-#[inline(always)]
 #[tactic(auto, unfolding(crate::specs::Table::images))]
 pub(crate) fn images(first: u8) -> &'static [Row]
     ensures { map rule_listed result.now ≡ led_by first images }

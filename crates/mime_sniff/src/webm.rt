@@ -73,7 +73,7 @@ fn next_place(buf: &[u8], place: usize) -> usize
     place + 1
 }
 
-/// Whether bytes 00, perhaps none, and then "webm" stand there, and something behind them.
+/// Whether bytes 00, perhaps none, and then "webm" stand there, and something after them.
 fn names_webm(buf: &[u8], place: usize) -> bool
     ensures { IsTrue result ↔ NamesWebm buf.now place }
 {

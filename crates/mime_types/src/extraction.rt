@@ -71,7 +71,7 @@ fn last_run(value: &[u8]) -> Option<Run<'_>>
     run
 }
 
-/// The run with what a piece says behind it.
+/// The run with what a piece says after it.
 fn extended<'a>(run: Option<Run<'a>>, piece: &'a [u8]) -> Option<Run<'a>>
     ensures says { (ms : List Mime) → IsLastRun ms run.entry → IsLastRun (ms ++ option_to_list (usable piece.now)) result }
     ensures view { (ts : List (List ℕ)) → IsLastView ts run.entry → IsLastView (ts ++ option_to_list (usable_text piece.now)) result }

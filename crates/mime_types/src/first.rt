@@ -13,7 +13,7 @@ use crate::parameter::Parameter;
 use crate::segment::{Segment, first_segment};
 use crate::text::is_a_token;
 
-/// Whether the parameter counts, behind those that so many segments write.
+/// Whether the parameter counts, after those that so many segments write.
 pub(crate) fn is_first(tail: &[u8], count: usize, parameter: &Parameter<'_>) -> bool
     ensures { result ≡ is_first (written_by count tail.now) (parameter_seen parameter.now) }
 {

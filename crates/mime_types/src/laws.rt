@@ -14,11 +14,13 @@ pub fn says_itself()
 {}
 
 /// It has no white space at its ends.
+#[tactic(auto, using(crate::proofs::AgainLemmas::serialize_trimmed))]
 pub fn is_trimmed()
     ensures { IsTrimmed }
 {}
 
 /// A value has one piece more than commas outside of quotes.
+#[tactic(auto, using(crate::proofs::PiecesLemmas::counted))]
 pub fn pieces_of_commas()
     ensures { HasPieces }
 {}
@@ -29,11 +31,13 @@ pub fn last_left_out()
 {}
 
 /// No value says `*/*`.
+#[tactic(auto, using(crate::proofs::ExtractedLemmas::says_no_stars))]
 pub fn says_no_stars()
     ensures { SaysNoStars }
 {}
 
 /// White space at the ends of a value says nothing.
+#[tactic(auto, using(crate::proofs::TrimLemmas::ends_say_nothing))]
 pub fn ends_say_nothing()
     ensures { EndsSayNothing }
 {}

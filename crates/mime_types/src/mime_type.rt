@@ -9,7 +9,7 @@ pub struct MimeType<'a> {
     pub type_name: &'a [u8],
     /// The subtype, as `html`.
     pub subtype: &'a [u8],
-    /// What stands behind the subtype and its semicolon.
+    /// What stands after the subtype and its semicolon.
     pub tail: &'a [u8],
     ghost type_token: { IsTrue (is_a_token type_name.now) },
     ghost subtype_token: { IsTrue (is_a_token subtype.now) },

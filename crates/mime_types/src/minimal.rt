@@ -1,7 +1,7 @@
-//! The least that tells what a MIME type is for.
+//! The least that says what a MIME type is for.
 use crate::mime_type::MimeType;
 
-/// What a MIME type is taken for, so that types with one use are told alike.
+/// What a MIME type is taken for, so that types with one use are treated alike.
 #[derive(Clone, Copy)]
 pub enum Minimal {
     /// `text/javascript`

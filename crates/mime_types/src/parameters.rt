@@ -23,7 +23,7 @@ impl<'a> Parameters<'a> {
     ghost use Rattle.mime_types.specs.Segment.{stands, written, written_by};
     ghost use Rattle.mime_types.specs.Seen.{parameter_seen, written_seen};
 
-    /// All of what stands behind a subtype.
+    /// All of what stands after a subtype.
     pub(crate) fn new(tail: &'a [u8]) -> Self
         ensures all { left result ≡ parameters tail.now }
         ensures text { text_read result ≡ tail.now }

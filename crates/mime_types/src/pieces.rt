@@ -45,7 +45,7 @@ impl<'a> Pieces<'a> {
     }
 }
 
-/// What stands behind the comma at the place, if there is one.
+/// What stands after the comma at the place, if there is one.
 fn behind_comma(value: &[u8], place: usize) -> Option<&[u8]>
     requires { place ≤ length value.now }
     ensures { IsBehind value.now place result }

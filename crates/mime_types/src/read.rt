@@ -31,7 +31,7 @@ pub fn parse(text: &[u8]) -> Option<MimeType<'_>>
     })
 }
 
-/// What stands behind the slash that the text begins with. Nothing, if it begins with another byte.
+/// What stands after the slash that the text begins with. Nothing, if it begins with another byte.
 fn behind_slash(text: &[u8]) -> &[u8]
     ensures { result.now ≡ behind_slash_first text.now }
 {
@@ -41,7 +41,7 @@ fn behind_slash(text: &[u8]) -> &[u8]
     }
 }
 
-/// The subtype that the text begins with, and what stands behind its semicolon. Nothing, if what stands there is no token.
+/// The subtype that the text begins with, and what stands after its semicolon. Nothing, if what stands there is no token.
 fn split_subtype(text: &[u8]) -> (&[u8], &[u8])
     ensures subtype { result.0.now ≡ if_token (subtype_before text.now) }
     ensures tail { IsTrue (is_a_token (subtype_before text.now)) → result.1.now ≡ behind is_semicolon text.now }
@@ -53,7 +53,7 @@ fn split_subtype(text: &[u8]) -> (&[u8], &[u8])
     }
 }
 
-/// What stands behind the semicolon that the text begins with, or nothing if the text is empty. None, if it begins with
+/// What stands after the semicolon that the text begins with, or nothing if the text is empty. None, if it begins with
 /// another byte.
 fn behind_semicolon(text: &[u8]) -> Option<&[u8]>
     ensures { option_map (λ t. t.now) result ≡ behind_semicolon_first text.now }

@@ -1,4 +1,4 @@
-//! Segments: what stands between the semicolons behind a subtype.
+//! Segments: what stands between the semicolons after a subtype.
 ghost use Rattle.std.specs.Prelude.{◌≡◌, ◌≢◌, ◌+◌, ◌<◌, ◌≤◌, drop, length, slice_index};
 ghost use Rattle.mime_types.specs.Segment.{bare, quoted, quoted_len, stands, valued};
 ghost use Rattle.mime_types.specs.Seen.{standing_seen};
@@ -7,7 +7,7 @@ ghost use Rattle.mime_types.specs.Text.{ends_name, front, onward};
 use crate::parameter::{Parameter, Value};
 use crate::text::{cut, rest_at, trim_end, trim_start};
 
-/// What a segment writes, if it does, and what stands behind it.
+/// What a segment writes, if it does, and what stands after it.
 #[derive(Clone, Copy)]
 pub(crate) struct Segment<'a> {
     pub written: Option<Parameter<'a>>,
@@ -46,7 +46,7 @@ fn split_name(text: &[u8]) -> (&[u8], &[u8])
     (text, &[])
 }
 
-/// A segment with the name, of what stands behind "=".
+/// A segment with the name, of what stands after "=".
 fn valued<'a>(name: &'a [u8], text: &'a [u8]) -> Segment<'a>
     ensures { standing_seen result ≡ valued name.now text.now }
 {
@@ -56,7 +56,7 @@ fn valued<'a>(name: &'a [u8], text: &'a [u8]) -> Segment<'a>
     }
 }
 
-/// A segment with a value in quotes, of what stands behind the first.
+/// A segment with a value in quotes, of what stands after the first.
 fn quoted<'a>(name: &'a [u8], text: &'a [u8]) -> Segment<'a>
     ensures { standing_seen result ≡ quoted name.now text.now }
 {

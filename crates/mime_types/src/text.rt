@@ -58,7 +58,7 @@ pub(crate) fn rest_at(text: &[u8], at: usize) -> &[u8]
     &text[at..]
 }
 
-/// What stands before the first such byte, and behind it.
+/// What stands before the first such byte, and after it.
 pub(crate) fn cut(text: &[u8], byte: u8) -> (&[u8], &[u8])
     ensures front { result.0.now ≡ front (λ x. x == byte) text.now }
     ensures behind { result.1.now ≡ behind (λ x. x == byte) text.now }
@@ -83,7 +83,7 @@ fn find(text: &[u8], byte: u8) -> usize
     text.len()
 }
 
-/// The bytes of tokens that the text begins with, and what stands behind them.
+/// The bytes of tokens that the text begins with, and what stands after them.
 pub(crate) fn split_tokens(text: &[u8]) -> (&[u8], &[u8])
     ensures tokens { result.0.now ≡ tokens_before text.now }
     ensures behind { result.1.now ≡ behind_tokens text.now }
@@ -105,7 +105,7 @@ fn behind_tokens(text: &[u8]) -> &[u8]
     rest
 }
 
-/// What stands behind as many of them as are passed by fours, which takes half the time.
+/// What stands after as many of them as are passed by fours, which takes half the time.
 fn behind_fours(text: &[u8]) -> &[u8]
     ensures { behind_tokens result.now ≡ behind_tokens text.now }
 {

@@ -1,4 +1,4 @@
-//! The text of a MIME type, written into a buffer. What stands behind the text stays. Without room for all of it, as much of it
+//! The text of a MIME type, written into a buffer. What stands after the text stays. Without room for all of it, as much of it
 //! as there is room for is written.
 ghost use Rattle.std.specs.Prelude.{◌≡◌, ◌↔◌, ◌≤◌, ◌∷◌, ◌+◌, ◌<◌, [], length, option_map, option_to_list, IsTrue, IsSome};
 ghost use Rattle.mime_types.specs.Parameters.{parameters};
@@ -185,7 +185,7 @@ impl<'a> Extracted<'a> {
     ghost use Rattle.mime_types.specs.Serialize.{serialize};
     ghost use Rattle.mime_types.specs.Wrote.{IsWritten};
 
-    /// Writes the text of what the values say, and returns how long it is. A MIME type without a charset has the other behind its
+    /// Writes the text of what the values say, and returns how long it is. A MIME type without a charset has the other after its
     /// parameters.
     ///
     /// ```

@@ -1,7 +1,6 @@
 //! What is asked for, and of one row: the rows with one extension, MIME type or class.
 ghost use Rattle.std.specs.Prelude.{◌≡◌, ◌↔◌, IsTrue};
 ghost use Rattle.infer.specs.Questions.{IsAsked};
-ghost use Rattle.infer.specs.Row.{Accepts};
 ghost use Rattle.infer.specs.Triple.{Triple, triple_of};
 ghost use Rattle.infer.specs.Walks.{HasGiven, RowHas, Takes};
 
@@ -70,17 +69,6 @@ impl Question for IfGiven<'_> {
             Some(extension) => file_type.extension == extension,
             None => true,
         }
-    }
-}
-
-/// Whether row `row` accepts `buf`. From `ROW_COUNT` on there is no row, and none accepts.
-#[inline(always)]
-pub fn accepts(buf: &[u8], row: usize) -> bool
-    ensures { IsTrue result ↔ RowHas (Accepts buf.now) row }
-{
-    match rows().get(row) {
-        Some(row) => row.accepts(buf),
-        None => false,
     }
 }
 

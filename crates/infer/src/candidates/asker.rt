@@ -7,8 +7,9 @@ ghost use Rattle.infer.specs.Row.{Accepts};
 ghost use Rattle.infer.specs.Table.{table};
 ghost use Rattle.infer.specs.Walks.{HasGiven, IsFirstAmong, RowHas, Takes, asked_rows, count_asked};
 
-use crate::ask::question::{IfGiven, accepts, is_asked};
+use crate::ask::question::{IfGiven, is_asked};
 use crate::candidates::dispatch::{blank, candidates_of, leads};
+use crate::table::built_in::accepts;
 use crate::table::rows::{MOST_CANDIDATES, ROW_COUNT};
 
 /// Who asks the built-in rows about one buffer. A contract sees that buffer, and which rows were asked, in order.

@@ -143,7 +143,7 @@ fn are_bytes(buf: &[u8])
     let _ = buf;
 }
 
-/// Takes the bytes of the reader that fit into `room`, or all if it has fewer, and tells how many these are.
+/// Takes the bytes of the reader that fit into `room`, or all if it has fewer, and answers how many these are.
 pub fn read_head<R: Read>(reader: &mut Watched<R>, room: &mut [u8]) -> Result<usize, ErrorKind>
     requires no_fault { fault_of reader.old ≡ None }
     ensures bound { ReadsAtMost result room.new }

@@ -1,11 +1,12 @@
 //! The built-in rows, each with what it shows and its matcher. Their names and numbers follow from this list.
 ghost use Rattle.std.specs.Prelude.{◌≡◌, ◌↔◌, ◌<◌, None, Some, IsTrue, length, map, slice_get};
-ghost use Rattle.infer.specs.BuiltIn.{IsAccepted, TellsAccepted};
+ghost use Rattle.infer.specs.BuiltIn.{TellsAccepted};
 ghost use Rattle.infer.specs.Decided.{TellsMayBecome};
 ghost use Rattle.infer.specs.Evidence.{fixed_of};
 ghost use Rattle.infer.specs.Listed.{number_of, row_listed};
 ghost use Rattle.infer.specs.Row.{Accepts};
 ghost use Rattle.infer.specs.Table.{signature_of, table};
+ghost use Rattle.infer.specs.Walks.{RowHas};
 
 use crate::table::file_type::{FileType, MatcherType};
 use crate::table::rows::{ROW_COUNT, RowName};
@@ -183,7 +184,7 @@ pub(crate) fn row_at(i: usize) -> &'static BuiltInRow
     &rows()[i]
 }
 
-/// Whether the row accepts `buf`, as its signature tells. Matchers are called by name: a function pointer in a static would
+/// Whether the row accepts `buf`, as its signature says. Matchers are called by name: a function pointer in a static would
 /// hide what its contract says.
 #[tactic(auto, unfolding(crate::specs::Table::signature_of, crate::specs::Table::table))]
 #[inline(always)]
@@ -191,15 +192,6 @@ fn match_row(name: RowName, buf: &[u8]) -> bool
     ensures { TellsAccepted (signature_of (number_of name)) buf.now result }
 {
     with_rows!(matchers name buf)
-}
-
-/// Whether the row accepts `buf`.
-#[tactic(auto, using(crate::proofs::TableLemmas::accepted_as_told))]
-#[inline(always)]
-pub(crate) fn accepts_row(name: RowName, buf: &[u8]) -> bool
-    ensures { IsTrue result ↔ IsAccepted (signature_of (number_of name)) buf.now }
-{
-    match_row(name, buf)
 }
 
 /// Whether some bytes after `buf` make the row accept it, which asks for more than bytes at fixed places.
@@ -213,10 +205,23 @@ pub(crate) fn may_become_deep(name: RowName, buf: &[u8]) -> bool
 }
 
 impl BuiltInRow {
+    /// Whether the row accepts `buf`.
+    #[tactic(auto, using(crate::proofs::TableLemmas::accepted_as_told))]
     #[inline(always)]
     pub(crate) fn accepts(&self, buf: &[u8]) -> bool
         ensures { IsTrue result ↔ Accepts buf.now (row_listed self.now) }
     {
-        accepts_row(self.row, buf)
+        match_row(self.row, buf)
+    }
+}
+
+/// Whether row `row` accepts `buf`. From `ROW_COUNT` on there is no row, and none accepts.
+#[inline(always)]
+pub fn accepts(buf: &[u8], row: usize) -> bool
+    ensures { IsTrue result ↔ RowHas (Accepts buf.now) row }
+{
+    match rows().get(row) {
+        Some(row) => row.accepts(buf),
+        None => false,
     }
 }

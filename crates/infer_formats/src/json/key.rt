@@ -5,7 +5,7 @@ ghost use Rattle.infer_formats.specs.Json.{IsBlank};
 ghost use Rattle.infer_formats.specs.FirstKey.{BeginsByKey, EndsInQuote, HasFirstKey, HasFirstKeyWith, HasValue, IsFirstKey, StandsFirst, StandsNext, in_quotes};
 
 use super::lines::past_blanks;
-use super::open::may_reach_bracket;
+use super::may_become::may_reach_bracket;
 use super::past_mark;
 use memchr::memchr;
 
@@ -14,7 +14,7 @@ use memchr::memchr;
 pub struct Key<'a> {
     /// What stands between its quotes.
     pub text: &'a [u8],
-    /// What stands behind its colon in the buffer.
+    /// What stands after its colon in the buffer.
     pub rest: &'a [u8],
 }
 
@@ -75,14 +75,14 @@ pub fn has_first_key_with(buf: &[u8], key: &[u8], value: &[u8]) -> bool
     }
 }
 
-/// Whether some bytes after `buf`, or none, may make it have the key. What stands behind the first bracket is not asked.
+/// Whether some bytes after `buf`, or none, may make it have the key. What stands after the first bracket is not asked.
 pub fn may_have_first_key(buf: &[u8], key: &[u8]) -> bool
     ensures { MayBecome (HasFirstKey key.now) buf.now → IsTrue result }
 {
     may_reach_bracket(buf)
 }
 
-/// Whether some bytes after `buf`, or none, may make it have the key with the value. What stands behind the first bracket is
+/// Whether some bytes after `buf`, or none, may make it have the key with the value. What stands after the first bracket is
 /// not asked.
 pub fn may_have_first_key_with(buf: &[u8], key: &[u8], value: &[u8]) -> bool
     ensures { MayBecome (HasFirstKeyWith key.now value.now) buf.now → IsTrue result }
@@ -90,7 +90,7 @@ pub fn may_have_first_key_with(buf: &[u8], key: &[u8], value: &[u8]) -> bool
     may_reach_bracket(buf)
 }
 
-/// What stands behind the colon of the first key of an object.
+/// What stands after the colon of the first key of an object.
 fn past_key<'b>(buf: &'b [u8], key: &[u8]) -> Option<&'b [u8]>
     ensures { MatchOption result ((left : List ℕ) → ¬ BeginsByKey key.now buf.now left)
         (λ rest. (left : List ℕ) → BeginsByKey key.now buf.now left ↔ (left ≡ rest.now)) }
@@ -100,7 +100,7 @@ fn past_key<'b>(buf: &'b [u8], key: &[u8]) -> Option<&'b [u8]>
     past_byte(behind, b':')
 }
 
-/// What stands behind the byte, which white space may precede.
+/// What stands after the byte, which white space may precede.
 fn past_byte(buf: &[u8], byte: u8) -> Option<&[u8]>
     requires { ¬ IsBlank byte }
     ensures { MatchOption result ((left : List ℕ) → ¬ StandsNext (byte ∷ []) buf.now left)
@@ -112,7 +112,7 @@ fn past_byte(buf: &[u8], byte: u8) -> Option<&[u8]>
     }
 }
 
-/// What stands behind the text in quotes, which white space may precede.
+/// What stands after the text in quotes, which white space may precede.
 #[tactic(auto, using(crate::proofs::FirstKeyLemmas::none_quoted))]
 fn past_quoted<'b>(buf: &'b [u8], text: &[u8]) -> Option<&'b [u8]>
     ensures { MatchOption result ((left : List ℕ) → ¬ StandsNext (in_quotes text.now) buf.now left)
@@ -124,7 +124,7 @@ fn past_quoted<'b>(buf: &'b [u8], text: &[u8]) -> Option<&'b [u8]>
     }
 }
 
-/// What stands behind the text and a quote, which stand first.
+/// What stands after the text and a quote, which stand first.
 fn past_closing<'b>(buf: &'b [u8], text: &[u8]) -> Option<&'b [u8]>
     ensures { MatchOption result ((left : List ℕ) → ¬ (buf.now ≡ text.now ++ 0x22 ∷ left))
         (λ rest. buf.now ≡ text.now ++ 0x22 ∷ rest.now) }
@@ -135,7 +135,7 @@ fn past_closing<'b>(buf: &'b [u8], text: &[u8]) -> Option<&'b [u8]>
     }
 }
 
-/// The text up to the first quote, and what stands behind that.
+/// The text up to the first quote, and what stands after that.
 fn up_to_quote(buf: &[u8]) -> Option<Key<'_>>
     ensures { MatchOption result ((t left : List ℕ) → ¬ EndsInQuote t left buf.now)
         (λ key. EndsInQuote key.text.now key.rest.now buf.now) }

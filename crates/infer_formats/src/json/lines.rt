@@ -21,9 +21,9 @@ pub(super) fn begins_line(buf: &[u8]) -> bool
     true
 }
 
-/// What a buffer has of a text, behind which only the line may end.
+/// What a buffer has of a text, after which only the line may end.
 pub(super) enum Line<'a> {
-    /// All of it, and what stands on the next lines behind white space.
+    /// All of it, and what stands on the next lines after white space.
     Whole(&'a [u8]),
     /// Its beginning: some bytes can follow.
     Cut,
@@ -49,7 +49,7 @@ pub(super) fn read_line(buf: &[u8]) -> Line<'_>
     }
 }
 
-/// What stands behind white space that ends the line, or nothing if the buffer ends in white space.
+/// What stands after white space that ends the line, or nothing if the buffer ends in white space.
 fn next_line(buf: &[u8]) -> Option<&[u8]>
     ensures { MatchOption result ((¬ CanBe (same_line ∷ []) buf.now)
         × (¬ CanBe (blanks ∷ []) buf.now)) (λ next. IsNextLine buf.now next.now) }
@@ -64,7 +64,7 @@ fn next_line(buf: &[u8]) -> Option<&[u8]>
     Some(&[])
 }
 
-/// What stands behind the white space at the front.
+/// What stands after the white space at the front.
 #[tactic(auto, using(std::proofs::lemmas::List::take_rest))]
 pub(super) fn past_blanks(buf: &[u8]) -> &[u8]
     ensures { IsPast buf.now result.now }
@@ -96,6 +96,6 @@ pub(super) fn is_bracket(byte: u8) -> bool
 pub(super) fn is_blank(byte: u8) -> bool
     ensures { IsTrue result ↔ IsBlank byte }
 {
-    // Most bytes are told by the first test or the second.
+    // Most bytes are decided by the first test or the second.
     byte == b' ' || byte < b' ' && matches!(byte, b'\t' | b'\n' | b'\r')
 }

@@ -13,15 +13,15 @@ use super::token::{Step, Token, after_char, after_integer, value_token};
 /// How deep brackets may be nested.
 const MOST_DEPTH: u32 = 128;
 
-/// What may come behind white space.
+/// What may come after white space.
 #[derive(Clone, Copy)]
 enum Due {
-    /// What stands first behind a bracket.
+    /// What stands first after a bracket.
     First,
     Value,
     Key,
     Colon,
-    /// What stands behind a value.
+    /// What stands after a value.
     After,
 }
 
@@ -75,7 +75,7 @@ impl Reader {
         matches!(self.next, Next::Closed) && self.depth == 0
     }
 
-    /// Reads a byte behind white space, and answers whether a text may go on so.
+    /// Reads a byte after white space, and answers whether a text may go on so.
     #[inline(always)]
     fn read(&mut self, due: Due, byte: u8) -> bool
         requires nested { IsNested self.old }
@@ -216,7 +216,7 @@ pub(super) enum Reading {
     Wrong,
 }
 
-/// Where the next byte behind white space stands, and what is due there.
+/// Where the next byte after white space stands, and what is due there.
 enum Place {
     At(usize, Due),
     /// In a token that is cut: some bytes can follow.
@@ -225,7 +225,7 @@ enum Place {
     Wrong,
 }
 
-/// Reads what is left of a token at that place, behind which this is due.
+/// Reads what is left of a token at that place, after which this is due.
 #[inline(always)]
 fn token_end(token: Token, buf: &[u8], at: usize, due: Due) -> Place
     requires { at ≤ length buf.now }
@@ -288,7 +288,7 @@ fn end_of(token: Token, buf: &[u8], at: usize, due: Due) -> Place
     Place::Cut
 }
 
-/// Reads the colon that is due behind a key, if it stands right there, as it mostly does.
+/// Reads the colon that is due after a key, if it stands right there, as it mostly does.
 #[inline(always)]
 fn past_colon(buf: &[u8], at: usize) -> Place
     requires { at ≤ length buf.now }

@@ -6,7 +6,7 @@ ghost use Rattle.infer_formats.specs.declared.json.token.Token.TheVariants.{Char
 
 use super::lines::past_blanks;
 
-/// Whether a whole token comes behind white space.
+/// Whether a whole token comes after white space.
 #[tactic(auto, using(crate::proofs::LineLemmas::by_first, crate::proofs::TokenLemmas::no_token, crate::proofs::TokenLemmas::tokens_past))]
 pub(super) fn has_token(buf: &[u8]) -> bool
     ensures { IsTrue result ↔ BehindBlanks BeginsToken buf.now }
@@ -53,7 +53,7 @@ fn is_structural(byte: u8) -> bool
 /// Where in a token the next byte stands.
 #[derive(Clone, Copy)]
 pub(super) enum Token {
-    /// In a string, behind a whole character or none.
+    /// In a string, after a whole character or none.
     Chars,
     /// Behind a backslash.
     Escape,

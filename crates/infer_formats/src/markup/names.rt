@@ -11,7 +11,7 @@ pub(super) fn begins_element(byte: u8) -> bool
 pub(super) fn is_xml_space(byte: u8) -> bool
     ensures { IsTrue result ↔ IsXmlSpace byte }
 {
-    // Most bytes are told by the first test.
+    // Most bytes are decided by the first test.
     byte <= b' ' && matches!(byte, b'\t' | b'\n' | b'\r' | b' ')
 }
 

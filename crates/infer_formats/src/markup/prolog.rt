@@ -1,4 +1,4 @@
-//! The prolog of markup, and the tag behind it.
+//! The prolog of markup, and the tag after it.
 ghost use Rattle.std.specs.Prelude.{◌≡◌, ◌↔◌, Some, ◌+◌, ◌++◌, ◌<◌, ◌≤◌, ℕ, List, Option, None, length, codes, slice_index, IsTrue, MatchOption};
 ghost use Rattle.infer_deep.specs.Places.{FindsPlace};
 ghost use Rattle.infer_formats.specs.Runs.{IsAfterLast, IsRun};
@@ -39,7 +39,7 @@ pub(super) struct Tag {
     pub(super) to: usize,
 }
 
-/// Where the prolog begins: behind a byte order mark, if there is one.
+/// Where the prolog begins: after a byte order mark, if there is one.
 pub(super) fn prolog_start(buf: &[u8]) -> usize
     ensures begins { BeginsAt buf.now result }
     ensures within { result ≤ length buf.now }
@@ -149,7 +149,7 @@ fn miscs_end(buf: &[u8], start: usize) -> Stop
     }
 }
 
-/// Whether "<" stands there and a byte of an element's name behind it.
+/// Whether "<" stands there and a byte of an element's name after it.
 #[inline(always)]
 fn starts_element(buf: &[u8], place: usize) -> bool
     requires { place ≤ length buf.now }
@@ -176,8 +176,8 @@ fn spaces_end(buf: &[u8], place: usize) -> usize
     buf.len()
 }
 
-/// Where the processing instruction or the comment ends that stands there, where no white space does. The byte behind
-/// its "<" tells which it is.
+/// Where the processing instruction or the comment ends that stands there, where no white space does. The byte after
+/// its "<" shows which it is.
 #[inline(always)]
 fn misc_end(buf: &[u8], place: usize) -> Option<usize>
     requires within { place ≤ length buf.now }
@@ -255,7 +255,7 @@ fn doctype_at(buf: &[u8], place: usize) -> Option<Doctype>
     Some(Doctype { name, close })
 }
 
-/// Where the ">" is that closes the declaration: the first from that place on, or behind an internal subset if "[" stands
+/// Where the ">" is that closes the declaration: the first from that place on, or after an internal subset if "[" stands
 /// before it.
 fn declaration_close(buf: &[u8], from: usize) -> Option<usize>
     requires { from ≤ length buf.now }
@@ -276,7 +276,7 @@ fn plain_end(buf: &[u8], from: usize) -> Option<usize>
     Some(from + memchr2(b'>', b'[', &buf[from..])?)
 }
 
-/// Where the ">" is that stands behind the internal subset which begins behind that bracket.
+/// Where the ">" is that stands after the internal subset which begins after that bracket.
 #[tactic(auto, using(crate::proofs::SubsetLemmas::subset_within))]
 fn subset_close(buf: &[u8], bracket: usize) -> Option<usize>
     requires { bracket < length buf.now }
@@ -366,7 +366,7 @@ fn read_name(buf: &[u8], from: usize) -> Option<Tag>
     let mut at = from;
     for to in from..buf.len() {
         let byte = buf[to];
-        // Most bytes are told by this test.
+        // Most bytes are decided by this test.
         if byte > b'>' {
             continue;
         }

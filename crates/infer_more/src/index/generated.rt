@@ -2,26 +2,26 @@
 //! row. Those below each built-in row stand in its order, but for those that are found by names, which have lists of their
 //! own.
 ghost use Rattle.std.specs.Prelude.{◌≡◌, [], ◌∷◌};
-ghost use Rattle.infer_more.specs.Index.{AreWaysBelow, IsWayBelow, told_texts};
+ghost use Rattle.infer_more.specs.Index.{AreWaysBelow, IsWayBelow, name_texts};
 
 use crate::index::Below::{ClassIds, Entries, Nothing, Packages, Programs, Roots, Tagged};
 use crate::index::search::below_at;
-use crate::index::{Below, Entry, Keyed, Named, Rooted, Spot, Texts, Told};
-use crate::listed::{Span, span};
+use crate::index::{Below, ByName, Entry, Keyed, Named, Rooted, Spot, Texts};
+use crate::row_data::span;
 
 /// How many further rows there are.
 pub const FURTHER_COUNT: usize = 931;
 
-/// The texts by which rows are told.
-static TOLD_TEXTS: &[u8] =
+/// The texts by which rows are found.
+static NAME_TEXTS: &[u8] =
     b"word/xl/ppt/visio/3D/\x84\x10\x0C\0\0\0\0\0\xC0\0\0\0\0\0\0F\x0B\r\x02\0\0\0\0\0\xC0\0\0\0\0\0\0F\x01\x12\x02\0\0\0\0\0\0\xC0\0\0\0\0\0F\x11\x1A\x02\0\0\0\0\0\xC0\0\0\0\0\0\0F\x14\x1A\x02\0\0\0\0\0\xC0\0\0\0\0\0\0F\xD1\xF9\x0C\xC2\xAE\x85\xD1\x11\xAA\xB4\0`\x97\xDAV\x1A:\x8F\xB7t\xC8\xC8\xD1\x11\xBE\x11\0\xC0O\xB6\xFA\xF1\0gaVT\xC1\xCE\x11\x85S\0\xAA\0\xA1\xF9[b\xFE.@\x99\x19\x1B\x10\x99\xAE\x04\x02\x1C\0p\x02\x13\x1A\x02\0\0\0\0\0\xC0\0\0\0\0\0\0FsvgCOLLADAFictionBookFeatureCollectionhttp://www.opengis.net/gmlMPDOntologyhttp://www.w3.org/2002/07/owl#Projecthttp://schemas.microsoft.com/developer/msbuild/2003Sdk=RDFhttp://purl.org/rss/1.0/http://www.w3.org/1999/02/22-rdf-syntax-ns#SCRIBUSUTF8NEWTSTEIhttp://www.tei-c.org/ns/1.0UIversion=Workbookhttp://www.gnumeric.org/v10.dtdX3DXMIamfarticlehttp://docbook.org/ns/docbookabiwordaudacityprojectchapterbusconfigcomponenttype=cmlcatmetadatadocumentapplication/vnd.oasis.opendocument.textdefinitionshttp://schemas.xmlsoap.org/wsdl/descriptionhttp://www.w3.org/ns/wsdldiagramhttp://www.lysator.liu.se/~alla/dia/application/vnd.oasis.opendocument.spreadsheetapplication/vnd.oasis.opendocument.presentationapplication/vnd.oasis.opendocument.graphicscom.apple.InterfaceBuilder3feedhttp://www.w3.org/2005/Atomgpxgrammarhttp://relaxng.org/ns/structure/1.0glade-interfacefontconfiggresourcesgnc-v2htmlhttp://www.w3.org/1999/xhtmlkmljnlpmetalinkurn:ietf:params:xml:ns:metalinkmodelhttp://schemas.microsoft.com/3dmanufacturingmuseScoremathmime-infohttp://www.freedesktop.org/standards/shared-mime-infomoleculehttp://www.xml-cml.org/schemaldmlopmlnzbncxnodename=osmplistpackagehttp://www.idpf.org/2007/opfhttp://maven.apache.org/POM/4.0.0playlisthttp://xspf.org/ns/0/http://audacity.sourceforge.net/xml/pkgmetadatasparqlhttp://www.w3.org/2005/sparql-results#shapehttp://www.daa.com.au/~james/dia-shape-nsstylesheethttp://www.w3.org/1999/XSL/Transformhttp://www.w3.org/2001/XMLSchemahttp://purl.oclc.org/dsdl/schematronscore-partwisescore-timewiserefentrysectionsetschemalistsmilsitemapindexsbmlsupplementalDatattFonttransformhttp://www.w3.org/ns/ttmlurlsetwordDocumenthttp://schemas.microsoft.com/office/word/2003/wordmlxliffxbelxmpmetaxkbConfigRegistryawkbuncjsclispcshcsicljclojuredenodartexpecteclexeclinebelixirfishgawkgjsguilegoshgroovygnuplotgmakegsedjrubyjulialualuajitlittlerluatexmawknodejsnawknftocamlocamlscriptocamlrunoctaveoctave-clipythonpypyperlphppwshpowershellqjsqmlqmlscenerhinorakurakudoracketRscriptrunhaskellrunghcsbclschemescalastackstaptclshtcshtexluautopwishASXAsxSAMIRCCasxhttp://www.w3.org/1998/Math/MathMLsamicellsPointPolygonLineStringMultiPolygonGeometryCollectionbomFormatasset$schemahttps://json-schema.org/draft/2020-12/schemahttps://json-schema.org/draft/2019-09/schemahttp://json-schema.org/draft-07/schema#http://json-schema.org/draft-06/schema#http://json-schema.org/draft-04/schema#http://json-schema.org/draft-03/schema#http://json-schema.org/schema#";
 
-#[tactic(auto, unfolding(crate::specs::Index::told_texts))]
+#[tactic(auto, unfolding(crate::specs::Index::name_texts))]
 #[inline(always)]
-pub(super) fn told_texts() -> &'static [u8]
-    ensures { result.now ≡ told_texts }
+pub(super) fn name_texts() -> &'static [u8]
+    ensures { result.now ≡ name_texts }
 {
-    TOLD_TEXTS
+    NAME_TEXTS
 }
 
 static BELOW_21: Below = Tagged(
@@ -31,7 +31,7 @@ static BELOW_21: Below = Tagged(
     entries![1 0x49 31, 1 0x4D 31, 1 0x49 749, 1 0x4D 749, 1 0x49 750, 1 0x4D 750, 1 0x49 751, 1 0x4D 751],
 );
 
-/// How the rows below built-in row 21 are told.
+/// How the rows below built-in row 21 are found.
 #[inline(always)]
 fn below_21() -> &'static Below
     ensures { IsWayBelow 21 result.now }
@@ -44,7 +44,7 @@ static BELOW_67: Below = Packages(
     named![0 5 7, 5 3 8, 8 4 9, 12 6 10, 18 3 11],
 );
 
-/// How the rows below built-in row 67 are told.
+/// How the rows below built-in row 67 are found.
 #[inline(always)]
 fn below_67() -> &'static Below
     ensures { IsWayBelow 67 result.now }
@@ -57,7 +57,7 @@ static BELOW_93: Below = ClassIds(
     named![21 16 19, 37 16 20, 53 16 21, 69 16 22, 85 16 22, 101 16 153, 117 16 335, 133 16 336, 149 16 337, 165 16 739],
 );
 
-/// How the rows below built-in row 93 are told.
+/// How the rows below built-in row 93 are found.
 #[inline(always)]
 fn below_93() -> &'static Below
     ensures { IsWayBelow 93 result.now }
@@ -69,7 +69,7 @@ static BELOW_95: Below = Roots(
     roots![() () () () () () () () () () () () () () () () () () () () () () () () () (181 3 () 54) () () () () () ()],
 );
 
-/// How the rows below built-in row 95 are told.
+/// How the rows below built-in row 95 are found.
 #[inline(always)]
 fn below_95() -> &'static Below
     ensures { IsWayBelow 95 result.now }
@@ -81,7 +81,7 @@ static BELOW_96: Below = Roots(
     roots![() (184 7 () 677) () (191 11 () 177, 202 17 (219 26) 703) () () (245 3 () 707) (248 8 (256 30) 180) (286 7 (293 51) 690, 286 7 (344 4) 690) (348 3 (351 24) 48, 348 3 (375 43) 702, 418 14 () 718) (432 2 () 179, 434 3 (437 27) 687, 464 2 (466 8) 693) (474 8 (482 31) 712) (513 3 () 678, 516 3 () 701) () () () (519 3 () 679, 522 7 (529 29) 686, 558 7 () 710, 565 15 () 723) (478 4 (529 29) 686, 580 7 (529 29) 686, 587 9 () 694, 596 9 (605 5) 699, 610 3 () 722, 613 11 () 725) (624 8 (632 39) 186, 671 11 (682 32) 676, 714 11 (725 25) 676, 750 7 (757 36) 711, 624 8 (793 46) 714, 624 8 (839 47) 715, 624 8 (886 43) 716, 624 8 (929 27) 724) (956 4 (960 27) 49, 987 3 () 51, 990 7 (997 35) 674, 1032 15 () 692, 1047 10 () 696, 1057 10 () 698, 1067 6 () 717) (1073 4 (1077 28) 52, 1038 9 () 178) (1105 3 () 50, 1108 4 () 184) (1112 8 (1120 31) 182, 1151 5 (1156 44) 680, 1200 9 () 682, 1209 4 () 683, 1213 9 (1222 53) 700, 1112 8 () 708, 1275 8 (1283 29) 722, 1312 4 () 728) (1316 4 () 176, 1320 3 () 183, 1323 3 () 689, 1326 4 (1330 5) 695, 1335 3 () 704) (1338 5 () 53, 1343 7 (1350 28) 688, 573 7 (1378 33) 691, 1411 8 (1419 21) 705, 573 7 (1440 36) 723, 1476 11 () 726) (181 3 () 47, 367 3 () 48, 1487 6 (1493 38) 181, 1531 5 (1536 41) 185, 1577 10 (1587 36) 672, 300 6 (1623 32) 673, 300 6 (1655 36) 675, 1691 14 () 681, 1705 14 () 681, 1719 8 () 686, 1727 7 (529 29) 686, 1734 3 (529 29) 686, 1737 10 () 697, 1747 4 () 706, 1751 12 () 720, 1763 4 () 721, 1767 16 () 728) (1783 6 () 187, 1789 9 (1587 36) 672, 220 2 (1798 25) 684, 335 2 (466 8) 693, 1823 6 () 720) (1829 12 (1841 52) 713) (1893 5 () 685, 1898 4 () 709, 1902 7 () 719, 1909 17 () 727) () () ()],
 );
 
-/// How the rows below built-in row 96 are told.
+/// How the rows below built-in row 96 are found.
 #[inline(always)]
 fn below_96() -> &'static Below
     ensures { IsWayBelow 96 result.now }
@@ -94,7 +94,7 @@ static BELOW_97: Below = Programs(
     buckets![() (1926 3 45) (1929 3 42) (1932 3 165, 1935 5 173, 1940 3 298, 1943 3 301, 1946 3 302, 1949 7 302) (1956 4 42, 1960 4 174) (1964 6 46, 715 7 170, 1970 3 173, 1973 9 314, 1982 6 317) (1988 4 299) (1992 4 45, 1996 3 165, 1999 5 301, 2004 4 301, 2008 6 303, 2014 7 310, 2021 5 311, 2026 4 312) () () (2030 5 41, 2035 5 308) () (2040 3 44, 2043 6 44, 2049 7 300, 2056 6 315) (2062 4 45, 2022 4 311) (1326 4 42, 2066 6 42, 2072 4 45, 2076 3 175) (2079 5 305, 2084 11 305, 2095 8 306, 2103 6 309, 2109 10 309) (2119 6 39, 2125 4 39, 2129 4 40, 2133 3 43, 2136 4 316, 2140 10 316) (2150 3 165, 2153 3 166, 2156 8 166) (2031 4 41, 2164 5 165, 2169 4 171, 2173 6 171, 2179 6 172, 2185 7 300, 2 1 300, 2192 10 307, 2202 6 307) (2208 4 173, 2212 6 301, 2218 5 304, 2223 5 307, 2027 3 312, 2228 4 313) (2232 5 46, 2237 4 298, 2241 6 315) (2247 4 305) () (2251 4 46) () () () () () () () ()],
 );
 
-/// How the rows below built-in row 97 are told.
+/// How the rows below built-in row 97 are found.
 #[inline(always)]
 fn below_97() -> &'static Below
     ensures { IsWayBelow 97 result.now }
@@ -209,7 +209,7 @@ static BELOW: &[Below] = &[
     Nothing,
 ];
 
-/// How the rows below each built-in row are told, but for these.
+/// How the rows below each built-in row are found, but for these.
 #[inline(always)]
 fn below_others() -> &'static [Below]
     ensures { AreWaysBelow (21 ∷ 67 ∷ 93 ∷ 95 ∷ 96 ∷ 97 ∷ []) result.now }
@@ -217,9 +217,9 @@ fn below_others() -> &'static [Below]
     BELOW
 }
 
-/// How the rows below this built-in row are told.
+/// How the rows below this built-in row are found.
 #[inline(always)]
-pub(super) fn told_below(parent: usize) -> &'static Below
+pub(super) fn way_listed(parent: usize) -> &'static Below
     ensures { IsWayBelow parent result.now }
 {
     match parent {
@@ -437,9 +437,9 @@ pub(crate) static ENTRIES: [Entry; 1044] = picked![
     32759 0x41 919, 32773 0x31 872, 32773 0x31 871, 32771 0x31 873
 ];
 
-pub(crate) static LED_SPOTS: [Spot; 1] = spots![0 0];
+pub(crate) static LEAD_SPOTS: [Spot; 1] = spots![0 0];
 
-pub(crate) static LED_STARTS: [u16; 257] = starts![
+pub(crate) static LEAD_STARTS: [u16; 257] = starts![
     0 34 44 51 59 64 65 69 70 72 95 122 124 124 145 147 147 148 149 150 153 154 155 156 157 158 160 162 166 168 169 172 175 196 199 200 237 243 253 254 257 264 264 271 271 271 274 282 285 294 300 307 312 316 319 323 330 333 337 338 343 362 365 365
     366 381 391 407 431 442 449 474 490 497 514 517 524 533 556 563 567 599 601 631 660 672 675 680 688 700 702 709 735 739 740 740 740 741 744 747 750 759 760 764 773 775 777 777 777 778 781 783 784 787 790 797 803 805 806 811 813 817 817 818 826 826 826 826
     828 834 836 836 837 839 841 841 841 842 851 852 854 855 855 855 855 855 855 855 856 857 859 859 860 861 866 866 866 866 866 866 866 866 867 867 867 867 867 867 867 867 867 867 869 869 869 869 869 869 870 870 870 870 870 871 872 872 872 872 872 872 872 872
@@ -447,7 +447,7 @@ pub(crate) static LED_STARTS: [u16; 257] = starts![
     1051
 ];
 
-pub(crate) static LED_ENTRIES: [Entry; 1051] = picked![
+pub(crate) static LEAD_ENTRIES: [Entry; 1051] = picked![
     1 0x01 83, 1 0x01 84, 1 0x00 86, 1 0x00 87, 1 0x00 199, 1 0x00 200, 1 0x4D 206, 1 0x00 211, 1 0x00 212, 1 0x00 217, 1 0x01 236, 1 0x02 236, 1 0x03 236, 1 0x04 236, 1 0x5A 245, 1 0x00 251,
     74 0x00 252, 1 0x05 253, 1 0x05 254, 1 0x00 266, 1 0x41 280, 1 0x00 281, 1 0x00 295, 1 0x00 296, 36 0x61 297, 1 0x00 432, 1 0x00 433, 1 0x6D 527, 1 0x70 527, 1 0x00 544, 1 0xFF 557, 1 0x61 598,
     1 0x00 619, 1 0x01 620, 1 0xDA 197, 1 0x2A 258, 1 0x41 280, 1 0x00 355, 1 0x00 356, 1 0xFA 620, 1 0x66 627, 1 0x67 644, 4 0x42 664, 1 0xFE 665, 1 0x21 92, 12 0x00 136, 1 0x41 280, 1 0x00 356,
@@ -532,7 +532,7 @@ pub(crate) static TEXTS: Texts = Texts {
     plain: 930,
 };
 
-pub(super) static TOLD: Told = Told {
+pub(super) static BY_NAME: ByName = ByName {
     roots: roots![(2255 3 () 735, 2258 3 () 735) () () () () () () () (286 7 (293 51) 731, 286 7 (344 4) 731) (2261 4 () 190, 2265 3 () 734) () () () () () () (2268 3 () 735) (587 9 () 737) () () () () (1209 4 (2271 34) 189, 1755 3 (466 8) 733) (1326 4 (1330 5) 736) (573 7 (1378 33) 732) (181 3 () 55, 2305 4 () 190, 1577 10 (1587 36) 729, 300 6 (1623 32) 730, 1747 4 () 738) (1789 9 (1587 36) 729) () (1902 7 () 188) () () ()],
     keys: keyed![2309 5 () 854, 605 4 (202 17) 855, 605 4 (202 7) 855, 605 4 (2314 5) 855, 605 4 (2319 7) 855, 605 4 (2326 10) 855, 605 4 (2336 12) 855, 605 4 (2348 18) 855, 2366 9 () 856, 2375 5 () 857, 2380 7 (2387 44) 858, 2380 7 (2431 44) 858, 2380 7 (2475 39) 858, 2380 7 (2514 39) 858, 2380 7 (2553 39) 858, 2380 7 (2592 39) 858, 2380 7 (2631 30) 858],
 };

@@ -7,20 +7,20 @@ ghost use Rattle.infer_formats.specs.FirstKey.{StandsFirst};
 ghost use Rattle.infer_formats.specs.Json.{IsBlank, IsJson, IsJsonLines};
 ghost use Rattle.infer_formats.specs.Tiff.{HasTag};
 ghost use Rattle.infer_formats.specs.Zip.{IsPackageWith};
-ghost use Rattle.infer_more.specs.Index.{AllApplications, AreClassIds, FindsBelow, HasKeyValue, HasTagText, IsFoundBelow, IsKeyed, IsKeyedBy, IsLeast, IsNamed, IsOfProgram, IsRooted, IsRootedBy, IsTextRow, IsTold, IsTried, IsWayBelow, MayBeTold, all_ascend, all_of, are_texts, ascends, below_at, bucket_at, bucket_of, candidate, candidates, has_byte, is_true_below, keyed_row, named_row, picked, rooted_row, roots_of, told_by, tried_at};
-ghost use Rattle.infer_more.specs.Listed.{stretch};
+ghost use Rattle.infer_more.specs.Index.{AllApplications, AreClassIds, FindsBelow, HasKeyValue, HasTagText, IsFoundBelow, IsKeyed, IsKeyedBy, IsLeast, IsNamed, IsOfProgram, IsRooted, IsRootedBy, IsTextRow, IsFoundByName, IsTried, IsWayBelow, MayHaveName, all_ascend, all_of, are_texts, ascends, below_at, bucket_at, bucket_of, candidate, candidates, has_byte, is_true_below, keyed_row, named_row, picked, rooted_row, roots_of, name_at, tried_at};
+ghost use Rattle.infer_evidence.specs.Spans.{stretch};
 ghost use Rattle.infer_more.specs.Wider.{IsWidened, WidensAt};
 ghost use Rattle.infer_more.specs.declared.index.generated.TheConstants.{FURTHER_COUNT};
 
 use crate::index::{
-    Below, Entry, FURTHER_COUNT, Keyed, Named, Parentless, Rooted, Spot, Texts, Told,
-    law_finds_parentless, told_by, told_without_parent, way_below, without_parent,
+    Below, ByName, Entry, FURTHER_COUNT, Keyed, Named, Parentless, Rooted, Spot, Texts,
+    law_finds_parentless, name_at, named_without_parent, way_below, without_parent,
 };
-use crate::listed::{self, stretch};
-use crate::table::widens;
+use crate::signature::widens;
 use infer::rows::ROW_COUNT;
 use infer_deep::doc::class_id;
 use infer_deep::places::stands_at;
+use infer_evidence::Span;
 use infer_formats::json::{Key, Kind, first_dark, first_key, kind_of};
 use infer_formats::markup::{Root, may_be_rooted, root_of};
 use infer_formats::script::program;
@@ -34,7 +34,7 @@ const BUCKETS: usize = 32;
 /// How many buckets of roots there are.
 const ROOT_BUCKETS: usize = 32;
 
-/// How rows past the last are told.
+/// How rows past the last are found.
 static NOTHING: Below = Below::Nothing;
 
 /// Whether the buffer has the byte at the place.
@@ -80,7 +80,7 @@ fn least_each(entries: &[Entry], parent: Option<usize>, buf: &[u8], before: usiz
 
 /// Where the entries stand that the buffer's own byte picks at the spot, if it picks some.
 #[inline(always)]
-pub(crate) fn span_picked(index: &Parentless, spot: &Spot, buf: &[u8]) -> Option<listed::Span>
+pub(crate) fn span_picked(index: &Parentless, spot: &Spot, buf: &[u8]) -> Option<Span>
     ensures { option_map_or (λ s. stretch index.now.entries.now s.start s.count) result []
         ≡ picked index.now buf.now spot.now }
 {
@@ -91,9 +91,9 @@ pub(crate) fn span_picked(index: &Parentless, spot: &Spot, buf: &[u8]) -> Option
     if end <= start {
         return None;
     }
-    Some(listed::Span {
-        start: u32::from(start),
-        count: u32::from(end - start),
+    Some(Span {
+        start,
+        count: end - start,
     })
 }
 
@@ -121,11 +121,11 @@ fn least_tried(entries: &[Entry], buf: &[u8], before: usize) -> usize
 /// The least of the number before and of the rows of these entries that widen the answer. It is not inlined, since few spots of
 /// a buffer pick an entry.
 #[inline(never)]
-fn least_of_span(entries: &[Entry], span: listed::Span, buf: &[u8], before: usize) -> usize
+fn least_of_span(entries: &[Entry], span: Span, buf: &[u8], before: usize) -> usize
     ensures { IsLeast (IsTried None buf.now
         (candidates buf.now (stretch entries.now span.start span.count))) before result }
 {
-    let entries = stretch(entries, span);
+    let entries = span.of(entries);
     if !is_one_tried(entries, buf) {
         return before;
     }
@@ -207,8 +207,8 @@ fn least_plain(texts: &Texts, buf: &[u8], before: usize) -> usize
 
 /// Whether the first byte is one with which markup or an object may begin: a no is certain.
 #[inline(always)]
-pub(crate) fn may_be_told(buf: &[u8]) -> bool
-    ensures { MayBeTold buf.now → IsTrue result }
+pub(crate) fn may_have_name(buf: &[u8]) -> bool
+    ensures { MayHaveName buf.now → IsTrue result }
 {
     match buf.first() {
         Some(byte) => matches!(byte, b'\t' | b'\n' | b'\r' | b' ' | b'<' | b'{' | 0xEF),
@@ -216,51 +216,51 @@ pub(crate) fn may_be_told(buf: &[u8]) -> bool
     }
 }
 
-/// The least of the number before and of the rows that are told by the root of markup, or by the first key of an object.
+/// The least of the number before and of the rows that are found by the root of markup, or by the first key of an object.
 #[inline(always)]
-fn least_told(told: &Told, buf: &[u8], before: usize) -> usize
-    requires roots { IsTrue (all_ascend rooted_row told.now.roots.now) }
-    requires keys { IsTrue (ascends keyed_row told.now.keys.now) }
-    ensures { IsLeast (IsTold told.now buf.now) before result }
+fn least_by_name(names: &ByName, buf: &[u8], before: usize) -> usize
+    requires roots { IsTrue (all_ascend rooted_row names.now.roots.now) }
+    requires keys { IsTrue (ascends keyed_row names.now.keys.now) }
+    ensures { IsLeast (IsFoundByName names.now buf.now) before result }
 {
     infer_formats::laws::leads();
-    if !may_be_told(buf) {
+    if !may_have_name(buf) {
         return before;
     }
     // Markup mostly begins so.
     if has_byte(buf, 0, b'<') {
-        return least_begun_markup(told.roots, buf, before);
+        return least_begun_markup(names.roots, buf, before);
     }
-    least_past_space(told, buf, before)
+    least_past_space(names, buf, before)
 }
 
-/// [`least_told`] by the first byte behind white space. It is not inlined, since few buffers begin so.
+/// [`least_by_name`] by the first byte after white space. It is not inlined, since few buffers begin so.
 #[inline(never)]
-fn least_past_space(told: &Told, buf: &[u8], before: usize) -> usize
-    requires roots { IsTrue (all_ascend rooted_row told.now.roots.now) }
-    requires keys { IsTrue (ascends keyed_row told.now.keys.now) }
-    ensures { IsLeast (IsTold told.now buf.now) before result }
+fn least_past_space(names: &ByName, buf: &[u8], before: usize) -> usize
+    requires roots { IsTrue (all_ascend rooted_row names.now.roots.now) }
+    requires keys { IsTrue (ascends keyed_row names.now.keys.now) }
+    ensures { IsLeast (IsFoundByName names.now buf.now) before result }
 {
     infer_formats::laws::leads();
     match first_dark(buf) {
-        Some(dark) => least_behind(dark, told, buf, before),
+        Some(dark) => least_behind(dark, names, buf, before),
         None => before,
     }
 }
 
-/// [`least_told`] of a buffer with this byte behind white space.
+/// [`least_by_name`] of a buffer with this byte after white space.
 #[inline(always)]
-fn least_behind(dark: u8, told: &Told, buf: &[u8], before: usize) -> usize
-    requires roots { IsTrue (all_ascend rooted_row told.now.roots.now) }
-    requires keys { IsTrue (ascends keyed_row told.now.keys.now) }
+fn least_behind(dark: u8, names: &ByName, buf: &[u8], before: usize) -> usize
+    requires roots { IsTrue (all_ascend rooted_row names.now.roots.now) }
+    requires keys { IsTrue (ascends keyed_row names.now.keys.now) }
     requires first { (¬ IsBlank dark) × StandsFirst dark buf.now }
-    ensures { IsLeast (IsTold told.now buf.now) before result }
+    ensures { IsLeast (IsFoundByName names.now buf.now) before result }
 {
-    let rooted = least_markup(dark, told.roots, buf, before);
-    least_object(dark, told.keys, buf, rooted)
+    let rooted = least_markup(dark, names.roots, buf, before);
+    least_object(dark, names.keys, buf, rooted)
 }
 
-/// [`least_root`] of a buffer with this byte behind white space, which need not be markup.
+/// [`least_root`] of a buffer with this byte after white space, which need not be markup.
 #[inline(always)]
 fn least_markup(dark: u8, roots: &'static [&'static [Rooted]], buf: &[u8], before: usize) -> usize
     requires ascend { IsTrue (all_ascend rooted_row roots.now) }
@@ -274,7 +274,7 @@ fn least_markup(dark: u8, roots: &'static [&'static [Rooted]], buf: &[u8], befor
     least_begun_markup(roots, buf, before)
 }
 
-/// [`least_key`] of a buffer with this byte behind white space, which need not be an object.
+/// [`least_key`] of a buffer with this byte after white space, which need not be an object.
 #[inline(always)]
 fn least_object(dark: u8, keys: &[Keyed], buf: &[u8], before: usize) -> usize
     requires ascend { IsTrue (ascends keyed_row keys.now) }
@@ -302,14 +302,14 @@ fn least_key(keys: &[Keyed], buf: &[u8], before: usize) -> usize
 /// Whether the key is the row's, and its value too.
 #[inline(always)]
 fn is_keyed(keyed: &Keyed, key: &Key<'_>) -> bool
-    ensures { IsTrue result ↔ (told_by keyed.now.key ≡ key.now.text.now)
+    ensures { IsTrue result ↔ (name_at keyed.now.key ≡ key.now.text.now)
         × HasKeyValue key.now.rest.now keyed.now.value }
 {
-    if key.text != told_by(keyed.key) {
+    if key.text != name_at(keyed.key) {
         return false;
     }
     match keyed.value {
-        Some(value) => key.has_value(told_by(value)),
+        Some(value) => key.has_value(name_at(value)),
         None => true,
     }
 }
@@ -344,10 +344,10 @@ fn least_begun_markup(roots: &'static [&'static [Rooted]], buf: &[u8], before: u
 fn least_parentless(buf: &[u8]) -> usize
     ensures { IsLeast (WidensAt None buf.now) FURTHER_COUNT result }
 {
-    let (index, told) = (without_parent(), told_without_parent());
-    law_finds_parentless(&index, told);
+    let (index, names) = (without_parent(), named_without_parent());
+    law_finds_parentless(&index, names);
     let tried = least_in_quarters(&index, index.spots, buf, FURTHER_COUNT);
-    let least = least_told(told, buf, tried);
+    let least = least_by_name(names, buf, tried);
     if least <= usize::from(index.texts.lines) {
         return least;
     }
@@ -355,9 +355,9 @@ fn least_parentless(buf: &[u8]) -> usize
 }
 
 fn is_named(named: &Named, name: &[u8]) -> bool
-    ensures { IsTrue result ↔ (told_by named.now.name ≡ name.now) }
+    ensures { IsTrue result ↔ (name_at named.now.name ≡ name.now) }
 {
-    told_by(named.name) == name
+    name_at(named.name) == name
 }
 
 /// The least of the number before and of the rows with this name, which is that of the first.
@@ -426,7 +426,7 @@ fn least_folder_at(folders: &[Named], buf: &[u8], place: usize, before: usize) -
         result }
 {
     for named in folders {
-        if stands_at(buf, told_by(named.name), place) {
+        if stands_at(buf, name_at(named.name), place) {
             return before.min(usize::from(named.row));
         }
     }
@@ -449,14 +449,14 @@ fn least_folder(folders: &[Named], buf: &[u8], before: usize) -> usize
 /// Whether the root element has the row's name, and its text in the tag.
 #[inline(always)]
 fn is_rooted(rooted: &Rooted, root: &Root<'_>) -> bool
-    ensures { IsTrue result ↔ (told_by rooted.now.name ≡ root.now.name.now)
+    ensures { IsTrue result ↔ (name_at rooted.now.name ≡ root.now.name.now)
         × HasTagText root.now.rest.now rooted.now.text }
 {
-    if root.name != told_by(rooted.name) {
+    if root.name != name_at(rooted.name) {
         return false;
     }
     match rooted.text {
-        Some(text) => root.has_in_tag(told_by(text)),
+        Some(text) => root.has_in_tag(name_at(text)),
         None => true,
     }
 }
@@ -475,7 +475,7 @@ fn least_rooted(roots: &[Rooted], root: &Root<'_>, before: usize) -> usize
     before
 }
 
-/// The bucket of the name of a root, by five bits of its first byte, of which one tells small letters from others.
+/// The bucket of the name of a root, by five bits of its first byte, of which one distinguishes small letters from others.
 #[inline(always)]
 fn roots_of(buckets: &'static [&'static [Rooted]], name: &[u8]) -> &'static [Rooted]
     ensures { result.now ≡ roots_of buckets.now name.now }
@@ -557,7 +557,7 @@ fn least_found(below: &Below, row: usize, buf: &[u8]) -> usize
     }
 }
 
-/// How the rows below this built-in row are told.
+/// How the rows below this built-in row are found.
 #[inline(always)]
 pub(super) fn below_at(ways: &'static [Below], i: usize) -> &'static Below
     ensures { result.now ≡ below_at ways.now i }
@@ -568,7 +568,7 @@ pub(super) fn below_at(ways: &'static [Below], i: usize) -> &'static Below
     }
 }
 
-/// The least row that widens this answer, below which others are told in this way, or their count.
+/// The least row that widens this answer, below which others are found in this way, or their count.
 #[inline(never)]
 fn least_in(way: &Below, row: usize, buf: &[u8]) -> usize
     requires each { IsWayBelow row way.now }
@@ -588,7 +588,7 @@ pub(crate) fn least_widening(parent: Option<usize>, buf: &[u8]) -> usize
     }
 }
 
-/// [`found`] of a row below which others are told in this way.
+/// [`found`] of a row below which others are found in this way.
 #[inline(always)]
 fn found_in(way: &Below, row: usize, buf: &[u8]) -> usize
     requires each { IsWayBelow row way.now }

@@ -20,7 +20,7 @@ pub struct Entry<'a> {
     ghost tells: { (own : Row) → line_of line.now ≡ Some (Some own) → (digest ≡ digest_of own.parent) × IsLead lead own.signature },
 }
 
-/// The first rows of a text, and what it has behind them.
+/// The first rows of a text, and what it has after them.
 #[derive(Clone, Copy)]
 pub struct Entries<'a> {
     pub items: [Entry<'a>; 160],

@@ -1,12 +1,12 @@
 //! The lists of the table, which `tools/tables` makes from names.txt, each with what it lists.
 ghost use Rattle.std.specs.Prelude.{◌≡◌, IsAscii, length, map};
 ghost use Rattle.infer_named.specs.Listed.{key_listed, key_texts, mime_types, ranges, readings, row_spans, row_texts};
-ghost use Rattle.infer_named.specs.Marks.{whole_marks};
 ghost use Rattle.infer_named.specs.Slots.{starts};
 ghost use Rattle.infer_named.specs.Table.{keys};
 
-use crate::table::{Key, Reading, Span};
-use keys::{KEYS, READINGS, STARTS, WHOLE_MARKS};
+use crate::table::{Key, Reading};
+use infer_evidence::Span;
+use keys::{KEYS, READINGS, STARTS};
 use sets::{RANGES, ROWS};
 use texts::{KEY_TEXTS, MIME_TYPES, ROW_TEXTS};
 
@@ -22,13 +22,6 @@ pub(crate) fn starts() -> &'static [u16]
     &STARTS
 }
 
-/// For each mark whether a whole name has it.
-pub(crate) fn whole_marks() -> &'static [u8]
-    ensures { result.now ≡ whole_marks }
-{
-    &WHOLE_MARKS
-}
-
 /// All keys, in the order of their slots.
 pub(crate) fn all_keys() -> &'static [Key]
     ensures { map key_listed result.now ≡ keys }
@@ -37,6 +30,7 @@ pub(crate) fn all_keys() -> &'static [Key]
 }
 
 /// The texts of the keys, each behind the other.
+#[tactic(auto, unfolding(crate::specs::Listed::key_texts))]
 pub(crate) fn key_texts() -> &'static [u8]
     ensures { result.now ≡ key_texts }
 {
@@ -44,6 +38,7 @@ pub(crate) fn key_texts() -> &'static [u8]
 }
 
 /// The readings of all keys.
+#[tactic(auto, unfolding(crate::specs::Listed::readings))]
 pub(crate) fn all_readings() -> &'static [Reading]
     ensures { result.now ≡ readings }
 {
@@ -59,6 +54,7 @@ pub(crate) fn mime_types() -> &'static str
 }
 
 /// The ranges of rows of the sets, one set behind the other.
+#[tactic(auto, unfolding(crate::specs::Listed::ranges))]
 pub(crate) fn all_ranges() -> &'static [Span]
     ensures { result.now ≡ ranges }
 {
@@ -66,6 +62,7 @@ pub(crate) fn all_ranges() -> &'static [Span]
 }
 
 /// Where the texts of the rows stand.
+#[tactic(auto, unfolding(crate::specs::Listed::row_spans))]
 pub(crate) fn row_spans() -> &'static [Span]
     ensures { result.now ≡ row_spans }
 {

@@ -3,7 +3,8 @@ ghost use Rattle.std.specs.Prelude.{◌≡◌};
 ghost use Rattle.infer_named.specs.Listed.{lists_of_texts};
 ghost use Rattle.infer_named.specs.Texts.{lead_lists};
 
-use crate::table::{Span, lists, span, spans};
+use crate::table::{lists, span, spans};
+use infer_evidence::Span;
 
 /// Where the text of a row stands and how long it is.
 pub(crate) static ROWS: [Span; 979] = spans![

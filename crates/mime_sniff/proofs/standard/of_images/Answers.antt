@@ -11,4 +11,4 @@ returns-then-is_empty c =
     tells_empty c.args.header.now (omega (arith, c.type_inv.header 0)) images images_is none
 
 pub returns : goal.returns
-returns c = tells_led c.args.header.now (omega (arith, c.type_inv.header 0)) images _ images_is c.image_led_by.ensures
+returns c = tells_led c.args.header.now (omega (arith, c.type_inv.header 0)) images _ images_is (rw c.images.ensures at c.first_type.ensures)

@@ -1,4 +1,4 @@
-use Rattle.infer_more.proofs.Common.{OccursAt, IsPackageWith, IsNamed, named_row, told_by}
+use Rattle.infer_more.proofs.Common.{OccursAt, IsPackageWith, IsNamed, named_row, name_at}
 use Rattle.infer_more.proofs.LeastLemmas.{least_none, least_same, no_rows, rows_same}
 use Rattle.infer_more.proofs.index.search.least_folder.Goals as goal
 
@@ -14,5 +14,5 @@ returns-in-Some c =
 
 pub returns-in-None : goal.returns-in-None
 returns-in-None c =
-    least_none _ c.args.before (no_rows named_row (λ e. IsPackageWith (told_by e.name) c.args.buf.now) c.args.folders.now
+    least_none _ c.args.before (no_rows named_row (λ e. IsPackageWith (name_at e.name) c.args.buf.now) c.args.folders.now
     (λ k d lt. c.in-None.ensures _ (c.requires.application k d lt)))

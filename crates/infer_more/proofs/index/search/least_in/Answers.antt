@@ -4,7 +4,7 @@ use Rattle.infer_more.proofs.OutlineLemmas.{buffer_of}
 use Rattle.infer_more.proofs.index.search.least_in.Goals as goal
 
 pub least_found-requires : goal.least_found-requires
-least_found-requires c = c.requires.each.told
+least_found-requires c = c.requires.each.names
 
 pub returns : goal.returns
 returns c =
