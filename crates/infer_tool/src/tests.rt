@@ -1,4 +1,4 @@
-//! What no clause says: that calls succeed, what a failed write leaves after, how many writes there are, and what is
+//! What no clause says: that calls succeed, what a failed write leaves, how many writes there are, and what is
 //! asked of memory. Lines, statuses and words are asked of the program as a process, by `process-tests`.
 use crate::lines::run_lines;
 use crate::report::{report, run_path, run_path_within, run_reader};
