@@ -26,7 +26,7 @@ ghost use Rattle.infer_more.specs.Index.{{AreWaysBelow, IsWayBelow, name_texts}}
 
 use crate::index::Below::{{ClassIds, Entries, Nothing, Packages, Programs, Roots, Tagged}};
 use crate::index::search::below_at;
-use crate::index::{{Below, ByName, Entry, Keyed, Named, Rooted, Spot, Texts}};
+use crate::index::{{Below, ByName, Entry, Named, Spot, Texts}};
 use crate::row_data::span;
 
 /// How many further rows there are.
@@ -103,8 +103,8 @@ TEXT = r"""(?:"(?:[^"\\]|\\.)*"|'(?:[^'\\]|\\.)*')"""
 TEXT_OF_BYTES = rf"b{TEXT}"
 # The longest line of code.
 WIDTH = 100
-# How many buckets of programs there are, and of roots.
-BUCKETS, ROOT_BUCKETS = 32, 32
+# How many buckets of names there are.
+BUCKETS = 32
 # Zeros stand near the front of many buffers.
 FRONT = 32
 # What an entry costs a buffer that picks it, the first one of a byte beside that, and a byte that is common in texts.
@@ -225,7 +225,7 @@ def outlines_of(name):
     [said] = [text for it, text in lines if it.replace("_", "") == name.lower()] or [""]
     try:
         return [allowed(it) for it in term_of(said)]
-    except (AttributeError, TypeError, Unread, ValueError):
+    except (AttributeError, IndexError, TypeError, Unread, ValueError):
         return []
 
 
@@ -405,15 +405,16 @@ def name_at(rows, name):
     return [(some[0], f"{some[0]} ({' '.join(some[1:])}) {k}") for some, k in both]
 
 
-def in_buckets(listed, many, part=1):
-    """Texts in so many buckets by that part of their first byte, each with what code has of it."""
-    buckets = [[said for text, said in listed if ast.literal_eval(text)[0] // part % many == n] for n in range(many)]
-    return " ".join(f"({', '.join(some)})" for some in buckets)
+def in_buckets(rows, name):
+    """The names of the alternatives of that name, in buckets by five bits of their first byte, of which one distinguishes small
+    letters from others."""
+    buckets = [[said for text, said in name_at(rows, name) if ast.literal_eval(text)[0] // 2 % BUCKETS == n] for n in range(BUCKETS)]
+    return "buckets![" + " ".join(f"({', '.join(some)})" for some in buckets) + "]"
 
 
-def rooted(rows):
-    """The rows, each with its number, that ask for a root."""
-    return f"roots![{in_buckets(name_at(rows, 'Root'), ROOT_BUCKETS, 2)}]"
+def in_one(rows, name):
+    """And those names in one list."""
+    return f"named!{bracketed(said for _, said in name_at(rows, name))}"
 
 
 def tried_beside(rows, kinds):
@@ -427,23 +428,20 @@ def below(rows):
     if not rows:
         return "Nothing", []
     if "ClassId" in kinds:
-        ids = bracketed(f"{it} {k}" for some, k in names(rows, "ClassId") for it in some)
-        return "ClassIds", [tried_beside(rows, {"ClassId"}), f"named!{ids}"]
+        return "ClassIds", [tried_beside(rows, {"ClassId"}), in_one(rows, "ClassId")]
     if "Program" in kinds:
-        listed = [(it, f"{it} {k}") for some, k in names(rows, "Program") for it in some]
-        return "Programs", [tried_beside(rows, {"Program"}), f"buckets![{in_buckets(listed, BUCKETS)}]"]
+        return "Programs", [tried_beside(rows, {"Program"}), in_buckets(rows, "Program")]
     if kinds & TAGGED:
         tags = sorted({int(it.takes.partition(",")[0], 0) for _, row in rows for it in row.signature if it.name in TAGGED})
         tagged = [(k, row) for k, row in rows if TAGGED & {it.name for it in row.signature}]
         asked_for = [(k, [it for own in row.signature if own.name in TAGGED for it in own.outlines]) for k, row in tagged]
         return "Tagged", [tried_beside(rows, TAGGED), f"0x{tags[0]:04X}", f"0x{tags[-1]:04X}", f"entries!{in_list(entries(asked_for))}"]
     if kinds <= {"Root", "RootWith"}:
-        return "Roots", [rooted(rows)]
+        return "Roots", [in_buckets(rows, "Root")]
     told = {"PackageWith"} & kinds
     if not told:
         return "Entries", [f"entries!{in_list(entries([(k, row.outlines()) for k, row in rows]))}"]
-    folders = bracketed(f"{some[0]} {k}" for some, k in names(rows, "PackageWith"))
-    return "Packages", [tried_beside(rows, told), f"named!{folders}"]
+    return "Packages", [tried_beside(rows, told), in_one(rows, "PackageWith")]
 
 
 def in_lines_of_code(name, takes, before, after=";"):
@@ -519,8 +517,8 @@ def lists(rows, parents, texts):
     yield "};"
     own = [(k, row) for k, row in numbered if not row.parent]
     yield "\npub(super) static BY_NAME: ByName = ByName {"
-    yield in_spans(f"    roots: {rooted(own)},", texts)
-    yield in_spans(f"    keys: keyed!{bracketed(said for _, said in name_at(own, 'FirstKey'))},", texts)
+    yield in_spans(f"    roots: {in_buckets(own, 'Root')},", texts)
+    yield in_spans(f"    keys: {in_one(own, 'FirstKey')},", texts)
     yield "};"
 
 

@@ -113,7 +113,7 @@ def check_written(row, number, parents):
         if name not in types_text.names():
             refuse(SPECS, line, f"{label} asks for {name}, which tools/types_text.py cannot write in the notation: add it to NAMES there")
         if name not in further_index.NAMED and name not in further_index.OUTLINES and not further_index.outlines_of(name):
-            refuse(SPECS, line, f"{label} asks for {name}, of which tools/further_index.py knows no bytes: add it to OUTLINES there")
+            refuse(SPECS, line, f"{label} asks for {name}, of which tools/further_index.py knows no bytes: add it to NAMED or OUTLINES there")
     try:
         told = types_text.line(row, parents).strip()
     except (AttributeError, IndexError, SyntaxError, TypeError, ValueError):

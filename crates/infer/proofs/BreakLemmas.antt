@@ -3,7 +3,7 @@
 use Rattle.infer.proofs.Common.{◌≡◌, ◌⊎◌, ◌≢◌, ◌+◌, ◌<◌, ◌∷◌, ◌++◌, le_refl, zero-le, suc, ℕ, not, List, [], Option, None, Some, length, get_or, take, IsTrue, refl, codes, inl, inr, arith, slice_get_past, compound_header, word_id, old_excel_id, powerpoint_id, OccursAt, le16, le32, be32, zip_header, BeginsMarked, stands, Beginning, Begins, BeginsAlone, last_after, BuiltIn, framed, heif, avif, office, doc, xls, ppt, html, xml, Breaks, is_far_row, put, sample_of, zeros, signature_of, table, MSI, PDF, ROW_COUNT, ZIP, OpenBox, Compound, Archive, Frame, White, Mark}
 use Rattle.std.proofs.lemmas.Option.{none-some, same_Some}
 use Rattle.infer_deep.specs.Laws as Deep
-use Rattle.infer.proofs.DecisionLemmas.{occurs, behind, long_frame, space, wide_mark}
+use Rattle.infer.proofs.DecisionLemmas.{occurs, after, long_frame, space, wide_mark}
 use Rattle.infer_sig.proofs.KnownLemmas.{Known, proved, is, each_known, proof_of, same, at_most, negated, both, either, each_before, needs, takes, ◌>>=◌}
 use Rattle.infer.proofs.OrderLemmas.{known_first, some_row}
 use Rattle.infer_sig.proofs.OccurrenceLemmas.{ByPlace, not_both}
@@ -30,13 +30,13 @@ late_entries folder =
 abbrev late : BuiltIn → List ℕ × Option ℕ
 late heif = (long_box (sample_of heif), None)
 late avif = (long_box (sample_of avif), None)
-late (framed magic) = (behind 1 long_frame magic, None)
+late (framed magic) = (after 1 long_frame magic, None)
 late (office folder) = (late_entries folder, Some ZIP)
 late doc = (late_root word_id, Some MSI)
 late xls = (late_root old_excel_id, Some MSI)
 late ppt = (late_root powerpoint_id, Some MSI)
-late html = (behind 1024 space (sample_of html), None)
-late xml = (behind 1024 space (sample_of xml), None)
+late html = (after 1024 space (sample_of html), None)
+late xml = (after 1024 space (sample_of xml), None)
 late s = ([], None)
 
 abbrev differs : (i : ℕ) (o : Option ℕ) → Known (o ≢ Some i)
@@ -119,7 +119,7 @@ module _ (by_place : ByPlace) (b : List ℕ) where
 
 -- a buffer that begins so alone, to which bytes after the first 1024 bring the last row that can come
 abbrev late_after : Beginning → List ℕ × Option ℕ
-late_after Mark = (behind 512 wide_mark (sample_of xml), None)
+late_after Mark = (after 512 wide_mark (sample_of xml), None)
 late_after how = late (signature_of (last_after how))
 
 -- one that its 1024th byte decides, and that states no frame which would fit

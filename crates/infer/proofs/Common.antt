@@ -2,12 +2,12 @@
 pub use Rattle.infer.specs.Arrivals.{Begins, BeginsAlone, Comes, IsAwaited, NewcomersAreAwaited}
 pub use Rattle.infer.specs.Arrivals.{last_after, last_awaited}
 pub use Rattle.infer.specs.Buffer.{head, IsBuffer}
-pub use Rattle.infer.specs.BuiltIn.{BuiltIn, IsAccepted, TellsAccepted}
+pub use Rattle.infer.specs.BuiltIn.{BuiltIn, IsAccepted, DecidesAccepted}
 pub use Rattle.infer.specs.BuiltIn.{avif, doc, fixed, framed, heif, html, matroska, office, pdf, ppt, xls, xml}
 pub use Rattle.infer.specs.Caller.{Contracts, Contract, Allows, FixesAnswers}
 pub use Rattle.infer.specs.Decided.{AllowsExactly, AnswersAreOpen, CanBeDecided, DecidedByRows, DecidedLasts, IsAnswerForGood}
-pub use Rattle.infer.specs.Decided.{FirstOpenComes, IsChangeable, IsDecided, IsToldExactly, MayBecomeRow, ReachNarrows}
-pub use Rattle.infer.specs.Decided.{TellsMayBecome}
+pub use Rattle.infer.specs.Decided.{FirstOpenComes, IsChangeable, IsDecided, IsDecidedExactly, MayBecomeRow, ReachNarrows}
+pub use Rattle.infer.specs.Decided.{DecidesMayBecome}
 pub use Rattle.infer.specs.Decided.{rows_before}
 pub use Rattle.infer.specs.First.{IsFirstOf, IsFirst, NoneHas, IsAnswer, SomeHas}
 pub use Rattle.infer.specs.Laws.{AnswersAreLocal, AnswersAsBuiltIn, AnyLasts, Breaks, FrontDecides, IsNotLater}

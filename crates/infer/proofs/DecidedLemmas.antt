@@ -1,5 +1,5 @@
 -- A buffer is decided just if none of the rows before its answer may still accept it.
-use Rattle.infer.proofs.Common.{IfSome, IsAnswerForGood, AllWithin-more, add-one, ◌≡◌, ◌↔◌, ◌<◌, ◌≤◌, le_refl, ◌∙◌, sym, refl, zero, suc, ℕ, Bool, true, List, [], ◌∷◌, ◌++◌, length, get_or, Option, None, Some, All, IsTrue, subst, append_assoc, append-nil, arith, AllPass-from_list_all, All-append, All-nil, AllWithin-none, AllWithin, list_all, MayBecome, MayBecomeIsExact, is_sound, Alternative, stands, BuiltIn, fixed, IsAccepted, IsBuffer, CanBeDecided, DecidedByRows, DecidedLasts, FirstOpenComes, IsChangeable, IsDecided, IsToldExactly, MayBecomeRow, ReachNarrows, TellsMayBecome, rows_before, IsFirst, IsFirstOf, NoneHas, Leads, candidates_of, Lasts, signatures, Row, Accepts, signature_of, table, IsFirstAmong, RowHas, EXE}
+use Rattle.infer.proofs.Common.{IfSome, IsAnswerForGood, AllWithin-more, add-one, ◌≡◌, ◌↔◌, ◌<◌, ◌≤◌, le_refl, ◌∙◌, sym, refl, zero, suc, ℕ, Bool, true, List, [], ◌∷◌, ◌++◌, length, get_or, Option, None, Some, All, IsTrue, subst, append_assoc, append-nil, arith, AllPass-from_list_all, All-append, All-nil, AllWithin-none, AllWithin, list_all, MayBecome, MayBecomeIsExact, is_sound, Alternative, stands, BuiltIn, fixed, IsAccepted, IsBuffer, CanBeDecided, DecidedByRows, DecidedLasts, FirstOpenComes, IsChangeable, IsDecided, IsDecidedExactly, MayBecomeRow, ReachNarrows, DecidesMayBecome, rows_before, IsFirst, IsFirstOf, NoneHas, Leads, candidates_of, Lasts, signatures, Row, Accepts, signature_of, table, IsFirstAmong, RowHas, EXE}
 use Rattle.std.specs.Bool.{then_some}
 use Rattle.std.proofs.lemmas.Option.{slice_get_cases}
 use Rattle.infer.proofs.TableLemmas.{signature_has}
@@ -50,17 +50,17 @@ unfolding signature_of
 sound_at i = grind (arith, slice_get_cases, AllPass-from_list_all (λ r. is_sound_if_fixed r.signature) table rows_sound)
 
 module _ (opens : (s : List Alternative) → IsTrue (is_sound s) → MayBecomeIsExact s) (b : List ℕ) (r : Bool) where
-  told : (s : BuiltIn) → IsTrue (is_sound_if_fixed s) → TellsMayBecome s b r → IsTrue r ↔ MayBecome (IsAccepted s) b
+  told : (s : BuiltIn) → IsTrue (is_sound_if_fixed s) → DecidesMayBecome s b r → IsTrue r ↔ MayBecome (IsAccepted s) b
   told (fixed alternatives) sound same = let open_it = opens alternatives sound b in (λ t. open_it.0 (sym same ∙ t), λ h. same ∙ open_it.1 h)
   told s sound h = h
 
-  pub told_of_row : (i : ℕ) → TellsMayBecome (signature_of i) b r → IsTrue r ↔ RowHas (MayBecomeRow b) i
-  told_of_row i tells =
-      let both = told (signature_of i) (sound_at i) tells in
+  pub told_of_row : (i : ℕ) → DecidesMayBecome (signature_of i) b r → IsTrue r ↔ RowHas (MayBecomeRow b) i
+  told_of_row i proves =
+      let both = told (signature_of i) (sound_at i) proves in
       let same = signature_has (λ s. MayBecome (IsAccepted s) b) (λ (more, bytes, h). absurd (cc)) i in
       (λ t. same.0 (both.0 t), λ h. both.1 (same.1 h))
 
-pub open_signatures : ((s : List Alternative) → IsTrue (is_sound s) → MayBecomeIsExact s) → All IsToldExactly signatures
+pub open_signatures : ((s : List Alternative) → IsTrue (is_sound s) → MayBecomeIsExact s) → All IsDecidedExactly signatures
 open_signatures opens i d lt b r = told opens b r (get_or signatures i d) (AllPass-from_list_all is_sound_if_fixed signatures all_sound i d lt)
 
 -- ---- the first row that may accept

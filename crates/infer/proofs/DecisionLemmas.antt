@@ -11,10 +11,10 @@ use Rattle.infer_sig.proofs.OccurrenceLemmas as Place
 
 -- ---- words of one kind, as white space and frames, and then a text
 
-abbrev pub behind : ℕ → List ℕ → List ℕ → List ℕ
-behind n word rest = concat (replicate n word) ++ rest
+abbrev pub after : ℕ → List ℕ → List ℕ → List ℕ
+after n word rest = concat (replicate n word) ++ rest
 
-skips : (P : List ℕ → Type 0) (n : ℕ) (word rest b : List ℕ) → P word → b ≡ behind n word rest → SkipsTo P b rest
+skips : (P : List ℕ → Type 0) (n : ℕ) (word rest b : List ℕ) → P word → b ≡ after n word rest → SkipsTo P b rest
 skips P n word rest b h e = record { words = replicate n word; each = recursion_from_All P (replicate n word) (All-replicate P n word h); whole = e }
 
 abbrev pub space : List ℕ
@@ -30,10 +30,10 @@ long_frame = 0x50 ∷ 0x2A ∷ 0x4D ∷ 0x18 ∷ 0xFC ∷ 0x03 ∷ 0x00 ∷ 0x00
 
 -- ---- text
 
-spaced : (n : ℕ) (rest b : List ℕ) → b ≡ behind n space rest → SkipsTo IsSpace b rest
+spaced : (n : ℕ) (rest b : List ℕ) → b ≡ after n space rest → SkipsTo IsSpace b rest
 spaced n rest b e = skips IsSpace n space rest b (0x20, inr (inr (inr (inr refl))), refl) e
 
-pub spaced_html : (n : ℕ) (b : List ℕ) → b ≡ behind n space (codes "<P>") → IsHtml b
+pub spaced_html : (n : ℕ) (b : List ℕ) → b ≡ after n space (codes "<P>") → IsHtml b
 spaced_html n b e =
     let tag : BeginsWithTag (codes "<P") (codes "<P>") = record { word = codes "<P"; end = 0x3E; rest = []; same = refl; closes = inr refl; whole = refl } in
     (codes "<P>", spaced n (codes "<P>") b e, (15, codes "<P", omega arith, refl, tag))
@@ -46,10 +46,10 @@ unskipped b = record { words = []; each = tt; whole = refl }
 pub tagged_xml : (b marked : List ℕ) → SkipsTo IsSpace b marked → SkipsTo IsMark marked (codes "<?xml") → IsXml b
 tagged_xml b marked spaces marks = (marked, spaces, (codes "<?xml", marks, record { word = codes "<?xml"; rest = []; same = refl; whole = refl }))
 
-pub spaced_xml : (n : ℕ) (b : List ℕ) → b ≡ behind n space (codes "<?xml") → IsXml b
+pub spaced_xml : (n : ℕ) (b : List ℕ) → b ≡ after n space (codes "<?xml") → IsXml b
 spaced_xml n b e = tagged_xml b (codes "<?xml") (spaced n (codes "<?xml") b e) (unskipped (codes "<?xml"))
 
-pub marked_xml : (n : ℕ) (b : List ℕ) → b ≡ behind n wide_mark (codes "<?xml") → IsXml b
+pub marked_xml : (n : ℕ) (b : List ℕ) → b ≡ after n wide_mark (codes "<?xml") → IsXml b
 marked_xml n b e = tagged_xml b b (unskipped b) (skips IsMark n wide_mark (codes "<?xml") b (inr (inl refl)) e)
 
 -- a byte that is "<" in some case
@@ -75,9 +75,9 @@ xml_opens b (marked, spaces, (text, marks, h)) =
 pub stands_whole : (text : List ℕ) → OccursAt text text 0
 stands_whole text = OccursAt-begins text text [] (sym (append-nil text))
 
-pub framed_behind : ByPlace → (n : ℕ) (magic b : List ℕ) → b ≡ behind n long_frame magic → IsFramed magic b
+pub framed_after : ByPlace → (n : ℕ) (magic b : List ℕ) → b ≡ after n long_frame magic → IsFramed magic b
 unfolding le32 stands
-framed_behind by_place n magic b e = grind (arith, skips, stands_whole)
+framed_after by_place n magic b e = grind (arith, skips, stands_whole)
 
 le32-front : (b front rest : List ℕ) → b ≡ front ++ rest → 8 ≤ length front → le32 b 4 ≡ le32 front 4
 unfolding le32
@@ -177,8 +177,8 @@ module _ (by_place : ByPlace) (b : List ℕ) where
     refuted_if (lacks 0 (suc (length b)) magic b) (λ none h. let (p, o) = framed_somewhere magic b h in nowhere_from by_place magic b 0 p (omega arith) none o)
     begins ← needs (either (same_text (take (length magic) b) magic) (at_most (8 + le32 b 4) (length b)))
         (λ (rest, s, o). begins_framed magic b s.words _ s.each (s.whole ∙ ap (λ u. concat s.words ++ u) (begins-from_OccursAt rest magic o)))
-    equal ← takes (same_text b (behind (length b / 1028) long_frame magic))
-    proved (framed_behind by_place (length b / 1028) magic b equal)
+    equal ← takes (same_text b (after (length b / 1028) long_frame magic))
+    proved (framed_after by_place (length b / 1028) magic b equal)
   known heif =
       both boxed (either (occurs 8 (codes "heic")) (either (occurs 8 (codes "heix"))
       (both (either (occurs 8 (codes "mif1")) (occurs 8 (codes "msf1"))) (compatible (codes "heic")))))
@@ -199,9 +199,9 @@ module _ (by_place : ByPlace) (b : List ℕ) where
   known ppt = known_class by_place b powerpoint_id
   known html = do
     some ← needs (is (list_any is_opening b)) (html_opens b)
-    equal ← takes (same_text b (behind (length b - 3) space (codes "<P>")))
+    equal ← takes (same_text b (after (length b - 3) space (codes "<P>")))
     proved (spaced_html (length b - 3) b equal)
   known xml = do
     some ← needs (is (list_any is_opening b)) (xml_opens b)
-    (do equal ← takes (same_text b (behind (length b - 5) space (codes "<?xml"))); proved (spaced_xml (length b - 5) b equal))
-    (do equal ← takes (same_text b (behind ((length b - 5) / 2) wide_mark (codes "<?xml"))); proved (marked_xml ((length b - 5) / 2) b equal))
+    (do equal ← takes (same_text b (after (length b - 5) space (codes "<?xml"))); proved (spaced_xml (length b - 5) b equal))
+    (do equal ← takes (same_text b (after ((length b - 5) / 2) wide_mark (codes "<?xml"))); proved (marked_xml ((length b - 5) / 2) b equal))

@@ -65,7 +65,7 @@ module _ (lasts : (s : BuiltIn) → Lasts (IsAccepted s)) where
         | inr never ↦ (λ h. absurd (never (w, more, h)), λ h. absurd (never (v, bytes, h)))
       ]
 
--- what holds of two buffers that are a front with more bytes behind it holds of two that have it in common
+-- what holds of two buffers that are a front with more bytes after it holds of two that have it in common
 pub buffers_with : (P : List ℕ → List ℕ → Type 0) (b c : List ℕ) (n : ℕ) → IsBuffer b → IsBuffer c → n ≤ length b
     → ((k : ℕ) → k < n → (k < length c) × (get_or c k 0 ≡ get_or b k 0))
     → ((v w : List ℕ) → IsBuffer v → IsBuffer w → P (take n b ++ v) (take n b ++ w)) → P b c
@@ -78,9 +78,9 @@ buffers_with P b c n bytes others le same holds =
     (subst (λ y. P y (f ++ drop (length f) c)) (take-append-drop n b)
     (holds (drop n b) (drop (length f) c) (All-drop (λ x. x < 256) n b bytes) (All-drop (λ x. x < 256) (length f) c others)))
 
-pub front_tells : (lasts : (s : BuiltIn) → Lasts (IsAccepted s)) (b c : List ℕ) (n i : ℕ) → IsBuffer b → IsBuffer c → n ≤ length b → IsRowDecided (take n b) i
+pub front_proves : (lasts : (s : BuiltIn) → Lasts (IsAccepted s)) (b c : List ℕ) (n i : ℕ) → IsBuffer b → IsBuffer c → n ≤ length b → IsRowDecided (take n b) i
     → ((k : ℕ) → k < n → (k < length c) × (get_or c k 0 ≡ get_or b k 0)) → RowHas (Accepts c) i ↔ RowHas (Accepts b) i
-front_tells lasts b c n i bytes others le told same =
+front_proves lasts b c n i bytes others le told same =
     buffers_with (λ y z. RowHas (Accepts z) i ↔ RowHas (Accepts y) i) b c n bytes others le same
     (λ v w of more. row_told lasts (slice_get table i) (take n b) v w of more told)
 
@@ -88,9 +88,9 @@ front_tells lasts b c n i bytes others le told same =
 pub same_by_reads : (b c : List ℕ) → length c ≡ length b → ((k : ℕ) → k < length b → (k < length c) × (get_or c k 0 ≡ get_or b k 0)) → c ≡ b
 same_by_reads b c long same = same_number_lists c b long (λ k lt. (same k (omega (arith, long))).1)
 
-pub whole_tells : (b c : List ℕ) (i : ℕ) → length c ≡ length b → ((k : ℕ) → k < length b → (k < length c) × (get_or c k 0 ≡ get_or b k 0))
+pub whole_proves : (b c : List ℕ) (i : ℕ) → length c ≡ length b → ((k : ℕ) → k < length b → (k < length c) × (get_or c k 0 ≡ get_or b k 0))
     → RowHas (Accepts c) i ↔ RowHas (Accepts b) i
-whole_tells b c i long same = subst (λ x. RowHas (Accepts x) i ↔ RowHas (Accepts b) i) (sym (same_by_reads b c long same)) (λ h. h, λ h. h)
+whole_proves b c i long same = subst (λ x. RowHas (Accepts x) i ↔ RowHas (Accepts b) i) (sym (same_by_reads b c long same)) (λ h. h, λ h. h)
 
 -- the bytes of a buffer are bytes
 pub buffer_by_reads : (b : List ℕ) → ((i : ℕ) → get_or b i 0 < 256) → IsBuffer b
@@ -107,7 +107,7 @@ none_of_all P xs i le before = none_among P xs (AllWithin-upto (λ x. ¬ P x) xs
 
 -- a test that fails refutes what it decides
 pub refuted_by : {P : Type 0} {r : Bool} → r ≡ false → IsTrue r ↔ P → ¬ P
-refuted_by e tells h = false≢true (sym e ∙ tells.1 h)
+refuted_by e proves h = false≢true (sym e ∙ proves.1 h)
 
 -- what holds just where another thing does fails where that fails
 pub refuted_too : {P Q : Type 0} → P ↔ Q → ¬ Q → ¬ P

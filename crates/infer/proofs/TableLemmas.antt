@@ -1,5 +1,5 @@
 -- The table's length, and what its rows have.
-use Rattle.infer.proofs.Common.{ap, number_of, row_listed, IsTrue, Bool, TellsAccepted, subst, sym, ◌≡◌, ◌↔◌, ℕ, [], length, refl, Option, None, Some, MatchOption, option_map_or, slice_get, table, ROW_COUNT, BuiltIn, fixed, Row, signature_of, RowHas, List, IsAccepted, Accepts}
+use Rattle.infer.proofs.Common.{ap, number_of, row_listed, IsTrue, Bool, DecidesAccepted, subst, sym, ◌≡◌, ◌↔◌, ℕ, [], length, refl, Option, None, Some, MatchOption, option_map_or, slice_get, table, ROW_COUNT, BuiltIn, fixed, Row, signature_of, RowHas, List, IsAccepted, Accepts}
 use Rattle.infer.specs.declared.table.built_in.BuiltInRow.{BuiltInRow}
 
 pub length-table : length table ≡ ROW_COUNT
@@ -27,6 +27,6 @@ unfolding signature_of
 named_signature i r e = ap (λ o. option_map_or (λ r. r.signature) o (fixed [])) e
 
 -- what tells whether a signature accepts is true exactly if it does
-pub accepted_as_told : (s : BuiltIn) (b : List ℕ) (r : Bool) → TellsAccepted s b r → IsTrue r ↔ IsAccepted s b
+pub accepted_as_told : (s : BuiltIn) (b : List ℕ) (r : Bool) → DecidesAccepted s b r → IsTrue r ↔ IsAccepted s b
 accepted_as_told (fixed alternatives) b r told = (subst IsTrue told, subst IsTrue (sym told))
 accepted_as_told s b r told = told

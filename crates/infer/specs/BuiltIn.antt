@@ -39,6 +39,6 @@ IsAccepted html b = IsHtml b
 IsAccepted xml b = IsXml b
 
 -- the answer tells whether the signature accepts the buffer: of a fixed one, by its parts
-abbrev pub TellsAccepted : BuiltIn → List ℕ → Bool → Type 0
-TellsAccepted (fixed alternatives) b r = r ≡ accepts alternatives b
-TellsAccepted s b r = IsTrue r ↔ IsAccepted s b
+abbrev pub DecidesAccepted : BuiltIn → List ℕ → Bool → Type 0
+DecidesAccepted (fixed alternatives) b r = r ≡ accepts alternatives b
+DecidesAccepted s b r = IsTrue r ↔ IsAccepted s b

@@ -67,10 +67,10 @@ abbrev pub AllowsExactly : Type 0
 AllowsExactly = (f i : ℕ) → f < 256 → RowHas (λ r. IsTrue (allows_first r.signature f)) i ↔ RowHas (MayBecomeRow (f ∷ [])) i
 
 -- the answer tells whether the signature may still accept the buffer: of a fixed one, by its parts
-abbrev pub TellsMayBecome : BuiltIn → List ℕ → Bool → Type 0
-TellsMayBecome (fixed alternatives) b r = r ≡ may_become alternatives b
-TellsMayBecome s b r = IsTrue r ↔ MayBecome (IsAccepted s) b
+abbrev pub DecidesMayBecome : BuiltIn → List ℕ → Bool → Type 0
+DecidesMayBecome (fixed alternatives) b r = r ≡ may_become alternatives b
+DecidesMayBecome s b r = IsTrue r ↔ MayBecome (IsAccepted s) b
 
 -- and what it tells is exact: some bytes after the buffer make the signature accept
-abbrev pub IsToldExactly : BuiltIn → Type 0
-IsToldExactly s = (b : List ℕ) (r : Bool) → TellsMayBecome s b r → IsTrue r ↔ MayBecome (IsAccepted s) b
+abbrev pub IsDecidedExactly : BuiltIn → Type 0
+IsDecidedExactly s = (b : List ℕ) (r : Bool) → DecidesMayBecome s b r → IsTrue r ↔ MayBecome (IsAccepted s) b

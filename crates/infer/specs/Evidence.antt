@@ -23,8 +23,8 @@ abbrev pub Decides : Evidence → List ℕ → Option ℕ → Type 0
 Decides e b answer = (c : List ℕ) → IsBuffer c → AgreesOn e b c → IsFirstOf (Accepts c) table answer
 
 -- what agrees on the evidence after is what agrees on that before and has the same answer of row i
-abbrev pub TellsRow : Evidence → Evidence → List ℕ → ℕ → Type 0
-TellsRow before after b i =
+abbrev pub ProvesRow : Evidence → Evidence → List ℕ → ℕ → Type 0
+ProvesRow before after b i =
     (c : List ℕ) → IsBuffer c → AgreesOn after b c → AgreesOn before b c × (RowHas (Accepts c) i ↔ RowHas (Accepts b) i)
 
 -- row i accepts b, and whatever agrees on the evidence
@@ -32,8 +32,8 @@ abbrev pub IsHeld : Evidence → List ℕ → ℕ → Type 0
 IsHeld e b i = RowHas (Accepts b) i × ((c : List ℕ) → IsBuffer c → AgreesOn e b c → RowHas (Accepts c) i)
 
 -- and the same first of these rows
-abbrev pub TellsFirst : Evidence → Evidence → List ℕ → List ℕ → Option ℕ → Type 0
-TellsFirst before after b rows answer =
+abbrev pub ProvesFirst : Evidence → Evidence → List ℕ → List ℕ → Option ℕ → Type 0
+ProvesFirst before after b rows answer =
     (c : List ℕ) → IsBuffer c → AgreesOn after b c → AgreesOn before b c × IsFirstAmong (RowHas (Accepts c)) rows answer
 
 -- whatever bytes follow, it is told whether row i accepts: it accepts, or no bytes make it

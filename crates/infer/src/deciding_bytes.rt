@@ -1,7 +1,7 @@
 //! The bytes of a buffer that decide its answer.
 ghost use Rattle.std.specs.Prelude.{◌≡◌, ◌↔◌, ◌+◌, ◌<◌, ◌≤◌, List, ℕ, IfSome, IsTrue, Some};
 ghost use Rattle.infer.specs.Buffer.{IsBuffer};
-ghost use Rattle.infer.specs.Evidence.{Decides, IsHeld, IsSearch, IsRowDecided, TellsFirst, TellsRow, most_of, most_of_all};
+ghost use Rattle.infer.specs.Evidence.{Decides, IsHeld, IsSearch, IsRowDecided, ProvesFirst, ProvesRow, most_of, most_of_all};
 ghost use Rattle.infer.specs.First.{IsFirstOf};
 ghost use Rattle.infer.specs.Row.{Accepts};
 ghost use Rattle.infer.specs.Table.{signature_of, table};
@@ -43,7 +43,7 @@ impl Claim for Acceptance {
 }
 
 /// Whether the bytes at the front that are asked for already decide that a row does not accept the buffer.
-fn is_told_refused(told: &Acceptance, buf: &[u8], evidence: &Evidence) -> bool
+fn refused_already(told: &Acceptance, buf: &[u8], evidence: &Evidence) -> bool
     ensures { IsTrue result → (c : List ℕ) → IsBuffer c → AgreesOn evidence.now buf.now c
         → (RowHas (Accepts c) told.now.row ↔ RowHas (Accepts buf.now) told.now.row) }
 {
@@ -54,13 +54,13 @@ fn is_told_refused(told: &Acceptance, buf: &[u8], evidence: &Evidence) -> bool
 
 /// Asks for the shortest front that decides the claim, and for the whole buffer if none does.
 fn weigh_front(told: &Acceptance, buf: &[u8], evidence: &mut Evidence)
-    ensures tells { TellsRow evidence.old evidence.new buf.now told.now.row }
+    ensures proves { ProvesRow evidence.old evidence.new buf.now told.now.row }
     ensures inside { IsOf evidence.old buf.now → IsOf evidence.new buf.now }
     ensures few { evidence.new.count ≤ evidence.old.count + 1 }
 {
     infer_sig::laws::growth();
     infer_deep::laws::growth();
-    if is_told_refused(told, buf, evidence) {
+    if refused_already(told, buf, evidence) {
         return;
     }
     match shortest_front(told, buf) {
@@ -76,7 +76,7 @@ fn weigh_front(told: &Acceptance, buf: &[u8], evidence: &mut Evidence)
 fn weigh_search(search: &Search, row: usize, buf: &[u8], evidence: &mut Evidence) -> bool
     requires { IsSearch row search.now }
     ensures answer { IsTrue result ↔ RowHas (Accepts buf.now) row }
-    ensures tells { TellsRow evidence.old evidence.new buf.now row }
+    ensures proves { ProvesRow evidence.old evidence.new buf.now row }
     ensures inside { IsOf evidence.old buf.now → IsOf evidence.new buf.now }
     ensures few { evidence.new.count ≤ evidence.old.count + MOST_OF_A_SEARCH }
 {
@@ -92,7 +92,7 @@ fn weigh_search(search: &Search, row: usize, buf: &[u8], evidence: &mut Evidence
 /// Whether the row accepts the buffer, and asks for what decides it.
 fn weigh_row(row: usize, buf: &[u8], evidence: &mut Evidence) -> bool
     ensures answer { IsTrue result ↔ RowHas (Accepts buf.now) row }
-    ensures tells { TellsRow evidence.old evidence.new buf.now row }
+    ensures proves { ProvesRow evidence.old evidence.new buf.now row }
     ensures inside { IsOf evidence.old buf.now → IsOf evidence.new buf.now }
     ensures few { evidence.new.count ≤ evidence.old.count + most_of (signature_of row) }
 {
@@ -116,7 +116,7 @@ fn weigh_rows(
 ) -> Option<usize>
     requires { IfSome held (IsHeld evidence.old buf.now) }
     ensures first { IsFirstAmong (RowHas (Accepts buf.now)) rows.now result }
-    ensures tells { TellsFirst evidence.old evidence.new buf.now rows.now result }
+    ensures proves { ProvesFirst evidence.old evidence.new buf.now rows.now result }
     ensures inside { IsOf evidence.old buf.now → IsOf evidence.new buf.now }
     ensures few { evidence.new.count ≤ evidence.old.count + most_of_all rows.now }
     ensures fewer { IfSome held (λ i. result ≡ Some i

@@ -8,7 +8,7 @@ ghost use Rattle.infer_sig.specs.App.{java, mach};
 ghost use Rattle.infer_sig.specs.Signature.{accepts};
 ghost use Rattle.infer.specs.Arrivals.{Begins, BeginsAlone, NewcomersAreAwaited, last_after};
 ghost use Rattle.infer.specs.BuiltIn.{BuiltIn, IsAccepted};
-ghost use Rattle.infer.specs.Decided.{AllowsExactly, AnswersAreOpen, DecidedByRows, DecidedLasts, FirstOpenComes, IsToldExactly, ReachNarrows};
+ghost use Rattle.infer.specs.Decided.{AllowsExactly, AnswersAreOpen, DecidedByRows, DecidedLasts, FirstOpenComes, IsDecidedExactly, ReachNarrows};
 ghost use Rattle.infer.specs.First.{IsFirst, IsFirstOf};
 ghost use Rattle.infer.specs.Laws.{AnswersAreLocal, AnswersAreNamed, AnswersAsBuiltIn, AnyLasts, Breaks, FrontDecides, IsSteady, OnlyFarRowsFollow, ReadersAreAlike};
 ghost use Rattle.infer.specs.Matchers.{OthersAreNear, is_far_row, signatures};
@@ -147,7 +147,7 @@ pub fn later()
 /// possible.
 #[tactic(auto, using(crate::proofs::DecidedLemmas::open_signatures))]
 pub fn open()
-    ensures { All IsToldExactly signatures }
+    ensures { All IsDecidedExactly signatures }
 {
     infer_sig::laws::open();
 }

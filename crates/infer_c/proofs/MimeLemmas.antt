@@ -13,7 +13,7 @@ use Rattle.mime_types.specs.declared.write.WriteError.TheVariants.{NoRoom, TooMa
 use Rattle.mime_sniff.specs.Computed.{IsComputedIn, Supply, supply_of}
 use Rattle.mime_sniff.specs.declared.context.Context.{Context}
 use Rattle.mime_sniff.specs.declared.supplied.Supplied.{Supplied}
-use Rattle.infer_c.specs.Mime.{IsFoundText, IsMimeText, IsTextOf, IsWithRoom, Says, has_bit, kind_said, supply_told}
+use Rattle.infer_c.specs.Mime.{IsFoundText, IsMimeText, IsTextOf, IsWithRoom, Says, has_bit, kind_said, supply_said}
 
 -- what the code's view shows is what the text says
 pub says_of : (t : List ℕ) (o : Option Mime) → ((m : Mime) → (o ≡ Some m) ↔ Parsed t m) → Says t o
@@ -34,9 +34,9 @@ taken n room text long is =
 at_start : (old new text : List ℕ) (n : ℕ) → Wrote old new 0 text (Some n) → (n ≡ length text) × (take n new ≡ text)
 at_start old new text n (ends, within, is) =
     let same : n ≡ length text = omega (arith, ends) in
-    let behind = drop (0 + length text) old in (
+    let after = drop (0 + length text) old in (
       same,
-      ap (take n) is ∙ (ap (λ t. take n (t ++ behind)) (take_all (length old - 0) text (omega (arith, same, within))) ∙ take_at text behind n (sym same)),
+      ap (take n) is ∙ (ap (λ t. take n (t ++ after)) (take_all (length old - 0) text (omega (arith, same, within))) ∙ take_at text after n (sym same)),
     )
 
 pub written_whole : (tail : List ℕ) (m : Mime) (old new : List ℕ) (n : ℕ) → length new ≡ 4095 → IsWritten MOST_PARAMETERS tail m old new (Ok n)
@@ -70,7 +70,7 @@ supply k no_sniff bug = record { kind = k; no_sniff = no_sniff; apache_bug = bug
 
 -- what is supplied is what was told
 pub supply_is : (s : Supplied) (flags : ℕ) → s.no_sniff ≡ has_bit flags 1 → s.check_for_apache_bug ≡ has_bit flags 2
-    → supply_of s ≡ supply_told (option_map mime_of s.mime_type) flags
+    → supply_of s ≡ supply_said (option_map mime_of s.mime_type) flags
 unfolding supply
 supply_is s flags forbids old =
     ap (λ k. supply k s.no_sniff s.check_for_apache_bug) (kinds s.mime_type)

@@ -17,7 +17,7 @@ among_rows None = None
 abbrev pub range_written : Range → WrittenRange
 range_written r = record { place = r.place; len = r.len; step = r.step; row = row_code (among_rows (row_of r)) }
 
--- the room begins with the ranges, as many as it holds, and behind them it stays
+-- the room begins with the ranges, as many as it holds, and after them it stays
 abbrev pub WritesRanges : List Range → List WrittenRange → List WrittenRange → Type 0
 WritesRanges ranges old new = new ≡ take (length old) (map range_written ranges) ++ drop (length ranges) old
 

@@ -51,6 +51,6 @@ standing_number None = negsuc 0
 standing_number (Some standing) = standing_code standing
 
 -- the line was written, and its length and what it tells were stored
-abbrev pub TellsLine : Options → (name b : List ℕ) → (result : ℕ) → (standing : ℤ) → (is_known : Bool) → (old new : List ℕ) → Type 0
-TellsLine o name b result standing is_known old new =
+abbrev pub WritesLine : Options → (name b : List ℕ) → (result : ℕ) → (standing : ℤ) → (is_known : Bool) → (old new : List ℕ) → Type 0
+WritesLine o name b result standing is_known old new =
     (answer : Answer) × (text : List ℕ) × IsLineOf o name b answer text × (result ≡ answer.len) × (standing ≡ standing_number answer.standing) × (is_known ≡ answer.is_known) × WritesText text old new

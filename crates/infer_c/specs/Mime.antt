@@ -156,10 +156,10 @@ abbrev pub has_bit : ℕ → ℕ → Bool
 has_bit flags bit = bit_and flags bit == bit
 
 -- what is known by the MIME type and the flags: 1 forbids to sniff, and 2 is the header of an old server
-abbrev pub supply_told : Option Mime → ℕ → Supply
-supply_told said flags = record { kind = kind_said said; no_sniff = has_bit flags 1; apache_bug = has_bit flags 2 }
+abbrev pub supply_said : Option Mime → ℕ → Supply
+supply_said said flags = record { kind = kind_said said; no_sniff = has_bit flags 1; apache_bug = has_bit flags 2 }
 
 -- the text of a computed type: what is told, or else that of the supplied type
-abbrev pub IsToldText : List ℕ → Option Mime → Option (List ℕ) → List ℕ → Type 0
-IsToldText t said (Some told) written = written ≡ told
-IsToldText t said None written = IsMimeText t said written
+abbrev pub IsReportedText : List ℕ → Option Mime → Option (List ℕ) → List ℕ → Type 0
+IsReportedText t said (Some told) written = written ≡ told
+IsReportedText t said None written = IsMimeText t said written

@@ -3,7 +3,7 @@ ghost use Rattle.std.specs.Prelude.{◌≡◌, ℕ, List, length, option_map};
 ghost use Rattle.infer_label.specs.Line.{note_line};
 ghost use Rattle.infer_label.specs.Options.{options_listed};
 ghost use Rattle.infer_label.specs.Writes.{laid, saturated};
-ghost use Rattle.infer_c.specs.Label.{TellsLine, form_of, given, look_of, note_of, options_of, standing_number};
+ghost use Rattle.infer_c.specs.Label.{WritesLine, form_of, given, look_of, note_of, options_of, standing_number};
 ghost use Rattle.infer_c.specs.Mime.{has_bit};
 ghost use Rattle.infer_c.specs.Written.{WritesText};
 
@@ -38,7 +38,7 @@ pub fn write_line(
     is_known: &mut bool,
     out: &mut [u8],
 ) -> usize
-    ensures { TellsLine (options_of asked.entry) name.now buf.now result standing.new is_known.new out.old out.new }
+    ensures { WritesLine (options_of asked.entry) name.now buf.now result standing.new is_known.new out.old out.new }
 {
     let answer = infer_label::write_line(options(asked), name, buf, out);
     end(answer.len, out);

@@ -38,8 +38,8 @@ ghost use Rattle.mime_sniff.specs.Growth as growth;
 ghost use Rattle.mime_sniff.specs.Growth.{MayScript, NeverScripts, Scripts};
 ghost use Rattle.infer_label.specs.Line.{class_name, note_line};
 ghost use Rattle.infer_label.specs.Writes.{saturated};
-ghost use Rattle.infer_c.specs.Label.{TellsLine, note_of, options_by};
-ghost use Rattle.infer_c.specs.Mime.{IsContextOf, IsDestinationOf, IsEssenceText, IsGroupCodeSaid, IsMimeText, IsMinimalText, IsToldText, IsTogetherText, IsValueText, SayTogether, Says, kind_said, mime_extracted, supply_told, value_said};
+ghost use Rattle.infer_c.specs.Label.{WritesLine, note_of, options_by};
+ghost use Rattle.infer_c.specs.Mime.{IsContextOf, IsDestinationOf, IsEssenceText, IsGroupCodeSaid, IsMimeText, IsMinimalText, IsReportedText, IsTogetherText, IsValueText, SayTogether, Says, kind_said, mime_extracted, supply_said, value_said};
 ghost use Rattle.infer_c.specs.Named.{IsOddityCode, StoresNamed};
 ghost use Rattle.infer_c.specs.Evidence.{StoresEvidence};
 ghost use Rattle.infer_c.specs.Written.{WritesText, WritesWhole};
@@ -433,8 +433,8 @@ pub extern "C" fn infer_mime_compute(
 ) -> usize
     ensures { (said : Option Mime) × (told : Option (List ℕ)) × (written : List ℕ) × Says content_type.now said
         × (place : Option Context) × IsContextOf context place
-        × IsComputedIn (unwrap_or place Context.Browsing) (supply_told said flags) buf.now told
-        × IsToldText content_type.now said told written
+        × IsComputedIn (unwrap_or place Context.Browsing) (supply_said said flags) buf.now told
+        × IsReportedText content_type.now said told written
         × (result ≡ length written) × WritesText written out.old out.new }
 {
     mime::write_computed(content_type, flags, context, buf, out)
@@ -445,8 +445,8 @@ pub extern "C" fn infer_mime_compute(
 #[unsafe(no_mangle)]
 pub extern "C" fn infer_mime_is_decided(content_type: &[u8], flags: u32, buf: &[u8]) -> bool
     ensures right { (said : Option Mime) × Says content_type.now said
-        × OnTrue result (growth.IsDecided (supply_told said flags) buf.now)
-        × (AsksNothing (supply_told said flags) → IsTrue result) }
+        × OnTrue result (growth.IsDecided (supply_said said flags) buf.now)
+        × (AsksNothing (supply_said said flags) → IsTrue result) }
     ensures full { 1445 ≤ length buf.now → IsTrue result }
 {
     mime::is_decided(content_type, flags, buf)
@@ -594,7 +594,7 @@ pub extern "C" fn infer_label_write(
     is_known: &mut bool,
     out: &mut [u8],
 ) -> usize
-    ensures { TellsLine (options_by look form flags types.now content_type.now size) name.now buf.now result standing.new is_known.new out.old out.new }
+    ensures { WritesLine (options_by look form flags types.now content_type.now size) name.now buf.now result standing.new is_known.new out.old out.new }
 {
     let asked = Asked {
         look,

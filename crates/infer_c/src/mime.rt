@@ -10,7 +10,7 @@ ghost use Rattle.mime_types.specs.Text.{lower};
 ghost use Rattle.mime_types.specs.declared.extraction.Extracted.{Extracted};
 ghost use Rattle.mime_sniff.specs.Computed.{AsksNothing, IsComputedIn};
 ghost use Rattle.mime_sniff.specs.Growth.{IsDecided};
-ghost use Rattle.infer_c.specs.Mime.{IsContextOf, IsDestinationOf, IsEssenceText, IsFoundText, IsGroupCode, IsGroupCodeSaid, IsKindText, IsLeastText, IsMimeText, IsMinimalText, IsTextOf, IsWithRoom, IsToldText, IsTogetherText, IsValueText, SayTogether, Says, has_bit, kind_said, mime_extracted, supply_told, value_said};
+ghost use Rattle.infer_c.specs.Mime.{IsContextOf, IsDestinationOf, IsEssenceText, IsFoundText, IsGroupCode, IsGroupCodeSaid, IsKindText, IsLeastText, IsMimeText, IsMinimalText, IsTextOf, IsWithRoom, IsReportedText, IsTogetherText, IsValueText, SayTogether, Says, has_bit, kind_said, mime_extracted, supply_said, value_said};
 ghost use Rattle.infer_c.specs.Written.{WritesText};
 
 use crate::named::number_if;
@@ -284,8 +284,8 @@ pub fn write_computed(
 ) -> usize
     ensures { (said : Option Mime) × (told : Option (List ℕ)) × (written : List ℕ) × Says content_type.now said
         × (place : Option Context) × IsContextOf code place
-        × IsComputedIn (unwrap_or place Context.Browsing) (supply_told said flags) buf.now told
-        × IsToldText content_type.now said told written
+        × IsComputedIn (unwrap_or place Context.Browsing) (supply_said said flags) buf.now told
+        × IsReportedText content_type.now said told written
         × (result ≡ length written) × WritesText written out.old out.new }
 {
     let supplied = supplied(content_type, flags);
@@ -299,8 +299,8 @@ pub fn write_computed(
 /// Whether no bytes after `buf` change the type that a page has: a yes is certain.
 pub fn is_decided(content_type: &[u8], flags: u32, buf: &[u8]) -> bool
     ensures right { (said : Option Mime) × Says content_type.now said
-        × OnTrue result (IsDecided (supply_told said flags) buf.now)
-        × (AsksNothing (supply_told said flags) → IsTrue result) }
+        × OnTrue result (IsDecided (supply_said said flags) buf.now)
+        × (AsksNothing (supply_said said flags) → IsTrue result) }
     ensures full { 1445 ≤ length buf.now → IsTrue result }
 {
     mime_sniff::is_decided(&supplied(content_type, flags), buf)

@@ -48,7 +48,7 @@ module _ (version shift size : ℕ) (format_bytes : IsTrue (are_bytes (format_of
       let f = fills_parts (record { place = 0; text = compound_header } ∷ record { place = 26; text = format_of version shift } ∷ kept b 48 4
       ∷ record { place = root + 66; text = 5 ∷ [] } ∷ record { place = root + 80; text = id } ∷ []) b 0 (root + 128)
       (omega arith, refl, (omega arith, format_bytes, (omega arith, kept_bytes b 48 4, (omega (arith, kept_ends), refl, (omega arith, bytes, omega arith)))))
-      (header, (r.header, (kept_agrees b 48 4, (r.kind, (r.tells, tt))))) in
+      (header, (r.header, (kept_agrees b 48 4, (r.kind, (r.says, tt))))) in
       let c = b ++ f.more in
       let numbers = numbers_of_format c version shift f.holds.1.0 in
       let same = ap (λ (x : ℕ). (x + 1) * size) (sym (kept_numbers b f.more 48 f.holds.1.1.0).0) in
@@ -72,7 +72,7 @@ module _ (version shift size : ℕ) (format_bytes : IsTrue (are_bytes (format_of
       record {
         header = grown_agrees b more _ 26 (format_of_numbers (b ++ more) version shift (bytes_from_test (format_of version shift) format_bytes 0 0 (omega arith)) (bytes_from_test (format_of version shift) format_bytes 4 0 (omega arith)) (omega arith) at_26 r.byte_order at_30);
         kind = earlier (5 ∷ []) 66 (byte_stands (b ++ more) 5 (root + 66) (omega arith) r.kind);
-        tells = earlier id 80 o;
+        says = earlier id 80 o;
       }
 
 pub class_id_reached : (id b : List ℕ) → IsTrue (are_bytes id) → length id ≡ 16

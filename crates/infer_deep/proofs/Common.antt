@@ -24,9 +24,9 @@ pub use Rattle.infer_deep.specs.Blocks.{LacksPair, AllBelow, IsPairAt}
 pub use Rattle.infer_deep.specs.Brands.{IsAvif, IsHeif, box_length, HasCompatible, HasMajor, IsBoxed, IsOpenBox, MayHaveCompatible}
 pub use Rattle.infer_deep.specs.ClassId.{HasClassId, IsRoot, compound_header, powerpoint_id, word_id, BeginsRoot, MayHaveRoot, excel_id, format_3, format_4, old_excel_id, IsXls}
 pub use Rattle.infer_deep.specs.Frames.{IsFrame, BeginsFrame, IsFramed}
-pub use Rattle.infer_deep.specs.Joined.{LeadsTo, BeginsWith, NoneBegins, SkipsTo, Behind}
+pub use Rattle.infer_deep.specs.Joined.{LeadsTo, BeginsWith, NoneBegins, SkipsTo, After}
 unfoldable pub use Rattle.infer_deep.specs.Numbers.{be32, le16, le32}
-pub use Rattle.infer_deep.specs.Office.{zip_header, DecidesBehind, HasFolder, HasOfficeName, IsDecidingHeader, IsDecidingPlace, IsHeaderFrom, IsOffice, IsThirdHeader, BeginsOffice, IsFolder, MayDecide, MayDecideBehind}
+pub use Rattle.infer_deep.specs.Office.{zip_header, DecidesAfter, HasFolder, HasOfficeName, IsDecidingHeader, IsDecidingPlace, IsHeaderFrom, IsOffice, IsThirdHeader, BeginsOffice, IsFolder, MayDecide, MayDecideAfter}
 pub use Rattle.infer_deep.specs.Open.{AgreesAt, are_bytes}
 pub use Rattle.infer_deep.specs.Places.{IsFirstWithin, IsWithin, IsFirstPlace, FindsPlace}
 pub use Rattle.infer_deep.specs.Signatures.{MayBecome, Lasts, ComesWith, AreApart, IsEarly, IsNear}

@@ -4,7 +4,7 @@ use Rattle.infer_deep.specs.Laws.{BeginApart}
 use Rattle.infer_deep.proofs.OpenLemmas.{fills_parts, grown_agrees, kept, kept_agrees, kept_bytes, kept_ends, kept_numbers, reaches_text}
 use Rattle.infer_deep.proofs.PlaceLemmas.{OccursAt-append, OccursAt-agree, OccursAt-first, OccursAt-front}
 use Rattle.infer_deep.proofs.NumberLemmas.{le32-append}
-use Rattle.infer_deep.proofs.JoinedLemmas.{IsPrefixFree, Stops, WordsBegin, NoneBegins-first, Behind-lead, Behind-lasts, Behind-comes, Behind-left, Behind-apart, Behind-open}
+use Rattle.infer_deep.proofs.JoinedLemmas.{IsPrefixFree, Stops, WordsBegin, NoneBegins-first, After-lead, After-lasts, After-comes, After-left, After-apart, After-open}
 
 -- what begins as a frame does so in a part that has its first four bytes
 front_begins : (b more : List ℕ) → 4 ≤ length b → BeginsFrame (b ++ more) → BeginsFrame b
@@ -56,17 +56,17 @@ Stands magic b = OccursAt b magic 0
 
 module _ (magic : List ℕ) where
   pub IsFramed-lasts : Lasts (IsFramed magic)
-  IsFramed-lasts = Behind-lasts IsFrame (Stands magic) (λ u x. OccursAt-append u x magic 0)
+  IsFramed-lasts = After-lasts IsFrame (Stands magic) (λ u x. OccursAt-append u x magic 0)
 
   pub IsFramed-comes : length magic ≤ 4 → ComesWith (IsFramed magic) BeginsFrame
-  IsFramed-comes short = Behind-comes IsFrame (Stands magic) BeginsFrame
+  IsFramed-comes short = After-comes IsFrame (Stands magic) BeginsFrame
       (λ u x rest l w. BeginsFrame-early u x l (IsFrame-begins (u ++ x) rest w)) (λ u x l o. inl (OccursAt-front u x magic 0 (omega arith) o))
 
 -- the first byte is the magic's, or a frame's
 pub IsFramed-lead : (x : ℕ) (magic b : List ℕ) → IsFramed (x ∷ magic) b → (get_or b 0 0 ≡ x) ⊎ IsFrameByte (get_or b 0 0)
 IsFramed-lead x magic b h =
     let first = λ (u : List ℕ) (o : OccursAt u (x ∷ magic) 0). OccursAt-first u (x ∷ magic) 0 (omega arith) o in
-    grind (arith, Behind-lead IsFrame (Stands (x ∷ magic)) IsFrameByte (λ y. y ≡ x) IsFrame-begin first b h)
+    grind (arith, After-lead IsFrame (Stands (x ∷ magic)) IsFrameByte (λ y. y ≡ x) IsFrame-begin first b h)
 
 -- a magic number whose first byte is below 50 begins with no frame
 module _ (magic : List ℕ) (some : 0 < length magic) (low : get_or magic 0 0 < 0x50) where
@@ -74,20 +74,20 @@ module _ (magic : List ℕ) (some : 0 < length magic) (low : get_or magic 0 0 < 
   stands_stops b o = grind (arith, nat_tests, NoneBegins-first IsFrame IsFrameByte IsFrame-begin b, IsFrame-begin b, OccursAt-first b magic 0 some o)
 
   pub IsFramed-left : (b left : List ℕ) → SkipsTo IsFrame b left → NoneBegins IsFrame left → Stands magic left ↔ IsFramed magic b
-  IsFramed-left = Behind-left IsFrame (Stands magic) IsFrame-prefix_free stands_stops
+  IsFramed-left = After-left IsFrame (Stands magic) IsFrame-prefix_free stands_stops
 
   pub is_framed_open : IsTrue (are_bytes magic) → (b left : List ℕ) → SkipsTo IsFrame b left → NoneBegins IsFrame left
       → (AgreesAt left magic 0 ⊎ MayBecome IsFrame left) ↔ MayBecome (IsFramed magic) b
   is_framed_open bytes b left skips none =
-      let reached = Behind-open IsFrame (Stands magic) IsFrame-prefix_free stands_stops
+      let reached = After-open IsFrame (Stands magic) IsFrame-prefix_free stands_stops
       ((reaches_text [] magic 0 bytes).0 (record { reads = λ k l m. absurd (omega arith) })) b left skips none in
-      grind (arith, nat_tests, Behind-open, IsFrame-prefix_free, stands_stops, reaches_text)
+      grind (arith, nat_tests, After-open, IsFrame-prefix_free, stands_stops, reaches_text)
 
 -- two that differ in the first byte exclude each other
 pub IsFramed-apart : (v w : List ℕ)
     → BeginApart v w → get_or v 0 0 < 0x50 → get_or w 0 0 < 0x50 → AreApart (IsFramed v) (IsFramed w)
 IsFramed-apart v w (some_v, some_w, differ) low_v low_w b f =
-    Behind-apart IsFrame (Stands w) IsFrame-prefix_free (stands_stops w some_w low_w) (Stands v) (stands_stops v some_v low_v)
+    After-apart IsFrame (Stands w) IsFrame-prefix_free (stands_stops w some_w low_w) (Stands v) (stands_stops v some_v low_v)
     (λ u o k. differ (OccursAt-agree u v w 0 0 o k some_v some_w)) b f
 
 -- what more bytes can make a frame agrees with its magic number

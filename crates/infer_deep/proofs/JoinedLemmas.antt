@@ -1,5 +1,5 @@
 -- Words joined: what is left after them is one, however it is found, and what holds of a buffer after them.
-use Rattle.infer_deep.proofs.Common.{◌≡◌, ◌↔◌, ℕ, zero, suc, ◌-◌, ◌<◌, ◌≤◌, ◌⊎◌, inl, inr, List, [], ◌∷◌, ◌++◌, length, get_or, take, drop, refl, sym, subst, ◌∙◌, arith, append_assoc, append_cancel_left, take-append-drop, take-append-le, take_at, take-append-add, cases_lt, All-append, All-take, front_reads, AllByRecursion, concat, repeat, OccursAt, SkipsTo, NoneBegins, BeginsWith, LeadsTo, Behind, Lasts, ComesWith, AreApart, MayBecome}
+use Rattle.infer_deep.proofs.Common.{◌≡◌, ◌↔◌, ℕ, zero, suc, ◌-◌, ◌<◌, ◌≤◌, ◌⊎◌, inl, inr, List, [], ◌∷◌, ◌++◌, length, get_or, take, drop, refl, sym, subst, ◌∙◌, arith, append_assoc, append_cancel_left, take-append-drop, take-append-le, take_at, take-append-add, cases_lt, All-append, All-take, front_reads, AllByRecursion, concat, repeat, OccursAt, SkipsTo, NoneBegins, BeginsWith, LeadsTo, After, Lasts, ComesWith, AreApart, MayBecome}
 use Rattle.infer_deep.proofs.PlaceLemmas.{begins-from_OccursAt}
 use Rattle.infer_deep.proofs.OpenLemmas.{IsBytes}
 
@@ -89,21 +89,21 @@ module _ (P : List ℕ → Type 0) (Q : ℕ → Type 0) (begin : WordsBegin P Q)
 -- words of the kind P, and then what has the property S
 module _ (P S : List ℕ → Type 0) where
   -- the first byte is one of the kind Q, or what S wants
-  pub Behind-lead : (Q R : ℕ → Type 0) → WordsBegin P Q → ((rest : List ℕ) → S rest → R (get_or rest 0 0))
-      → (b : List ℕ) → Behind P S b → Q (get_or b 0 0) ⊎ R (get_or b 0 0)
-  Behind-lead Q R begin first b (rest, s, h) =
+  pub After-lead : (Q R : ℕ → Type 0) → WordsBegin P Q → ((rest : List ℕ) → S rest → R (get_or rest 0 0))
+      → (b : List ℕ) → After P S b → Q (get_or b 0 0) ⊎ R (get_or b 0 0)
+  After-lead Q R begin first b (rest, s, h) =
       elim (SkipsTo-begin P b rest s.words s.each s.whole) [
         | inl e ↦ inr (subst (λ u. R (get_or u 0 0)) (sym e) (first rest h))
         | inr (x, w) ↦ inl (begun-first P Q begin b x w)
       ]
 
-  pub Behind-lasts : Lasts S → Lasts (Behind P S)
-  Behind-lasts lasts b more (rest, s, h) = (rest ++ more, SkipsTo-append P b rest more s, lasts rest more h)
+  pub After-lasts : Lasts S → Lasts (After P S)
+  After-lasts lasts b more (rest, s, h) = (rest ++ more, SkipsTo-append P b rest more s, lasts rest more h)
 
   -- what more bytes bring, a word in front brings or what brings S
-  pub Behind-comes : (U : List ℕ → Type 0) → ((b more rest : List ℕ) → 1024 ≤ length b → BeginsWith P (b ++ more) rest → U b)
-      → ComesWith S U → ComesWith (Behind P S) U
-  Behind-comes U begun comes b more long (rest, s, h) =
+  pub After-comes : (U : List ℕ → Type 0) → ((b more rest : List ℕ) → 1024 ≤ length b → BeginsWith P (b ++ more) rest → U b)
+      → ComesWith S U → ComesWith (After P S) U
+  After-comes U begun comes b more long (rest, s, h) =
       elim (SkipsTo-begin P (b ++ more) rest s.words s.each s.whole) [
         | inl e ↦ elim (comes b more long (subst S (sym e) h)) [ inl k ↦ inl (b, SkipsTo-none P b, k) | inr u ↦ inr u ]
         | inr (x, w) ↦ inr (begun b more x long w)
@@ -111,25 +111,25 @@ module _ (P S : List ℕ → Type 0) where
 
   -- what is left after the words has the property exactly if the buffer is so
   module _ (free : IsPrefixFree P) (stops : Stops S P) where
-    pub Behind-left : (b left : List ℕ) → SkipsTo P b left → NoneBegins P left → S left ↔ Behind P S b
-    Behind-left b left skips none = (
+    pub After-left : (b left : List ℕ) → SkipsTo P b left → NoneBegins P left → S left ↔ After P S b
+    After-left b left skips none = (
       λ h. (left, skips, h),
       λ (rest, s, h).
           let u = through P free s.words skips.words rest left s.each skips.each none (sym s.whole ∙ skips.whole) in
           elim (SkipsTo-begin P rest left u.words u.each u.whole) [ inl e ↦ subst S e h | inr (r, w) ↦ absurd (stops rest h w.word r w.kind w.whole) ],
     )
 
-    pub Behind-trimmed : (b left : List ℕ) → SkipsTo P b left → NoneBegins P left → Behind P S left ↔ Behind P S b
-    Behind-trimmed b left skips none = grind (arith, Behind-left left left (SkipsTo-none P left) none, SkipsTo-none P left, Behind-left b left skips none)
+    pub After-trimmed : (b left : List ℕ) → SkipsTo P b left → NoneBegins P left → After P S left ↔ After P S b
+    After-trimmed b left skips none = grind (arith, After-left left left (SkipsTo-none P left) none, SkipsTo-none P left, After-left b left skips none)
 
     -- what excludes S after the words excludes such a buffer
-    pub Behind-apart : (R : List ℕ → Type 0) → Stops R P → AreApart R S → AreApart (Behind P R) (Behind P S)
-    Behind-apart R stops_r apart b (rest, s, h) t = apart rest h ((Behind-left b rest s (stops_r rest h)).1 t)
+    pub After-apart : (R : List ℕ → Type 0) → Stops R P → AreApart R S → AreApart (After P R) (After P S)
+    After-apart R stops_r apart b (rest, s, h) t = apart rest h ((After-left b rest s (stops_r rest h)).1 t)
 
     -- what is left can become S or another word just if the buffer can become so, provided that something is S
-    pub Behind-open : MayBecome S [] → (b left : List ℕ) → SkipsTo P b left → NoneBegins P left
-        → (MayBecome S left ⊎ MayBecome P left) ↔ MayBecome (Behind P S) b
-    Behind-open (some, some_bytes, is_some) b left skips none = (
+    pub After-open : MayBecome S [] → (b left : List ℕ) → SkipsTo P b left → NoneBegins P left
+        → (MayBecome S left ⊎ MayBecome P left) ↔ MayBecome (After P S) b
+    After-open (some, some_bytes, is_some) b left skips none = (
       λ reach. elim reach [
         | inl (more, bytes, h) ↦ (more, bytes, (left ++ more, SkipsTo-append P b left more skips, h))
         | inr (more, bytes, word) ↦

@@ -1,5 +1,5 @@
 -- The headers of an Office document: each is one place, and stays it in a buffer that grows.
-use Rattle.infer_deep.proofs.Common.{◌≡◌, ℕ, ◌+◌, ◌≤◌, List, ◌++◌, Option, Some, None, length, refl, sym, subst, ◌∙◌, inl, inr, arith, codes, ◌↔◌, OccursAt, le32, IsWithin, IsFirstWithin, FindsPlace, Lasts, IsEarly, ComesWith, zip_header, HasFolder, HasOfficeName, BeginsOffice, IsHeaderFrom, IsThirdHeader, DecidesBehind, IsDecidingHeader, IsDecidingPlace, IsOffice}
+use Rattle.infer_deep.proofs.Common.{◌≡◌, ℕ, ◌+◌, ◌≤◌, List, ◌++◌, Option, Some, None, length, refl, sym, subst, ◌∙◌, inl, inr, arith, codes, ◌↔◌, OccursAt, le32, IsWithin, IsFirstWithin, FindsPlace, Lasts, IsEarly, ComesWith, zip_header, HasFolder, HasOfficeName, BeginsOffice, IsHeaderFrom, IsThirdHeader, DecidesAfter, IsDecidingHeader, IsDecidingPlace, IsOffice}
 use Rattle.infer_deep.proofs.NumberLemmas.{le32-append}
 use Rattle.infer_deep.proofs.PlaceLemmas.{Carries, IsUnique, IsFirstPlace-same, IsFirstPlace-append, OccursAt-append, OccursAt-front, stands_at_one}
 
@@ -78,16 +78,16 @@ module _ (b more : List ℕ) where
   }
 
   -- if the fourth header stands, the bytes after the third are all there
-  DecidesBehind-append : (third header : ℕ) → DecidesBehind b third header → DecidesBehind (b ++ more) third header
-  DecidesBehind-append third header (inl h) = inl (HasFolder-append (third + 30) h.0, h.1)
-  DecidesBehind-append third header (inr h) =
+  DecidesAfter-append : (third header : ℕ) → DecidesAfter b third header → DecidesAfter (b ++ more) third header
+  DecidesAfter-append third header (inl h) = inl (HasFolder-append (third + 30) h.0, h.1)
+  DecidesAfter-append third header (inr h) =
       inr (no_folder-append (third + 30) (omega arith) h.0, IsFirstPlace-append b more zip_header _ _ header h.1)
 
   IsDecidingPlace-append : (p : ℕ) → IsDecidingPlace b p → IsDecidingPlace (b ++ more) p
   IsDecidingPlace-append p (z, inl h) = (OccursAt-append b more zip_header 0 z, inl (HasFolder-append 30 h.0, h.1))
   IsDecidingPlace-append p (z, inr (free, name, (header, d, e))) =
       let found = IsThirdHeader-append d.third d.third_found in
-      let decides = DecidesBehind-append d.third header d.decides in
+      let decides = DecidesAfter-append d.third header d.decides in
       let there : IsDecidingHeader (b ++ more) header = record { third = d.third; third_found = found; decides = decides } in
       let named = HasOfficeName-carried b (b ++ more) 49 (grows 49) (omega arith) name in
       (OccursAt-append b more zip_header 0 z, inr (no_folder-append 30 (grind arith) free, named, (header, there, e)))

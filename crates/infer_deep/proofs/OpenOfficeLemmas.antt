@@ -1,5 +1,5 @@
 -- Which documents of Office more bytes can make of a buffer.
-use Rattle.infer_deep.proofs.Common.{IsTrue, ◌≡◌, ◌↔◌, ◌⊎◌, inl, inr, ℕ, ◌+◌, ◌<◌, ◌≤◌, List, [], ◌∷◌, ◌++◌, length, get_or_past, refl, subst, arith, codes, cases_lt, OccursAt, le32, are_bytes, AgreesAt, MayBecome, zip_header, IsFolder, HasFolder, HasOfficeName, IsHeaderFrom, IsThirdHeader, DecidesBehind, MayDecideBehind, MayDecide, IsDecidingHeader, IsOffice}
+use Rattle.infer_deep.proofs.Common.{IsTrue, ◌≡◌, ◌↔◌, ◌⊎◌, inl, inr, ℕ, ◌+◌, ◌<◌, ◌≤◌, List, [], ◌∷◌, ◌++◌, length, get_or_past, refl, subst, arith, codes, cases_lt, OccursAt, le32, are_bytes, AgreesAt, MayBecome, zip_header, IsFolder, HasFolder, HasOfficeName, IsHeaderFrom, IsThirdHeader, DecidesAfter, MayDecideAfter, MayDecide, IsDecidingHeader, IsOffice}
 use Rattle.infer_deep.proofs.NumberLemmas.{le32-append}
 use Rattle.infer_deep.proofs.PlaceLemmas.{OccursAt-first, OccursAt-front}
 use Rattle.infer_deep.proofs.OfficeLemmas.{HasFolder-append, IsThirdHeader-one}
@@ -37,7 +37,7 @@ module _ (f : List ℕ) (is : IsFolder f) where
   -- a name and the headers are put where they may come to stand, and after them what decides
   headers_reach : (b : List ℕ) (third : ℕ) (rest : List Part) (end : ℕ) → 30 < length b → AgreesAt b zip_header 0
       → HasOfficeName AgreesAt b → IsThirdHeader AgreesAt b third → LieApart (third + 4) rest end → AllAgree rest b
-      → ((more : List ℕ) → AllStand rest (b ++ more) → (header : ℕ) × DecidesBehind (b ++ more) third header × OccursAt (b ++ more) f (header + 30))
+      → ((more : List ℕ) → AllStand rest (b ++ more) → (header : ℕ) × DecidesAfter (b ++ more) third header × OccursAt (b ++ more) f (header + 30))
       → MayBecome (IsOffice f) b
   headers_reach b third rest end long zip name t apart agree decides =
       let (word, bytes, short, agrees, named) = open_name b name in
@@ -61,10 +61,10 @@ module _ (f : List ℕ) (is : IsFolder f) where
 
   pub office_reached : (b : List ℕ) → AgreesAt b zip_header 0 → AgreesAt b f 30 ⊎ (HasOfficeName AgreesAt b × MayDecide f b) → MayBecome (IsOffice f) b
   office_reached b zip (inl a) = folder_reaches b zip a
-  office_reached b zip (inr (name, (third, t, behind))) =
+  office_reached b zip (inr (name, (third, t, after))) =
       elim (cases_lt 30 (length b)) [
         | inr past ↦ folder_reaches b zip (agrees_past b f 30 past)
-        | inl long ↦ elim behind [
+        | inl long ↦ elim after [
           | inl a ↦ headers_reach b third (record { place = third + 30; text = f } ∷ []) (third + 30 + length f) long zip name t
               (omega arith, folder_bytes f is, omega arith) (a, tt)
               (λ more s. (third, inl (folder_stands (b ++ more) f (third + 30) is s.0, refl), s.0))
@@ -86,9 +86,9 @@ open_header b more s q h =
     let (p, first) = first_open b zip_header s (s + 6000) q (grind (arith, grown_agrees b more zip_header q)) in
     (p, first, λ whole. first_where_whole b more zip_header s (s + 6000) p q whole first h)
 
-behind_known : (b more f : List ℕ) (third header : ℕ) → DecidesBehind (b ++ more) third header → OccursAt (b ++ more) f (header + 30) → MayDecideBehind f b third
-behind_known b more f third header (inl h) o = grind (arith, grown_agrees)
-behind_known b more f third header (inr (free, h)) o =
+after_known : (b more f : List ℕ) (third header : ℕ) → DecidesAfter (b ++ more) third header → OccursAt (b ++ more) f (header + 30) → MayDecideAfter f b third
+after_known b more f third header (inl h) o = grind (arith, grown_agrees)
+after_known b more f third header (inr (free, h)) o =
     let (fourth, first, same) = open_header b more (third + 56) header h in
     let agrees : AgreesAt b f (fourth + 30) = grind (arith, agrees_past b f (fourth + 30), same, grown_agrees b more f (header + 30) o) in
     inr (λ folder. free (HasFolder-append b more (third + 30) folder), (fourth, first, agrees))
@@ -108,9 +108,9 @@ decide_known b more f header long d o =
           open_header b more (second + 30) d.third (subst (λ (u : ℕ). IsHeaderFrom OccursAt (b ++ more) (u + 30) d.third) (is_second whole) t.third_found)
     ] in
     let (third, found, is_third) = third_known in
-    let decides : MayDecideBehind f b third = elim (cases_lt (length b) (third + 4)) [
+    let decides : MayDecideAfter f b third = elim (cases_lt (length b) (third + 4)) [
       | inl cut ↦ inl (agrees_past b f (third + 30) (omega arith))
-      | inr whole ↦ behind_known b more f third header (subst (λ (u : ℕ). DecidesBehind (b ++ more) u header) (is_third whole) d.decides) o
+      | inr whole ↦ after_known b more f third header (subst (λ (u : ℕ). DecidesAfter (b ++ more) u header) (is_third whole) d.decides) o
     ] in
     (third, record { second = second; start_fits = omega (arith, t.start_fits); second_found = first; third_found = found }, decides)
 
@@ -121,6 +121,6 @@ office_known f b (more, bytes, (p, (zip, inr (free, name, (header, d, e))), o)) 
     grind (arith, grown_agrees b more zip_header 0 zip, agrees_past b f 30, decide_known b more f header)
 
 -- the open third header is one place
-pub decide_at : (f b : List ℕ) (third : ℕ) → IsThirdHeader AgreesAt b third → MayDecideBehind f b third ↔ MayDecide f b
+pub decide_at : (f b : List ℕ) (third : ℕ) → IsThirdHeader AgreesAt b third → MayDecideAfter f b third ↔ MayDecide f b
 decide_at f b third t =
-    (λ h. (third, t, h), λ (p, u, h). subst (MayDecideBehind f b) (IsThirdHeader-one AgreesAt b p third u t) h)
+    (λ h. (third, t, h), λ (p, u, h). subst (MayDecideAfter f b) (IsThirdHeader-one AgreesAt b p third u t) h)

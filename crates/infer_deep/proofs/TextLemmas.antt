@@ -1,10 +1,10 @@
 -- White space, marks and tags: what a buffer begins with, and what is markup after them.
-use Rattle.infer_deep.proofs.Common.{◌≡◌, ◌↔◌, ℕ, suc, ◌-◌, ◌<◌, ◌≤◌, ◌⊎◌, Bool, true, false, List, [], ◌∷◌, ◌++◌, length, get_or, take, drop, refl, sym, ap, subst, ◌∙◌, inl, inr, arith, eqb, length-append, min, IsTrue, take-append-drop, take_at, get_or_append_left, get_or-take, get_or_at, take-append-le, drop_more, length-map, length-take-le, append_assoc, append-nil, map-append, take-map, take_all, All-drop, cases_lt, AllPass-from_list_all, eq-eqb, nat_tests, Any, codes, filter, OccursAt, AllBelow, are_bytes, AgreesAt, Lasts, AreApart, ComesWith, IsEarly, MayBecome, Behind, SkipsTo, LeadsTo, NoneBegins, BeginsWith, IsWhite, IsSpace, IsMark, IsSameInAnyCase, BeginsInAnyCase, BeginsMarked, BeginsWhite, BeginsWithTag, IsHtml, IsXml, tags, tags_with}
+use Rattle.infer_deep.proofs.Common.{◌≡◌, ◌↔◌, ℕ, suc, ◌-◌, ◌<◌, ◌≤◌, ◌⊎◌, Bool, true, false, List, [], ◌∷◌, ◌++◌, length, get_or, take, drop, refl, sym, ap, subst, ◌∙◌, inl, inr, arith, eqb, length-append, min, IsTrue, take-append-drop, take_at, get_or_append_left, get_or-take, get_or_at, take-append-le, drop_more, length-map, length-take-le, append_assoc, append-nil, map-append, take-map, take_all, All-drop, cases_lt, AllPass-from_list_all, eq-eqb, nat_tests, Any, codes, filter, OccursAt, AllBelow, are_bytes, AgreesAt, Lasts, AreApart, ComesWith, IsEarly, MayBecome, After, SkipsTo, LeadsTo, NoneBegins, BeginsWith, IsWhite, IsSpace, IsMark, IsSameInAnyCase, BeginsInAnyCase, BeginsMarked, BeginsWhite, BeginsWithTag, IsHtml, IsXml, tags, tags_with}
 use Rattle.infer_deep.proofs.Common.{front_from_reads}
 use Rattle.std.proofs.Math.ListN.{get_or-map}
 use Rattle.std.specs.Char.{to_ascii_lowercase}
 use Rattle.infer_deep.proofs.OpenLemmas.{MayBecome-grown, MayBecome-here, bytes_from_test, grown_agrees, stands_where_whole}
-use Rattle.infer_deep.proofs.JoinedLemmas.{IsPrefixFree, Stops, WordsBegin, begun-first, word_begins, SkipsTo-none, SkipsTo-cons, NoneBegins-first, Behind-lead, Behind-lasts, Behind-comes, Behind-left, Behind-trimmed, Behind-apart, Behind-open}
+use Rattle.infer_deep.proofs.JoinedLemmas.{IsPrefixFree, Stops, WordsBegin, begun-first, word_begins, SkipsTo-none, SkipsTo-cons, NoneBegins-first, After-lead, After-lasts, After-comes, After-left, After-trimmed, After-apart, After-open}
 use Rattle.infer_deep.proofs.PlaceLemmas.{byte_stands, begins-from_OccursAt, OccursAt-begins, OccursAt-front}
 
 -- a mark, or white space, that stands at the front
@@ -174,34 +174,34 @@ NoneBegins-mark b first = NoneBegins-first IsMark IsMarkByte IsMark-begin b (λ 
 
 -- XML is marks and the text after white space
 abbrev IsMarkedXml : List ℕ → Type 0
-IsMarkedXml = Behind IsMark HasXml
+IsMarkedXml = After IsMark HasXml
 
 IsMarkedXml-lead : (b : List ℕ) → IsMarkedXml b → IsMarkByte (get_or b 0 0) ⊎ (get_or b 0 0 ≡ 0x3C)
-IsMarkedXml-lead = Behind-lead IsMark HasXml IsMarkByte (λ x. x ≡ 0x3C) IsMark-begin HasXml-open
+IsMarkedXml-lead = After-lead IsMark HasXml IsMarkByte (λ x. x ≡ 0x3C) IsMark-begin HasXml-open
 
 IsMarkedXml-stops : Stops IsMarkedXml IsSpace
 IsMarkedXml-stops b h = grind (arith, nat_tests, IsMarkedXml-lead b h, NoneBegins-first IsSpace IsWhite IsSpace-begin b, IsSpace-begin b)
 
 IsMarkedXml-left : (b left : List ℕ) → SkipsTo IsMark b left → NoneBegins IsMark left → HasXml left ↔ IsMarkedXml b
-IsMarkedXml-left = Behind-left IsMark HasXml IsMark-prefix_free (λ b h. NoneBegins-mark b (HasXml-open b h))
+IsMarkedXml-left = After-left IsMark HasXml IsMark-prefix_free (λ b h. NoneBegins-mark b (HasXml-open b h))
 
 pub IsHtml-apart_IsXml : AreApart IsHtml IsXml
-IsHtml-apart_IsXml = Behind-apart IsSpace IsMarkedXml IsSpace-prefix_free IsMarkedXml-stops HasTag HasTag-stops
+IsHtml-apart_IsXml = After-apart IsSpace IsMarkedXml IsSpace-prefix_free IsMarkedXml-stops HasTag HasTag-stops
     (λ u tag x. HasTag-apart_xml u tag ((IsMarkedXml-left u u (SkipsTo-none IsMark u) (NoneBegins-mark u (HasTag-open u tag))).1 x))
 
 -- in a buffer that grows
 pub IsHtml-lasts : Lasts IsHtml
-IsHtml-lasts = Behind-lasts IsSpace HasTag HasTag-lasts
+IsHtml-lasts = After-lasts IsSpace HasTag HasTag-lasts
 
 pub IsXml-lasts : Lasts IsXml
-IsXml-lasts = grind (arith, nat_tests, Behind-lasts IsSpace IsMarkedXml (Behind-lasts IsMark HasXml (BeginsInAnyCase-lasts _)), Behind-lasts IsMark HasXml (BeginsInAnyCase-lasts _), BeginsInAnyCase-lasts)
+IsXml-lasts = grind (arith, nat_tests, After-lasts IsSpace IsMarkedXml (After-lasts IsMark HasXml (BeginsInAnyCase-lasts _)), After-lasts IsMark HasXml (BeginsInAnyCase-lasts _), BeginsInAnyCase-lasts)
 
 -- the first byte
 pub IsHtml-lead : (b : List ℕ) → IsHtml b → IsWhite (get_or b 0 0) ⊎ (get_or b 0 0 ≡ 0x3C)
-IsHtml-lead = Behind-lead IsSpace HasTag IsWhite (λ x. x ≡ 0x3C) IsSpace-begin HasTag-open
+IsHtml-lead = After-lead IsSpace HasTag IsWhite (λ x. x ≡ 0x3C) IsSpace-begin HasTag-open
 
 pub IsXml-lead : (b : List ℕ) → IsXml b → IsWhite (get_or b 0 0) ⊎ (get_or b 0 0 ≡ 0x3C) ⊎ IsMarkByte (get_or b 0 0)
-IsXml-lead = Behind-lead IsSpace IsMarkedXml IsWhite (λ y. (y ≡ 0x3C) ⊎ IsMarkByte y) IsSpace-begin (λ u h. grind (arith, IsMarkedXml-lead u h))
+IsXml-lead = After-lead IsSpace IsMarkedXml IsWhite (λ y. (y ≡ 0x3C) ⊎ IsMarkByte y) IsSpace-begin (λ u h. grind (arith, IsMarkedXml-lead u h))
 
 -- what more bytes bring
 pub BeginsWhite-early : IsEarly BeginsWhite
@@ -214,11 +214,11 @@ white_begins : (b more rest : List ℕ) → 1024 ≤ length b → BeginsWith IsS
 white_begins b more rest long w = BeginsWhite-early b more long (begun-first IsSpace IsWhite IsSpace-begin (b ++ more) rest w)
 
 pub IsHtml-comes : ComesWith IsHtml BeginsWhite
-IsHtml-comes = Behind-comes IsSpace HasTag BeginsWhite white_begins (λ b more long h. inl (HasTag-early b more long h))
+IsHtml-comes = After-comes IsSpace HasTag BeginsWhite white_begins (λ b more long h. inl (HasTag-early b more long h))
 
 pub IsXml-comes : ComesWith IsXml (λ b. BeginsWhite b ⊎ BeginsMarked b)
-IsXml-comes = Behind-comes IsSpace IsMarkedXml (λ u. BeginsWhite u ⊎ BeginsMarked u) (λ u y rest l w. inl (white_begins u y rest l w))
-    (Behind-comes IsMark HasXml (λ u. BeginsWhite u ⊎ BeginsMarked u)
+IsXml-comes = After-comes IsSpace IsMarkedXml (λ u. BeginsWhite u ⊎ BeginsMarked u) (λ u y rest l w. inl (white_begins u y rest l w))
+    (After-comes IsMark HasXml (λ u. BeginsWhite u ⊎ BeginsMarked u)
     (λ u y rest l w. inr (BeginsMarked-early u y l (w.word, w.kind, OccursAt-begins (u ++ y) w.word rest w.whole)))
     (λ u y l h. inl (BeginsInAnyCase-front u y _ (omega arith) h)))
 
@@ -278,8 +278,8 @@ no_space_comes (y ∷ ys) none (more, bytes, (x, white, e)) = absurd (none (y �
 
 -- and what can follow white space can come to it
 space_open : (S : List ℕ → Type 0) → Stops S IsSpace → MayBecome S []
-    → (b text : List ℕ) → SkipsTo IsSpace b text → NoneBegins IsSpace text → MayBecome S text ↔ MayBecome (Behind IsSpace S) b
-space_open S stops some b text skips none = grind (arith, Behind-open IsSpace S IsSpace-prefix_free stops some b text skips none, no_space_comes text none)
+    → (b text : List ℕ) → SkipsTo IsSpace b text → NoneBegins IsSpace text → MayBecome S text ↔ MayBecome (After IsSpace S) b
+space_open S stops some b text skips none = grind (arith, After-open IsSpace S IsSpace-prefix_free stops some b text skips none, no_space_comes text none)
 
 HasXml-some : MayBecome HasXml []
 HasXml-some = reached_from_known [] (codes "<?xml") 0 refl refl refl
@@ -296,22 +296,22 @@ HasTag-begun (x ∷ y ∷ b) l h = absurd (omega (arith, l))
 
 IsMarkedXml-open : (text left : List ℕ) → SkipsTo IsMark text left → NoneBegins IsMark left
     → (MayBecome HasXml left ⊎ MayBecome IsMark left) ↔ MayBecome IsMarkedXml text
-IsMarkedXml-open = Behind-open IsMark HasXml IsMark-prefix_free (λ b h. NoneBegins-mark b (HasXml-open b h)) HasXml-some
+IsMarkedXml-open = After-open IsMark HasXml IsMark-prefix_free (λ b h. NoneBegins-mark b (HasXml-open b h)) HasXml-some
 
 -- what is left after white space, and after marks
 module _ (b text : List ℕ) (skips : SkipsTo IsSpace b text) (none : NoneBegins IsSpace text) where
   pub IsHtml-left : HasTag text ↔ IsHtml b
-  IsHtml-left = Behind-left IsSpace HasTag IsSpace-prefix_free HasTag-stops b text skips none
+  IsHtml-left = After-left IsSpace HasTag IsSpace-prefix_free HasTag-stops b text skips none
 
   pub IsHtml-trimmed : IsHtml text ↔ IsHtml b
-  IsHtml-trimmed = Behind-trimmed IsSpace HasTag IsSpace-prefix_free HasTag-stops b text skips none
+  IsHtml-trimmed = After-trimmed IsSpace HasTag IsSpace-prefix_free HasTag-stops b text skips none
 
   pub IsXml-left : (left : List ℕ) → SkipsTo IsMark text left → NoneBegins IsMark left → HasXml left ↔ IsXml b
   IsXml-left left marks ends =
-      grind (arith, IsMarkedXml-left text left marks ends, Behind-left IsSpace IsMarkedXml IsSpace-prefix_free IsMarkedXml-stops b text skips none)
+      grind (arith, IsMarkedXml-left text left marks ends, After-left IsSpace IsMarkedXml IsSpace-prefix_free IsMarkedXml-stops b text skips none)
 
   pub IsXml-trimmed : IsXml text ↔ IsXml b
-  IsXml-trimmed = Behind-trimmed IsSpace IsMarkedXml IsSpace-prefix_free IsMarkedXml-stops b text skips none
+  IsXml-trimmed = After-trimmed IsSpace IsMarkedXml IsSpace-prefix_free IsMarkedXml-stops b text skips none
 
   -- and what it can become
   pub is_html_open : MayBecome HasTag text ↔ MayBecome IsHtml b

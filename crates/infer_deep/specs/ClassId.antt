@@ -77,4 +77,4 @@ format_4 = 0x04 ∷ 0x00 ∷ 0xFE ∷ 0xFF ∷ 0x0C ∷ 0x00 ∷ []
 pub record MayHaveRoot (format : List ℕ) (sector_size : ℕ) (id b : List ℕ) : Type 0 where
   pub header : AgreesAt b format 26
   pub kind : AgreesAt b (5 ∷ []) ((le32 b 48 + 1) * sector_size + 66)
-  pub tells : AgreesAt b id ((le32 b 48 + 1) * sector_size + 80)
+  pub says : AgreesAt b id ((le32 b 48 + 1) * sector_size + 80)

@@ -2,7 +2,7 @@
 use Rattle.std.specs.Prelude.{◌≡◌, ℕ, ◌+◌, ◌≤◌, List, [], ◌∷◌, length, slice_index}
 use Rattle.memchr.specs.Find.{OccursAt}
 use Rattle.infer_deep.specs.Numbers.{le32}
-use Rattle.infer_deep.specs.Joined.{Behind}
+use Rattle.infer_deep.specs.Joined.{After}
 
 -- b begins with a byte from 50 to 5F and then 2A 4D 18, the magic number of a skippable frame
 pub record BeginsFrame (b : List ℕ) : Type 0 where
@@ -17,7 +17,7 @@ pub record IsFrame (frame : List ℕ) : Type 0 where
 
 -- b is some skippable frames joined, perhaps none, and then a buffer that begins with the magic number
 abbrev pub IsFramed : List ℕ → List ℕ → Type 0
-IsFramed magic b = Behind IsFrame (λ rest. OccursAt rest magic 0) b
+IsFramed magic b = After IsFrame (λ rest. OccursAt rest magic 0) b
 
 -- the magic number of Zstandard
 abbrev pub zst_magic : List ℕ

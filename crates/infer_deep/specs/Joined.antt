@@ -23,5 +23,5 @@ abbrev pub LeadsTo : (List ℕ → Type 0) → List ℕ → List ℕ → Type 0
 LeadsTo P b c = (rest : List ℕ) → SkipsTo P c rest → SkipsTo P b rest
 
 -- b is some words of the kind P joined, perhaps none, and then a buffer with the property S
-abbrev pub Behind : (List ℕ → Type 0) → (List ℕ → Type 0) → List ℕ → Type 0
-Behind P S b = (rest : List ℕ) × SkipsTo P b rest × S rest
+abbrev pub After : (List ℕ → Type 0) → (List ℕ → Type 0) → List ℕ → Type 0
+After P S b = (rest : List ℕ) × SkipsTo P b rest × S rest

@@ -36,8 +36,8 @@ pub record IsThirdHeader (At : List ℕ → List ℕ → ℕ → Type 0) (b : Li
 
 -- after the third header decides the third itself if a folder of Office stands 30 past it, and otherwise the
 -- fourth, the least from 56 past the third on
-abbrev pub DecidesBehind : List ℕ → ℕ → ℕ → Type 0
-DecidesBehind b third header =
+abbrev pub DecidesAfter : List ℕ → ℕ → ℕ → Type 0
+DecidesAfter b third header =
     (HasFolder b (third + 30) × (header ≡ third))
     ⊎ ((¬ HasFolder b (third + 30)) × IsHeaderFrom OccursAt b (third + 56) header)
 
@@ -45,7 +45,7 @@ DecidesBehind b third header =
 pub record IsDecidingHeader (b : List ℕ) (header : ℕ) : Type 0 where
   pub third : ℕ
   pub third_found : IsThirdHeader OccursAt b third
-  pub decides : DecidesBehind b third header
+  pub decides : DecidesAfter b third header
 
 -- b begins as a ZIP archive, and p is the place of the folder that decides: 30 if a folder stands there, and
 -- otherwise, after a name of Office, 30 past the header whose folder decides
@@ -77,11 +77,11 @@ IsFolder folder = (folder ≡ codes "word/") ⊎ (folder ≡ codes "ppt/") ⊎ (
 
 -- the folder may decide after a third header that may still be to come: b agrees with it there, or no folder of Office stands there and b agrees
 -- with it at the fourth header, found in the same way
-abbrev pub MayDecideBehind : List ℕ → List ℕ → ℕ → Type 0
-MayDecideBehind folder b third =
+abbrev pub MayDecideAfter : List ℕ → List ℕ → ℕ → Type 0
+MayDecideAfter folder b third =
     AgreesAt b folder (third + 30)
     ⊎ ((¬ HasFolder b (third + 30)) × ((fourth : ℕ) × IsHeaderFrom AgreesAt b (third + 56) fourth × AgreesAt b folder (fourth + 30)))
 
 -- it may decide after some third header, which b agrees with as far as it goes
 abbrev pub MayDecide : List ℕ → List ℕ → Type 0
-MayDecide folder b = (third : ℕ) × IsThirdHeader AgreesAt b third × MayDecideBehind folder b third
+MayDecide folder b = (third : ℕ) × IsThirdHeader AgreesAt b third × MayDecideAfter folder b third

@@ -3,7 +3,7 @@ use Rattle.std.specs.Prelude.{◌≡◌, ◌==◌, ℕ, ◌⊎◌, List, [], ◌
 use Rattle.std.specs.Char.{to_ascii_lowercase}
 use Rattle.std.specs.List.{filter}
 use Rattle.memchr.specs.Find.{OccursAt}
-use Rattle.infer_deep.specs.Joined.{Behind}
+use Rattle.infer_deep.specs.Joined.{After}
 
 -- a byte of white space
 abbrev pub IsWhite : ℕ → Type 0
@@ -58,8 +58,8 @@ tags_with c = filter (λ tag. to_ascii_lowercase (slice_index tag 1) == c) tags
 
 -- b is some white space, perhaps none, and then one of the tags
 abbrev pub IsHtml : List ℕ → Type 0
-IsHtml b = Behind IsSpace (λ text. Any (λ tag. BeginsWithTag tag text) tags) b
+IsHtml b = After IsSpace (λ text. Any (λ tag. BeginsWithTag tag text) tags) b
 
 -- b is some white space, then some marks, perhaps none of either, and then "<?xml" in any ASCII case
 abbrev pub IsXml : List ℕ → Type 0
-IsXml b = Behind IsSpace (Behind IsMark (BeginsInAnyCase (codes "<?xml"))) b
+IsXml b = After IsSpace (After IsMark (BeginsInAnyCase (codes "<?xml"))) b

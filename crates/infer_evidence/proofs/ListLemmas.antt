@@ -3,7 +3,7 @@ use Rattle.infer_evidence.proofs.Common.{◌≡◌, ◌↔◌, ◌+◌, ◌<◌,
 
 -- a test that fails refutes what it decides
 pub refused : {P : Type 0} {r : Bool} → r ≡ false → IsTrue r ↔ P → ¬ P
-refused e tells h = false≢true (sym e ∙ tells.1 h)
+refused e proves h = false≢true (sym e ∙ proves.1 h)
 
 module _ {A : Type 0} (P : A → Type 0) where
   pub none_more : (xs : List A) (i : ℕ) (d : A) → i < length xs → AllWithin (λ x. ¬ P x) xs 0 i → ¬ P (get_or xs i d)

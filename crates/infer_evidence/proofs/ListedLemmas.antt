@@ -11,18 +11,18 @@ module _ {A B : Type 0} (p : B → Bool) (f : A → B) where
   list_all_map [] = refl
   list_all_map (x ∷ xs) = ap (λ rest. p (f x) && rest) (list_all_map xs)
 
-  module _ (P : A → Type 0) (tells : (x : A) → IsTrue (p (f x)) ↔ P x) where
+  module _ (P : A → Type 0) (proves : (x : A) → IsTrue (p (f x)) ↔ P x) where
     pub any_told : (xs : List A) → IsTrue (list_any p (map f xs)) ↔ Any P xs
     any_told xs = (
       λ h. let found = Any-from_list_any (λ x. p (f x)) xs (sym (list_any_map xs) ∙ h) in
-          (found.0, found.1, found.2, found.3, (tells found.1).0 found.4),
-      λ found. list_any_map xs ∙ list_any-from_Any (λ x. p (f x)) xs (found.0, found.1, found.2, found.3, (tells found.1).1 found.4),
+          (found.0, found.1, found.2, found.3, (proves found.1).0 found.4),
+      λ found. list_any_map xs ∙ list_any-from_Any (λ x. p (f x)) xs (found.0, found.1, found.2, found.3, (proves found.1).1 found.4),
     )
 
-    pub all_told : (xs : List A) → IsTrue (list_all p (map f xs)) ↔ All P xs
-    all_told xs = (
-      λ h k d lt. (tells (get_or xs k d)).0 (AllPass-from_list_all (λ x. p (f x)) xs (sym (list_all_map xs) ∙ h) k d lt),
-      λ all. list_all_map xs ∙ list_all-from_AllPass (λ x. p (f x)) xs (λ k d lt. (tells (get_or xs k d)).1 (all k d lt)),
+    pub all_refused_already : (xs : List A) → IsTrue (list_all p (map f xs)) ↔ All P xs
+    all_refused_already xs = (
+      λ h k d lt. (proves (get_or xs k d)).0 (AllPass-from_list_all (λ x. p (f x)) xs (sym (list_all_map xs) ∙ h) k d lt),
+      λ all. list_all_map xs ∙ list_all-from_AllPass (λ x. p (f x)) xs (λ k d lt. (proves (get_or xs k d)).1 (all k d lt)),
     )
 
 -- with what it means that a text stands somewhere
@@ -37,7 +37,7 @@ module _ (by_place : (place : ℕ) (t b : List ℕ) → IsTrue (stands place t b
 
   alternative_told : (a : Alternative) → IsTrue (fits b (alternative_listed a)) ↔ HasAlternative b a
   alternative_told a =
-      let parts = all_told (has_part b) part_listed (HasPart b) part_told a.parts.now in (
+      let parts = all_refused_already (has_part b) part_listed (HasPart b) part_told a.parts.now in (
         λ h. let both = and_parts _ _ h in (leb-true a.least (length b) both.0, parts.0 both.1),
         λ has. and_from _ _ (le-leb a.least (length b) has.0) (parts.1 has.1),
       )

@@ -1,7 +1,7 @@
 -- One range more.
 use Rattle.infer_evidence.proofs.Common.{◌≡◌, ◌-◌, get_or, place_in, ◌+◌, ◌<◌, ◌≤◌, ◌∷◌, ◌++◌, ◌∙◌, ℕ, List, [], All, length, take, take_all, set, subst, sym, arith, length-append, get_or_append_left, get_or-append_right, take-set_at, Any, Evidence, Range, All-push, AgreesOn, HasSame, IsAround, IsInside, IsOf, IsSame, ranges_of}
 
--- what holds of each element of a list and of one behind it, it holds of each
+-- what holds of each element of a list and of one after it, it holds of each
 module _ (P : Range → Type 0) where
   front_and_last : (xs : List Range) (r : Range) → All P (xs ++ r ∷ []) → All P xs × P r
   front_and_last xs r h = (

@@ -23,9 +23,9 @@ nowhere_more text b c start h is same before p lt = elim (cases_lt p start) as (
 ]
 
 -- and with all bytes of b from some place on nowhere there, if b has it nowhere
-pub nowhere_behind : (text b c : List ℕ) (from end : ℕ) (r : Range) → end ≤ length b → StandsNowhereBy text end b
+pub nowhere_after : (text b c : List ℕ) (from end : ℕ) (r : Range) → end ≤ length b → StandsNowhereBy text end b
     → r.place ≡ from → r.len ≡ end - from → r.step ≡ 1 → IsSame b c r → (p : ℕ) → from ≤ p → p + length text ≤ end → ¬ OccursAt c text p
-nowhere_behind text b c from end r within none place len step same p low high o =
+nowhere_after text b c from end r within none place len step same p low high o =
     none p high (record {
       fits = omega (arith, within, high);
       reads = λ j lt. sym (in_a_row b c r step same (p + j) (omega (arith, place, low)) (omega (arith, place, len, low, high, lt))).1 ∙ o.reads j lt;

@@ -44,8 +44,8 @@ fn last_foreign(text: &[u8], buf: &[u8], start: usize) -> Option<Hit>
     requires { start + length text.now ≤ length buf.now }
     ensures { IfSome result (IsHit text.now buf.now start) }
 {
-    for behind in 0..text.len() {
-        let place = start + (text.len() - 1 - behind);
+    for after in 0..text.len() {
+        let place = start + (text.len() - 1 - after);
         if is_foreign(text, buf, start, place) {
             return Some(Hit {
                 place,
@@ -86,7 +86,7 @@ fn refuse_everywhere(
 )
     requires within { end ≤ length buf.now }
     requires nowhere { StandsNowhereBy search.now.text.now end buf.now }
-    ensures tells { (c : List ℕ) → AgreesOn evidence.new buf.now c → AgreesOn evidence.old buf.now c
+    ensures proves { (c : List ℕ) → AgreesOn evidence.new buf.now c → AgreesOn evidence.old buf.now c
         × StandsNowhereBy search.now.text.now end c }
     ensures inside { IsOf evidence.old buf.now → IsOf evidence.new buf.now }
     ensures few { evidence.new.count ≤ max most (evidence.old.count + 1) }
@@ -117,7 +117,7 @@ fn refuse_everywhere(
 #[inline(always)]
 pub fn refuse_search(search: &Search, buf: &[u8], row: Option<usize>, evidence: &mut Evidence)
     requires { ¬ StandsBy search.now.text.now search.now.end buf.now }
-    ensures tells { (c : List ℕ) → AgreesOn evidence.new buf.now c → AgreesOn evidence.old buf.now c
+    ensures proves { (c : List ℕ) → AgreesOn evidence.new buf.now c → AgreesOn evidence.old buf.now c
         × ¬ StandsBy search.now.text.now search.now.end c }
     ensures inside { IsOf evidence.old buf.now → IsOf evidence.new buf.now }
     ensures few { evidence.new.count ≤ evidence.old.count + MOST_OF_A_SEARCH }
@@ -150,7 +150,7 @@ fn first_place(text: &[u8], buf: &[u8], end: usize) -> Option<usize>
 /// Asks for that by which it does: for the bytes of its first place.
 pub fn accept_search(search: &Search, buf: &[u8], row: Option<usize>, evidence: &mut Evidence)
     requires { StandsBy search.now.text.now search.now.end buf.now }
-    ensures tells { (c : List ℕ) → AgreesOn evidence.new buf.now c → AgreesOn evidence.old buf.now c
+    ensures proves { (c : List ℕ) → AgreesOn evidence.new buf.now c → AgreesOn evidence.old buf.now c
         × StandsBy search.now.text.now search.now.end c }
     ensures inside { IsOf evidence.old buf.now → IsOf evidence.new buf.now }
     ensures few { evidence.new.count ≤ evidence.old.count + 1 }

@@ -84,7 +84,7 @@ fn has_part(part: &Part, buf: &[u8]) -> bool
 fn text_held(text: &[u8], place: usize, buf: &[u8], row: Option<usize>) -> Range
     requires { StandsByPlace place text.now buf.now }
     ensures inside { IsInside buf.now result }
-    ensures tells { (c : List ℕ) → IsSame buf.now c result → StandsByPlace place text.now c }
+    ensures proves { (c : List ℕ) → IsSame buf.now c result → StandsByPlace place text.now c }
 {
     Range::new(place, text.len(), row)
 }
@@ -93,7 +93,7 @@ fn text_held(text: &[u8], place: usize, buf: &[u8], row: Option<usize>) -> Range
 fn held(part: &Part, buf: &[u8], row: Option<usize>) -> Range
     requires { HasPart buf.now part.now }
     ensures inside { IsInside buf.now result }
-    ensures tells { (c : List ℕ) → IsSame buf.now c result → HasPart c part.now }
+    ensures proves { (c : List ℕ) → IsSame buf.now c result → HasPart c part.now }
 {
     match part {
         Part::Text(place, text) => text_held(text, *place, buf, row),
@@ -109,7 +109,7 @@ fn held(part: &Part, buf: &[u8], row: Option<usize>) -> Range
 fn text_refused(text: &[u8], place: usize, buf: &[u8], row: Option<usize>) -> Refusal
     requires { ¬ StandsByPlace place text.now buf.now }
     ensures inside { IsInside buf.now result.range }
-    ensures tells { (c : List ℕ) → IsSameTo buf.now c result → ¬ StandsByPlace place text.now c }
+    ensures proves { (c : List ℕ) → IsSameTo buf.now c result → ¬ StandsByPlace place text.now c }
 {
     match difference(buf, text, place) {
         Some(place) => Refusal {
@@ -124,7 +124,7 @@ fn text_refused(text: &[u8], place: usize, buf: &[u8], row: Option<usize>) -> Re
 fn texts_refused(texts: &[&[u8]], place: usize, buf: &[u8], row: Option<usize>) -> Refusal
     requires { StandsNone place texts.now buf.now }
     ensures inside { IsInside buf.now result.range }
-    ensures tells { (c : List ℕ) → IsSameTo buf.now c result → StandsNone place texts.now c }
+    ensures proves { (c : List ℕ) → IsSameTo buf.now c result → StandsNone place texts.now c }
 {
     let longest = longest(texts);
     let place = place.min(buf.len());
@@ -150,7 +150,7 @@ fn short(row: Option<usize>) -> Refusal
 fn refused(part: &Part, buf: &[u8], row: Option<usize>) -> Refusal
     requires { ¬ HasPart buf.now part.now }
     ensures inside { IsInside buf.now result.range }
-    ensures tells { (c : List ℕ) → IsSameTo buf.now c result → ¬ HasPart c part.now }
+    ensures proves { (c : List ℕ) → IsSameTo buf.now c result → ¬ HasPart c part.now }
 {
     match part {
         Part::Text(place, text) => text_refused(text, *place, buf, row),
@@ -162,7 +162,7 @@ fn refused(part: &Part, buf: &[u8], row: Option<usize>) -> Refusal
 /// The byte at the place, or that there is none.
 fn byte_refused(place: usize, buf: &[u8], row: Option<usize>) -> Refusal
     ensures inside { IsInside buf.now result.range }
-    ensures tells { (c : List ℕ) → IsSameTo buf.now c result → place < length c
+    ensures proves { (c : List ℕ) → IsSameTo buf.now c result → place < length c
         → (place < length buf.now) × (slice_index c place ≡ slice_index buf.now place) }
 {
     if place >= buf.len() {
@@ -192,7 +192,7 @@ fn lacking<P: AsPart>(parts: &[P], buf: &[u8]) -> Option<Part>
 /// The bytes by which the buffer has another text at that place, if it has bytes of another there.
 fn text_differing(text: &[u8], place: usize, buf: &[u8], row: Option<usize>) -> Option<Range>
     ensures inside { IfSome result (IsInside buf.now) }
-    ensures tells { IfSome result (λ range. (c : List ℕ) → IsSame buf.now c range
+    ensures proves { IfSome result (λ range. (c : List ℕ) → IsSame buf.now c range
         → ¬ StandsByPlace place text.now c) }
 {
     match difference(buf, text, place) {
@@ -204,7 +204,7 @@ fn text_differing(text: &[u8], place: usize, buf: &[u8], row: Option<usize>) -> 
 /// The byte that stands at the place and is not in the set, if there is one.
 fn byte_differing(set: &Set, place: usize, buf: &[u8], row: Option<usize>) -> Option<Range>
     ensures inside { IfSome result (IsInside buf.now) }
-    ensures tells { IfSome result (λ range. (c : List ℕ) → IsSame buf.now c range
+    ensures proves { IfSome result (λ range. (c : List ℕ) → IsSame buf.now c range
         → ¬ HasPart c (parts.Byte place set.now)) }
 {
     if place >= buf.len() || allows(set, buf[place]) {
@@ -216,7 +216,7 @@ fn byte_differing(set: &Set, place: usize, buf: &[u8], row: Option<usize>) -> Op
 /// What the buffer has in the place of all of these texts, if it is long enough for each.
 fn texts_differing(texts: &[&[u8]], place: usize, buf: &[u8], row: Option<usize>) -> Option<Range>
     ensures inside { IfSome result (IsInside buf.now) }
-    ensures tells { IfSome result (λ range. (c : List ℕ) → IsSame buf.now c range
+    ensures proves { IfSome result (λ range. (c : List ℕ) → IsSame buf.now c range
         → StandsNone place texts.now c) }
 {
     if standing(buf, texts, place).is_some() {
@@ -232,7 +232,7 @@ fn texts_differing(texts: &[&[u8]], place: usize, buf: &[u8], row: Option<usize>
 /// The bytes by which the buffer lacks the part, whatever its length is, if it lacks it so.
 fn differing(part: &Part, buf: &[u8], row: Option<usize>) -> Option<Range>
     ensures inside { IfSome result (IsInside buf.now) }
-    ensures tells { IfSome result (λ range. (c : List ℕ) → IsSame buf.now c range
+    ensures proves { IfSome result (λ range. (c : List ℕ) → IsSame buf.now c range
         → ¬ HasPart c part.now) }
 {
     match part {
@@ -245,7 +245,7 @@ fn differing(part: &Part, buf: &[u8], row: Option<usize>) -> Option<Range>
 /// The bytes by which the buffer lacks a part, whatever its length is, if it lacks some part so.
 fn refused_by_bytes<P: AsPart>(parts: &[P], buf: &[u8], row: Option<usize>) -> Option<Range>
     ensures inside { IfSome result (IsInside buf.now) }
-    ensures tells { IfSome result (λ range. (c : List ℕ) → IsSame buf.now c range
+    ensures proves { IfSome result (λ range. (c : List ℕ) → IsSame buf.now c range
         → ¬ All (λ p. P.asks p c) parts.now) }
 {
     for asked in parts {
@@ -273,7 +273,7 @@ pub fn accept<P: AsPart>(
     evidence: &mut Evidence,
 )
     requires { HasParts P.asks buf.now least parts.now }
-    ensures tells { (c : List ℕ) → AgreesOn evidence.new buf.now c → AgreesOn evidence.old buf.now c
+    ensures proves { (c : List ℕ) → AgreesOn evidence.new buf.now c → AgreesOn evidence.old buf.now c
         × HasParts P.asks c least parts.now }
     ensures inside { IsOf evidence.old buf.now → IsOf evidence.new buf.now }
     ensures few { evidence.new.count ≤ evidence.old.count + length parts.now }
@@ -293,7 +293,7 @@ pub fn refuse<P: AsPart>(
     evidence: &mut Evidence,
 )
     requires { ¬ HasParts P.asks buf.now least parts.now }
-    ensures tells { (c : List ℕ) → AgreesOn evidence.new buf.now c → AgreesOn evidence.old buf.now c
+    ensures proves { (c : List ℕ) → AgreesOn evidence.new buf.now c → AgreesOn evidence.old buf.now c
         × ¬ HasParts P.asks c least parts.now }
     ensures inside { IsOf evidence.old buf.now → IsOf evidence.new buf.now }
     ensures few { evidence.new.count ≤ evidence.old.count + 1 }
@@ -324,7 +324,7 @@ fn asked_byte(place: usize, buf: &[u8], evidence: &Evidence) -> Option<u8>
 
 /// Whether the buffer lacks the part, and bytes that are asked for already decide it: the first that it asks for.
 #[inline(always)]
-fn is_told_lacking(part: &Part, buf: &[u8], evidence: &Evidence) -> bool
+fn lacks_already(part: &Part, buf: &[u8], evidence: &Evidence) -> bool
     ensures { IsTrue result → (c : List ℕ) → IsLike evidence.now buf.now c
         → ¬ HasPart c part.now }
 {
@@ -345,7 +345,7 @@ fn is_told_lacking(part: &Part, buf: &[u8], evidence: &Evidence) -> bool
 
 /// Whether the buffer is too short for the alternative or lacks what that asks first, and what is asked for already decides it.
 #[inline(always)]
-fn is_told(alternative: &Alternative, buf: &[u8], evidence: &Evidence) -> bool
+fn refused_already(alternative: &Alternative, buf: &[u8], evidence: &Evidence) -> bool
     ensures { IsTrue result → (c : List ℕ) → IsLike evidence.now buf.now c
         → ¬ HasAlternative c alternative.now }
 {
@@ -353,18 +353,18 @@ fn is_told(alternative: &Alternative, buf: &[u8], evidence: &Evidence) -> bool
         return true;
     }
     match alternative.parts.first() {
-        Some(part) => is_told_lacking(part, buf, evidence),
+        Some(part) => lacks_already(part, buf, evidence),
         None => false,
     }
 }
 
 /// Whether the buffer lacks each alternative, and what is asked for already decides it.
-fn all_told(signature: &[Alternative], buf: &[u8], evidence: &Evidence) -> bool
+fn all_refused_already(signature: &[Alternative], buf: &[u8], evidence: &Evidence) -> bool
     ensures { IsTrue result → (c : List ℕ) → IsLike evidence.now buf.now c
         → All (λ a. ¬ HasAlternative c a) signature.now }
 {
     for alternative in signature {
-        if !is_told(alternative, buf, evidence) {
+        if !refused_already(alternative, buf, evidence) {
             return false;
         }
     }
@@ -382,7 +382,9 @@ fn fitting<'a>(
     ensures none { result ≡ None → All (λ a. ¬ HasAlternative buf.now a) signature.now }
 {
     for alternative in signature {
-        if !is_told(alternative, buf, evidence) && fits(alternative.least, alternative.parts, buf) {
+        if !refused_already(alternative, buf, evidence)
+            && fits(alternative.least, alternative.parts, buf)
+        {
             return Some(alternative);
         }
     }
@@ -393,7 +395,7 @@ fn fitting<'a>(
 fn refused_alone(signature: &[Alternative], buf: &[u8], row: Option<usize>) -> Option<Range>
     ensures alone { IfSome result (λ range. length signature.now ≡ 1) }
     ensures inside { IfSome result (IsInside buf.now) }
-    ensures tells { IfSome result (λ range. (c : List ℕ) → IsSame buf.now c range
+    ensures proves { IfSome result (λ range. (c : List ℕ) → IsSame buf.now c range
         → All (λ a. ¬ HasAlternative c a) signature.now) }
 {
     match signature {
@@ -409,12 +411,12 @@ fn refused_alone(signature: &[Alternative], buf: &[u8], row: Option<usize>) -> O
 #[inline(always)]
 fn refuse_one(alternative: &Alternative, buf: &[u8], row: Option<usize>, evidence: &mut Evidence)
     requires { ¬ HasAlternative buf.now alternative.now }
-    ensures tells { (c : List ℕ) → AgreesOn evidence.new buf.now c → AgreesOn evidence.old buf.now c
+    ensures proves { (c : List ℕ) → AgreesOn evidence.new buf.now c → AgreesOn evidence.old buf.now c
         × ¬ HasAlternative c alternative.now }
     ensures inside { IsOf evidence.old buf.now → IsOf evidence.new buf.now }
     ensures few { evidence.new.count ≤ evidence.old.count + 1 }
 {
-    if !is_told(alternative, buf, evidence) {
+    if !refused_already(alternative, buf, evidence) {
         refuse(alternative.least, alternative.parts, buf, row, evidence);
     }
 }
@@ -422,7 +424,7 @@ fn refuse_one(alternative: &Alternative, buf: &[u8], row: Option<usize>, evidenc
 /// Asks for that by which the buffer lacks each of the alternatives.
 fn refuse_all(signature: &[Alternative], buf: &[u8], row: Option<usize>, evidence: &mut Evidence)
     requires { All (λ a. ¬ HasAlternative buf.now a) signature.now }
-    ensures tells { (c : List ℕ) → AgreesOn evidence.new buf.now c → AgreesOn evidence.old buf.now c
+    ensures proves { (c : List ℕ) → AgreesOn evidence.new buf.now c → AgreesOn evidence.old buf.now c
         × All (λ a. ¬ HasAlternative c a) signature.now }
     ensures inside { IsOf evidence.old buf.now → IsOf evidence.new buf.now }
     ensures few { evidence.new.count ≤ evidence.old.count + length signature.now }
@@ -441,7 +443,7 @@ pub fn weigh(
     evidence: &mut Evidence,
 ) -> bool
     ensures answer { IsTrue result ↔ IsTrue (accepts (signature_listed signature.now) buf.now) }
-    ensures tells { (c : List ℕ) → AgreesOn evidence.new buf.now c → AgreesOn evidence.old buf.now c
+    ensures proves { (c : List ℕ) → AgreesOn evidence.new buf.now c → AgreesOn evidence.old buf.now c
         × (IsTrue (accepts (signature_listed signature.now) c)
         ↔ IsTrue (accepts (signature_listed signature.now) buf.now)) }
     ensures inside { IsOf evidence.old buf.now → IsOf evidence.new buf.now }
@@ -449,7 +451,7 @@ pub fn weigh(
         ≤ evidence.old.count + most_ranges (signature_listed signature.now) }
 {
     laws::by_place();
-    if all_told(signature, buf, evidence) {
+    if all_refused_already(signature, buf, evidence) {
         return false;
     }
     if let Some(range) = refused_alone(signature, buf, row) {

@@ -39,7 +39,7 @@ module _ (by_place : ByPlace) (b : List ℕ) where
   abbrev pub known_begins : (t : List ℕ) → Known (Begins t b)
   known_begins t = either (Place.occurs by_place t b 0) (both (Place.occurs by_place utf8_mark b 0) (Place.occurs by_place t b 3))
 
-  -- the second text stands right behind the first, or nowhere
+  -- the second text stands right after the first, or nowhere
   abbrev known_somewhere : (u : List ℕ) (p : ℕ) → Known ((p : ℕ) × OccursAt b u p)
   known_somewhere u p = elim (Place.occurs by_place u b p) [
     | proved o ↦ proved (p, o)
@@ -52,7 +52,7 @@ module _ (by_place : ByPlace) (b : List ℕ) where
     there ← needs (known_somewhere u (length t)) (λ h. h.1)
     proved (begun, there)
 
-  -- the others stand one behind the other, or nowhere
+  -- the others stand one after the other, or nowhere
   abbrev pub known_begins_and_has_all : (t u v w : List ℕ) → Known (BeginsAndHasAll t u v w b)
   known_begins_and_has_all t u v w = do
     begun ← needs (known_begins t) (λ h. h.0)

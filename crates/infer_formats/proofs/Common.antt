@@ -38,20 +38,20 @@ pub use Rattle.infer_sig.specs.Places.{StandsByPlace}
 pub use Rattle.infer_sig.specs.Signature.{Part, accepts, all_but, allows, any_of, at_least, between, fits, has_part}
 pub use Rattle.infer_sig.specs.Signature.{stands}
 -- of the definitions
-pub use Rattle.infer_formats.specs.Dbase.{BeginsName, IsDbase, behind, versions}
+pub use Rattle.infer_formats.specs.Dbase.{BeginsName, IsDbase, after, versions}
 pub use Rattle.infer_formats.specs.Elf.{AsksAt, HasOwnTable, IsSharedObject, counted_length, entry_count, entry_size}
 pub use Rattle.infer_formats.specs.Elf.{known_size, table_place}
-pub use Rattle.infer_formats.specs.Json.{BeginsLines, BeginsText, BeginsToken, BeginsWhole, BehindBlanks, CanBe}
-pub use Rattle.infer_formats.specs.Json.{IsAmong, IsBlank, IsJson, IsJsonLines, IsKind, IsStructural, NoneGoesOn}
+pub use Rattle.infer_formats.specs.Json.{BeginsLines, BeginsText, BeginsToken, BeginsWhole, AfterBlanks, CanBe}
+pub use Rattle.infer_formats.specs.Json.{IsAmong, IsBlank, IsJson, IsJsonLines, SaysJson, IsStructural, NoneGoesOn}
 pub use Rattle.infer_formats.specs.Json.{BeginsWithToken, Stands, Symbol, UpToMark, blanks, by_rule, byte, char, chars}
 pub use Rattle.infer_formats.specs.Json.{digit, digits, escape, exact, exponent, fraction, hex, items, member, members}
 pub use Rattle.infer_formats.specs.Json.{more_items, more_members, next_line, nothing, number, one, power, range, rules}
 pub use Rattle.infer_formats.specs.Json.{same_line, text, value, integer}
 unfoldable pub use Rattle.infer_formats.specs.JsonStates.{frames}
-pub use Rattle.infer_formats.specs.JsonStates.{EndTells, EndsNumber, Follows, IsBracket, IsClosedTo, IsKindBefore}
-pub use Rattle.infer_formats.specs.JsonStates.{IsKindPastMark, IsNextLine, IsNested, IsPast, IsPastMark, Leaves}
-pub use Rattle.infer_formats.specs.JsonStates.{LineTells, MayGoOn, NoToken, Onward, PlaceTells, Reads, Starts}
-pub use Rattle.infer_formats.specs.JsonStates.{StartsLine, TellsAsMuch, closing, due_left, first_in, left, more_in}
+pub use Rattle.infer_formats.specs.JsonStates.{EndSays, EndsNumber, Follows, IsBracket, IsClosedTo, SaysJsonBefore}
+pub use Rattle.infer_formats.specs.JsonStates.{SaysJsonPastMark, IsNextLine, IsNested, IsPast, IsPastMark, Leaves}
+pub use Rattle.infer_formats.specs.JsonStates.{LineSays, MayGoOn, NoToken, Onward, PlaceSays, Reads, Starts}
+pub use Rattle.infer_formats.specs.JsonStates.{StartsLine, SaysAsMuch, closing, due_left, first_in, left, more_in}
 pub use Rattle.infer_formats.specs.JsonStates.{next_left, beginning}
 pub use Rattle.infer_formats.specs.Markup.{AgreesWithDoctype, BeginsAt, BeginsElement, ClosesDeclaration, HasInTag}
 pub use Rattle.infer_formats.specs.Markup.{HasRoot, HasRootWith, IsDoctype, IsEnclosed, IsMisc, IsNameByte, IsPart}
@@ -75,8 +75,8 @@ pub use Rattle.infer_formats.specs.Zip.{FirstEntryEndsIn, FirstEntryHasExtra, Fi
 pub use Rattle.infer_formats.specs.Zip.{IsFolderEntry, IsPackageWith, IsPartEntry, MayBeginPackage, applications}
 pub use Rattle.infer_formats.specs.declared.json.reader.Due.{Due}
 pub use Rattle.infer_formats.specs.declared.json.reader.Due.TheVariants.{After, Colon, First, Key, Value}
-pub use Rattle.infer_formats.specs.declared.json.Kind.{Kind}
-pub use Rattle.infer_formats.specs.declared.json.Kind.TheVariants.{Lines, Text}
+pub use Rattle.infer_formats.specs.declared.json.Json.{Json}
+pub use Rattle.infer_formats.specs.declared.json.Json.TheVariants.{Lines, Text}
 pub use Rattle.infer_formats.specs.declared.json.reader.Next.{Next}
 pub use Rattle.infer_formats.specs.declared.json.reader.Next.TheVariants.{Between, Closed, InKey, InValue}
 pub use Rattle.infer_formats.specs.declared.json.reader.Reader.{Reader}
@@ -88,7 +88,7 @@ pub use Rattle.infer_formats.specs.declared.json.token.Token.TheVariants.{Fals, 
 pub use Rattle.infer_formats.specs.declared.json.token.Token.TheVariants.{N, Nu, Nul, Point, Power, Sign, T, Tr, Tru}
 pub use Rattle.infer_formats.specs.declared.json.token.Token.TheVariants.{Integer, Zero}
 pub use Rattle.infer_formats.specs.Open.{MayBe, Stays}
-pub use Rattle.infer_formats.specs.Outline.{counted, counted_for, digit_behind, digits_behind, json_outline}
+pub use Rattle.infer_formats.specs.Outline.{counted, counted_for, digit_after, digits_after, json_outline}
 pub use Rattle.infer_formats.specs.Outline.{markup_lines, named}
 pub use Rattle.infer_formats.specs.Relation.{Fits, HasLines, Relation, animated, class_id, dbase, directory_tag}
 pub use Rattle.infer_formats.specs.Relation.{first_entry_ends_in, first_entry_has_extra, first_entry_is, is_lasting}

@@ -1,5 +1,5 @@
 -- dBASE tables: what more bytes keep and may make, and the bytes that each has.
-use Rattle.infer_formats.proofs.Common.{◌≡◌, ℕ, ◌+◌, ◌≤◌, List, ◌++◌, length, codes, sym, subst, ◌∙◌, arith, get_or_append_left, le16, MayBecome, BeginsName, IsDbase, behind, versions, true, refl, ap, ◌↔◌, IsTrue, and_from, le-leb, lt-ltb, or_left, nat_le, nat_lt, le16-append, lines, dbase, StandsByPlace, accepts, stands, ◌==◌, inl, slice_index}
+use Rattle.infer_formats.proofs.Common.{◌≡◌, ℕ, ◌+◌, ◌≤◌, List, ◌++◌, length, codes, sym, subst, ◌∙◌, arith, get_or_append_left, le16, MayBecome, BeginsName, IsDbase, after, versions, true, refl, ap, ◌↔◌, IsTrue, and_from, le-leb, lt-ltb, or_left, nat_le, nat_lt, le16-append, lines, dbase, StandsByPlace, accepts, stands, ◌==◌, inl, slice_index}
 use Rattle.infer_formats.specs.Dbase.{IsOneOf, MayBeDbase}
 use Rattle.infer_formats.proofs.GrowthLemmas.{carried, kept, longer}
 use Rattle.infer_formats.proofs.OpenLemmas.{known}
@@ -24,7 +24,7 @@ module _ (b more : List ℕ) where
     (
       e,
       (
-        ap (λ x. e + behind x) (kept b more 0 (omega arith)) ∙ sum ∙ sym (le16-append b more 8 (omega arith)),
+        ap (λ x. e + after x) (kept b more 0 (omega arith)) ∙ sum ∙ sym (le16-append b more 8 (omega arith)),
         low,
         whole,
         longer b more _ inside,
@@ -76,6 +76,6 @@ module _ (b : List ℕ) where
     name ← takes (both (at_most 0x41 (slice_index b 32)) (at_most (slice_index b 32) 0x5A))
     kind ← takes (is (list_any (λ y. slice_index b 43 == y) (codes "+@BCDFGILMNOPTVXY")))
     many ← takes (at_most 2 (le16 b 10))
-    sum ← takes (same (64 + behind (slice_index b 0)) (le16 b 8))
+    sum ← takes (same (64 + after (slice_index b 0)) (le16 b 8))
     end ← takes (same (slice_index b 64) 0x0D)
     proved (long, (version, month, day, zeros), (inl name, kind), many, (64, (sum, omega arith, refl, long, end)))

@@ -3,7 +3,7 @@ use Rattle.infer_formats.proofs.Common.{[], ◌≡◌, ◌⊎◌, inl, inr, ℕ,
 use Rattle.std.proofs.lemmas.List.{append_cancel_left}
 use denote.Ref.{Bor}
 use Rattle.infer_formats.specs.FirstKey.{BeginsByKey, BeginsByValue, HasFirstKey, HasFirstKeyWith, StandsNext, in_quotes}
-use Rattle.infer_formats.specs.Laws.{BeginsBehindBlanks, HasBracket}
+use Rattle.infer_formats.specs.Laws.{BeginsAfterBlanks, HasBracket}
 use Rattle.infer_formats.specs.Outline.{object_outline}
 use Rattle.infer_formats.proofs.OutlineLemmas.{begins_among, marked}
 use Rattle.infer_sig.specs.Signature.{byte}
@@ -15,7 +15,7 @@ abbrev pub Told : (List ℕ → Type 0) → Option (List ℕ) → Type 0
 Told P None = (left : List ℕ) → ¬ P left
 Told P (Some rest) = (left : List ℕ) → P left ↔ (left ≡ rest)
 
--- ---- white space, and a text behind it
+-- ---- white space, and a text after it
 
 pub next_past : (x : ℕ) (t s w left : List ℕ) → ¬ IsBlank x → IsPast s w → StandsNext (x ∷ t) s left ↔ (w ≡ x ∷ (t ++ left))
 next_past x t [] w left dark e = (λ h. absurd cc, λ f. absurd (cc))
@@ -55,25 +55,25 @@ next_lasts t (x ∷ s) left more (inr (blank, later)) = inr (blank, next_lasts t
 
 module _ (k : List ℕ) where
   pub key_lasts : (w left more : List ℕ) → BeginsByKey k w left → BeginsByKey k (w ++ more) (left ++ more)
-  key_lasts w left more (inside, behind, first, key, colon) =
-      (inside ++ more, behind ++ more, next_lasts (0x7B ∷ []) w inside more first, next_lasts (in_quotes k) inside behind more key, next_lasts (0x3A ∷ []) behind left more colon)
+  key_lasts w left more (inside, after, first, key, colon) =
+      (inside ++ more, after ++ more, next_lasts (0x7B ∷ []) w inside more first, next_lasts (in_quotes k) inside after more key, next_lasts (0x3A ∷ []) after left more colon)
 
   no_key : (x : ℕ) (u left : List ℕ) → x ≡ 0xEF → ¬ BeginsByKey k (x ∷ u) left
-  no_key x u left mark (inside, behind, inl e, key, colon) = let first : x ≡ 0x7B = cc in absurd (omega arith)
-  no_key x u left mark (inside, behind, inr (blank, later), key, colon) = absurd (grind arith)
+  no_key x u left mark (inside, after, inl e, key, colon) = let first : x ≡ 0x7B = cc in absurd (omega arith)
+  no_key x u left mark (inside, after, inr (blank, later), key, colon) = absurd (grind arith)
 
   pub no_mark : (u left : List ℕ) → ¬ BeginsByKey k (0xEF ∷ u) left
   no_mark u left = no_key 0xEF u left refl
 
-  bracket_leads : (w inside : List ℕ) → StandsNext (0x7B ∷ []) w inside → BeginsBehindBlanks w
+  bracket_leads : (w inside : List ℕ) → StandsNext (0x7B ∷ []) w inside → BeginsAfterBlanks w
   bracket_leads [] inside e = absurd (cc)
   bracket_leads (x ∷ w) inside (inl e) = at_once x w (inr (let first : x ≡ 0x7B = cc in first))
   bracket_leads (x ∷ w) inside (inr (blank, later)) = one_more x w blank (bracket_leads w inside later)
 
-  pub key_leads : (w left : List ℕ) → BeginsByKey k w left → BeginsBehindBlanks w
-  key_leads w left (inside, behind, first, key, colon) = bracket_leads w inside first
+  pub key_leads : (w left : List ℕ) → BeginsByKey k w left → BeginsAfterBlanks w
+  key_leads w left (inside, after, first, key, colon) = bracket_leads w inside first
 
--- ---- behind a mark
+-- ---- after a mark
 
 module _ (P : List ℕ → Type 0) where
   pub up_to_mark : (b w : List ℕ) → IsPastMark b w → ((u : List ℕ) → ¬ P (0xEF ∷ u)) → UpToMark P b ↔ P w
@@ -96,7 +96,7 @@ module _ (P : List ℕ → Type 0) where
   mark_lasts b more lasts (inl p) = inl (lasts b p)
   mark_lasts b more lasts (inr (w, e, p)) = inr (w ++ more, ap (λ u. u ++ more) e, lasts w p)
 
-  mark_leads : (b : List ℕ) → ((w : List ℕ) → P w → BeginsBehindBlanks w) → UpToMark P b → UpToMark BeginsBehindBlanks b
+  mark_leads : (b : List ℕ) → ((w : List ℕ) → P w → BeginsAfterBlanks w) → UpToMark P b → UpToMark BeginsAfterBlanks b
   mark_leads b begins (inl p) = inl (begins b p)
   mark_leads b begins (inr (w, e, p)) = inr (w, e, begins w p)
 
@@ -117,16 +117,16 @@ module _ (k : List ℕ) where
   first_key_with-lasts v b more h =
       mark_lasts (BeginsByValue k v) b more (λ w (value, left, key, text). (value ++ more, left ++ more, key_lasts k w value more key, next_lasts (in_quotes v) value left more text)) h
 
-  key_past : (b : List ℕ) → HasFirstKey k b → UpToMark BeginsBehindBlanks b
+  key_past : (b : List ℕ) → HasFirstKey k b → UpToMark BeginsAfterBlanks b
   key_past b h = mark_leads (ByKey k) b (λ w (left, key). key_leads k w left key) h
 
-  value_past : (v b : List ℕ) → HasFirstKeyWith k v b → UpToMark BeginsBehindBlanks b
+  value_past : (v b : List ℕ) → HasFirstKeyWith k v b → UpToMark BeginsAfterBlanks b
   value_past v b h = mark_leads (BeginsByValue k v) b (λ w (value, left, key, text). key_leads k w value key) h
 
-pub key_may : (k b : List ℕ) → MayBecome (HasFirstKey k) b → MayBecome (UpToMark BeginsBehindBlanks) b
+pub key_may : (k b : List ℕ) → MayBecome (HasFirstKey k) b → MayBecome (UpToMark BeginsAfterBlanks) b
 key_may k b (more, bytes, h) = (more, bytes, key_past k (b ++ more) h)
 
-pub value_may : (k v b : List ℕ) → MayBecome (HasFirstKeyWith k v) b → MayBecome (UpToMark BeginsBehindBlanks) b
+pub value_may : (k v b : List ℕ) → MayBecome (HasFirstKeyWith k v) b → MayBecome (UpToMark BeginsAfterBlanks) b
 value_may k v b (more, bytes, h) = (more, bytes, value_past k v (b ++ more) h)
 
 pub key_has : (k b : List ℕ) → HasFirstKey k b → HasBracket b
@@ -147,16 +147,16 @@ module _ (by_place : (place : ℕ) (t buf : List ℕ) → IsTrue (stands place t
   opens : (inside : List ℕ) → StandsNext (0x7B ∷ []) b inside → IsTrue (accepts object_outline b)
   opens inside h = let first = first_byte b inside h in begins_among by_place b object_bytes (grind arith) (grind (arith, nat_tests))
 
-  behind_mark : (w : List ℕ) → b ≡ 0xEF ∷ 0xBB ∷ 0xBF ∷ w → IsTrue (accepts object_outline b)
-  behind_mark w e = marked by_place b (at_least 1 (byte 0 (any_of object_bytes) ∷ [])) (OccursAt-begins b utf8_mark w e)
+  after_mark : (w : List ℕ) → b ≡ 0xEF ∷ 0xBB ∷ 0xBF ∷ w → IsTrue (accepts object_outline b)
+  after_mark w e = marked by_place b (at_least 1 (byte 0 (any_of object_bytes) ∷ [])) (OccursAt-begins b utf8_mark w e)
 
   pub key_lines : (k : List ℕ) → HasFirstKey k b → IsTrue (accepts object_outline b)
-  key_lines k (inl (left, (inside, behind, first, key, colon))) = opens inside first
-  key_lines k (inr (w, e, others)) = behind_mark w e
+  key_lines k (inl (left, (inside, after, first, key, colon))) = opens inside first
+  key_lines k (inr (w, e, others)) = after_mark w e
 
   pub value_lines : (k v : List ℕ) → HasFirstKeyWith k v b → IsTrue (accepts object_outline b)
-  value_lines k v (inl (value, left, (inside, behind, first, key, colon), text)) = opens inside first
-  value_lines k v (inr (w, e, others)) = behind_mark w e
+  value_lines k v (inl (value, left, (inside, after, first, key, colon), text)) = opens inside first
+  value_lines k v (inr (w, e, others)) = after_mark w e
 
 -- ---- what the readers tell
 
@@ -173,16 +173,16 @@ module _ (P : List ℕ → Type 0) (Q : List ℕ → List ℕ → Type 0) where
   abbrev pub Both : List ℕ → Type 0
   Both left = (middle : List ℕ) × P middle × Q middle left
 
-  told_behind : (m : List ℕ) → ((left : List ℕ) → P left ↔ (left ≡ m)) → (r : Option (List ℕ)) → Told (Q m) r → Told Both r
-  told_behind m just None none = λ left (n, p, q). none left (subst (λ u. Q u left) ((just n).0 p) q)
-  told_behind m just (Some rest) is = λ left. (
+  told_after : (m : List ℕ) → ((left : List ℕ) → P left ↔ (left ≡ m)) → (r : Option (List ℕ)) → Told (Q m) r → Told Both r
+  told_after m just None none = λ left (n, p, q). none left (subst (λ u. Q u left) ((just n).0 p) q)
+  told_after m just (Some rest) is = λ left. (
     λ (n, p, q). (is left).0 (subst (λ u. Q u left) ((just n).0 p) q),
     λ e. (m, (just m).1 refl, (is left).1 e),
   )
 
   pub told_then : (o : Option (List ℕ)) (f : List ℕ → Option (List ℕ)) → Told P o → ((m : List ℕ) → Told (Q m) (f m)) → Told Both (and_then o f)
   told_then None f none each = λ left (m, p, q). none m p
-  told_then (Some m) f just each = told_behind m just (f m) (each m)
+  told_then (Some m) f just each = told_after m just (f m) (each m)
 
 -- ---- what a computation says
 
@@ -191,10 +191,10 @@ strip [] s = Some s
 strip (x ∷ t) [] = None
 strip (x ∷ t) (y ∷ s) = if y == x then strip t s else None
 
-strip_tells : (t s : List ℕ) → Told (λ left. s ≡ t ++ left) (strip t s)
-strip_tells [] s = λ left. (λ e. sym e, λ e. sym e)
-strip_tells (x ∷ t) [] = λ left e. absurd (cc)
-strip_tells (x ∷ t) (y ∷ s) = by_test (strip_tells t s) (y == x) refl
+strip_says : (t s : List ℕ) → Told (λ left. s ≡ t ++ left) (strip t s)
+strip_says [] s = λ left. (λ e. sym e, λ e. sym e)
+strip_says (x ∷ t) [] = λ left e. absurd (cc)
+strip_says (x ∷ t) (y ∷ s) = by_test (strip_says t s) (y == x) refl
   where
     further : y ≡ x → (left : List ℕ) → (y ∷ s ≡ x ∷ (t ++ left)) ↔ (s ≡ t ++ left)
     further first left = (λ e. ap (drop 1) e, λ e. let front : y ∷ s ≡ x ∷ s = ap (λ z. z ∷ s) first in front ∙ ap (λ u. x ∷ u) e)
@@ -222,30 +222,30 @@ is_past (x ∷ s) = by_test (is_past s) (is_blank x) refl
 pub dark_quote : ¬ IsBlank 0x22
 dark_quote h = grind arith
 
-pub next_tells : (x : ℕ) (t s : List ℕ) → ¬ IsBlank x → Told (StandsNext (x ∷ t) s) (strip (x ∷ t) (past s))
-next_tells x t s dark =
-    told_same (λ left. past s ≡ x ∷ (t ++ left)) (StandsNext (x ∷ t) s) (λ left. next_past x t s (past s) left dark (is_past s)) (strip (x ∷ t) (past s)) (strip_tells (x ∷ t) (past s))
+pub next_says : (x : ℕ) (t s : List ℕ) → ¬ IsBlank x → Told (StandsNext (x ∷ t) s) (strip (x ∷ t) (past s))
+next_says x t s dark =
+    told_same (λ left. past s ≡ x ∷ (t ++ left)) (StandsNext (x ∷ t) s) (λ left. next_past x t s (past s) left dark (is_past s)) (strip (x ∷ t) (past s)) (strip_says (x ∷ t) (past s))
 
 abbrev after_key : List ℕ → List ℕ → Option (List ℕ)
 after_key k w =
-    and_then (strip (0x7B ∷ []) (past w)) (λ inside. and_then (strip (in_quotes k) (past inside)) (λ behind. strip (0x3A ∷ []) (past behind)))
+    and_then (strip (0x7B ∷ []) (past w)) (λ inside. and_then (strip (in_quotes k) (past inside)) (λ after. strip (0x3A ∷ []) (past after)))
 
 -- one thing after the other, as the definition has it
 pub key_parts : (k w left : List ℕ)
     → BeginsByKey k w left
-    ↔ Both (StandsNext (0x7B ∷ []) w) (λ inside. Both (StandsNext (in_quotes k) inside) (λ behind. StandsNext (0x3A ∷ []) behind)) left
+    ↔ Both (StandsNext (0x7B ∷ []) w) (λ inside. Both (StandsNext (in_quotes k) inside) (λ after. StandsNext (0x3A ∷ []) after)) left
 key_parts k w left = (
-  λ (inside, behind, first, key, colon). (inside, first, (behind, key, colon)),
-  λ (inside, first, (behind, key, colon)). (inside, behind, first, key, colon),
+  λ (inside, after, first, key, colon). (inside, first, (after, key, colon)),
+  λ (inside, first, (after, key, colon)). (inside, after, first, key, colon),
 )
 
-pub key_tells : (k w : List ℕ) → Told (BeginsByKey k w) (after_key k w)
-key_tells k w =
+pub key_says : (k w : List ℕ) → Told (BeginsByKey k w) (after_key k w)
+key_says k w =
     told_same _ (BeginsByKey k w) (key_parts k w) (after_key k w)
-    (told_then (StandsNext (0x7B ∷ []) w) _ (strip (0x7B ∷ []) (past w)) _ (next_tells 0x7B [] w (λ h. grind arith))
+    (told_then (StandsNext (0x7B ∷ []) w) _ (strip (0x7B ∷ []) (past w)) _ (next_says 0x7B [] w (λ h. grind arith))
     (λ inside.
-    told_then (StandsNext (in_quotes k) inside) _ (strip (in_quotes k) (past inside)) _ (next_tells 0x22 (k ++ 0x22 ∷ []) inside dark_quote)
-    (λ behind. next_tells 0x3A [] behind (λ h. grind arith))))
+    told_then (StandsNext (in_quotes k) inside) _ (strip (in_quotes k) (past inside)) _ (next_says 0x22 (k ++ 0x22 ∷ []) inside dark_quote)
+    (λ after. next_says 0x3A [] after (λ h. grind arith))))
 
 abbrev known_told : (P : List ℕ → Type 0) (o : Option (List ℕ)) → Told P o → Known ((left : List ℕ) × P left)
 known_told P None none = refuted (λ (left, p). none left p)
@@ -255,7 +255,7 @@ abbrev unmarked : List ℕ → List ℕ
 unmarked b = elim (strip utf8_mark b) [ None ↦ b | Some w ↦ w ]
 
 pub is_unmarked : (b : List ℕ) → IsPastMark b (unmarked b)
-is_unmarked b = by_strip (strip utf8_mark b) (strip_tells utf8_mark b)
+is_unmarked b = by_strip (strip utf8_mark b) (strip_says utf8_mark b)
   where
     by_strip : (o : Option (List ℕ)) → Told (λ left. b ≡ utf8_mark ++ left) o → IsPastMark b (elim o [ None ↦ b | Some w ↦ w ])
     by_strip None none = inr (refl, λ u e. none u e)
@@ -272,15 +272,15 @@ value_parts k v w = (λ (value, left, key, text). (left, (value, key, text)), λ
 module _ (b : List ℕ) where
   abbrev pub known_key : (k : List ℕ) → Known (HasFirstKey k b)
   known_key k =
-      known_same (up_to_mark (ByKey k) b (unmarked b) (is_unmarked b) (no_mark_key k)) (known_told (BeginsByKey k (unmarked b)) (after_key k (unmarked b)) (key_tells k (unmarked b)))
+      known_same (up_to_mark (ByKey k) b (unmarked b) (is_unmarked b) (no_mark_key k)) (known_told (BeginsByKey k (unmarked b)) (after_key k (unmarked b)) (key_says k (unmarked b)))
 
   abbrev pub known_value : (k v : List ℕ) → Known (HasFirstKeyWith k v b)
   known_value k v =
       known_same (up_to_mark (BeginsByValue k v) b (unmarked b) (is_unmarked b) (no_mark_value k v))
       (known_same (value_parts k v (unmarked b))
       (known_told (Both (BeginsByKey k (unmarked b)) (StandsNext (in_quotes v))) (and_then (after_key k (unmarked b)) (λ value. strip (in_quotes v) (past value)))
-      (told_then (BeginsByKey k (unmarked b)) (StandsNext (in_quotes v)) (after_key k (unmarked b)) (λ value. strip (in_quotes v) (past value)) (key_tells k (unmarked b))
-      (λ value. next_tells 0x22 (v ++ 0x22 ∷ []) value dark_quote))))
+      (told_then (BeginsByKey k (unmarked b)) (StandsNext (in_quotes v)) (after_key k (unmarked b)) (λ value. strip (in_quotes v) (past value)) (key_says k (unmarked b))
+      (λ value. next_says 0x22 (v ++ 0x22 ∷ []) value dark_quote))))
 
 -- ---- what the code reads
 
@@ -329,19 +329,19 @@ pub closed : (t s rest : List ℕ) → s ≡ t ++ rest → (o : Option (Bor (Lis
 closed t s rest same None none = λ left e. none left (append_cancel_left t rest (0x22 ∷ left) (sym same ∙ e))
 closed t s rest same (Some x) is = same ∙ ap (λ u. t ++ u) is
 
-module _ (k w inside behind : List ℕ) (first : (left : List ℕ) → StandsNext (0x7B ∷ []) w left ↔ (left ≡ inside))
-    (key : (left : List ℕ) → StandsNext (in_quotes k) inside left ↔ (left ≡ behind)) where
-  key_same : (left : List ℕ) → BeginsByKey k w left ↔ StandsNext (0x3A ∷ []) behind left
+module _ (k w inside after : List ℕ) (first : (left : List ℕ) → StandsNext (0x7B ∷ []) w left ↔ (left ≡ inside))
+    (key : (left : List ℕ) → StandsNext (in_quotes k) inside left ↔ (left ≡ after)) where
+  key_same : (left : List ℕ) → BeginsByKey k w left ↔ StandsNext (0x3A ∷ []) after left
   key_same left = (
     λ (i, d, f, g, h).
         let its = (first i).0 f in
-        let one : d ≡ behind = (key d).0 (subst (λ u. StandsNext (in_quotes k) u d) its g) in
+        let one : d ≡ after = (key d).0 (subst (λ u. StandsNext (in_quotes k) u d) its g) in
         subst (λ u. StandsNext (0x3A ∷ []) u left) one h,
-    λ h. (inside, behind, (first inside).1 refl, (key behind).1 refl, h),
+    λ h. (inside, after, (first inside).1 refl, (key after).1 refl, h),
   )
 
   pub key_read : (o : Option (Bor (List ℕ)))
-      → MatchOption o ((left : List ℕ) → ¬ StandsNext (0x3A ∷ []) behind left) (λ rest. (left : List ℕ) → StandsNext (0x3A ∷ []) behind left ↔ (left ≡ rest.now))
+      → MatchOption o ((left : List ℕ) → ¬ StandsNext (0x3A ∷ []) after left) (λ rest. (left : List ℕ) → StandsNext (0x3A ∷ []) after left ↔ (left ≡ rest.now))
       → MatchOption o ((left : List ℕ) → ¬ BeginsByKey k w left) (λ rest. (left : List ℕ) → BeginsByKey k w left ↔ (left ≡ rest.now))
   key_read None none = λ left h. none left ((key_same left).0 h)
   key_read (Some rest) is = λ left. (λ h. (is left).0 ((key_same left).0 h), λ e. (key_same left).1 ((is left).1 e))

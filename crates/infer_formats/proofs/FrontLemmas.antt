@@ -38,12 +38,12 @@ module _ (n : ℕ) (b c : List ℕ) (s : SharesFront n b c) where
       ext_get_or 0 _ _ (omega arith)
       (λ k lt. part_reads b p q k (omega arith) ∙ s.same (p + k) (omega arith) ∙ sym (part_reads c p q k (omega arith)))
 
-  pub run_shared : (Kind : ℕ → Type 0) (from to : ℕ) → to < n → IsRun Kind b from to → IsRun Kind c from to
-  run_shared Kind from to high r = record {
+  pub run_shared : (P : ℕ → Type 0) (from to : ℕ) → to < n → IsRun P b from to → IsRun P c from to
+  run_shared P from to high r = record {
     order = r.order;
-    bytes = λ k low lt. byte_shared Kind k (omega arith) (r.bytes k low lt);
+    bytes = λ k low lt. byte_shared P k (omega arith) (r.bytes k low lt);
     whole = let l = s.second in omega arith;
-    ends = λ is. r.ends (byte_shared_back Kind to high is);
+    ends = λ is. r.ends (byte_shared_back P to high is);
   }
 
   pub after_last_shared : (x from to at : ℕ) → to ≤ n → IsAfterLast x b from to at → IsAfterLast x c from to at

@@ -1,6 +1,6 @@
--- What stands behind a tag: what more bytes keep and may bring, and what a computation says of it.
+-- What stands after a tag: what more bytes keep and may bring, and what a computation says of it.
 use Rattle.infer_formats.proofs.Common.{◌≡◌, ◌⊎◌, inl, inr, ℕ, ◌+◌, ◌<◌, ◌≤◌, List, ◌++◌, IsTrue, length, slice_index, codes, suc, sym, subst, arith, cases_lt, get_or_append_left, OccursAt, OccursAt-append, AgreesAt, MayBecome, grown_agrees, StandsByPlace, accepts, lines, stands, ◌↔◌}
-use Rattle.infer_formats.specs.Id3.{IsBehindId3, IsSynchsafe, tag_size}
+use Rattle.infer_formats.specs.Id3.{IsAfterId3, IsSynchsafe, tag_size}
 use Rattle.infer_formats.specs.Relation.{behind_id3}
 use Rattle.infer_formats.proofs.OutlineLemmas.{begins}
 use Rattle.infer_sig.proofs.KnownLemmas.{Known, at_most, needs, proved, takes, ◌>>=◌}
@@ -13,8 +13,8 @@ module _ (b more : List ℕ) (long : 10 ≤ length b) where
   safe_kept : (k : ℕ) → k < 10 → IsSynchsafe (slice_index b k) → IsSynchsafe (slice_index (b ++ more) k)
   safe_kept k lt h = subst IsSynchsafe (sym (get_or_append_left b more 0 k (omega arith))) h
 
-pub behind-lasts : (b more t : List ℕ) → IsBehindId3 t b → IsBehindId3 t (b ++ more)
-behind-lasts b more t (tag, (p, q, r, s), o) =
+pub after-lasts : (b more t : List ℕ) → IsAfterId3 t b → IsAfterId3 t (b ++ more)
+after-lasts b more t (tag, (p, q, r, s), o) =
     let fits = o.fits in
     let long : 10 ≤ length b = omega arith in (
       OccursAt-append b more _ 0 tag,
@@ -22,8 +22,8 @@ behind-lasts b more t (tag, (p, q, r, s), o) =
       subst (λ n. OccursAt (b ++ more) t (10 + n)) (sym (size_kept b more long)) (OccursAt-append b more t _ o),
     )
 
-pub behind_known : (t b : List ℕ) → MayBecome (IsBehindId3 t) b → AgreesAt b (codes "ID3") 0 × ((length b < 10) ⊎ AgreesAt b t (10 + tag_size b))
-behind_known t b (more, bytes, (tag, safe, o)) = (
+pub after_known : (t b : List ℕ) → MayBecome (IsAfterId3 t) b → AgreesAt b (codes "ID3") 0 × ((length b < 10) ⊎ AgreesAt b t (10 + tag_size b))
+after_known t b (more, bytes, (tag, safe, o)) = (
   grown_agrees b more _ 0 tag,
   elim (cases_lt (length b) 10) [
     | inl l ↦ inl l
@@ -31,9 +31,9 @@ behind_known t b (more, bytes, (tag, safe, o)) = (
   ],
 )
 
-pub behind_lines : (by_place : (place : ℕ) (t buf : List ℕ) → IsTrue (stands place t buf) ↔ StandsByPlace place t buf) (b t : List ℕ) → IsBehindId3 t b
+pub after_lines : (by_place : (place : ℕ) (t buf : List ℕ) → IsTrue (stands place t buf) ↔ StandsByPlace place t buf) (b t : List ℕ) → IsAfterId3 t b
     → IsTrue (accepts (lines (behind_id3 t)) b)
-behind_lines by_place b t (tag, safe, o) = let le = tag.fits in begins by_place b 3 (codes "ID3") (omega arith) tag
+after_lines by_place b t (tag, safe, o) = let le = tag.fits in begins by_place b 3 (codes "ID3") (omega arith) tag
 
 -- ---- what a computation says of it
 
@@ -41,8 +41,8 @@ module _ (by_place : ByPlace) (b : List ℕ) where
   abbrev safe : (k : ℕ) → Known (IsSynchsafe (slice_index b k))
   safe k = at_most (suc (slice_index b k)) 0x80
 
-  abbrev pub known_behind : (t : List ℕ) → Known (IsBehindId3 t b)
-  known_behind t = do
+  abbrev pub known_after : (t : List ℕ) → Known (IsAfterId3 t b)
+  known_after t = do
     tag ← takes (occurs by_place (codes "ID3") b 0)
     first ← takes (safe 6)
     second ← takes (safe 7)

@@ -1,4 +1,4 @@
--- The first key of an object, read once for all that ask for one, and the first byte behind white space.
+-- The first key of an object, read once for all that ask for one, and the first byte after white space.
 use Rattle.infer_formats.proofs.Common.{[], ◌≡◌, ◌⊎◌, inl, inr, ℕ, zero, suc, ◌+◌, ◌<◌, ◌≤◌, ◌==◌, ◌↔◌, ◌∙◌, Bool, true, false, IsTrue, List, ◌∷◌, ◌++◌, append_assoc, length, length-append, drop, take, not, slice_index, refl, sym, subst, ap, arith, and_from, and_parts, eq-eqb, IsBlank, IsPast, IsPastMark, IsXmlSpace, Nowhere, Passes, is_byte}
 use Rattle.std.specs.Prelude.{slice_index_or}
 use Rattle.infer_formats.specs.FirstKey.{BeginsByKey, EndsInQuote, IsFirstKey, StandsFirst, StandsNext, has_no_quote, in_quotes}
@@ -67,29 +67,29 @@ module _ (b w inside : List ℕ) (past : IsPastMark b w) (first : (left : List �
     pub no_end : ((t left : List ℕ) → ¬ EndsInQuote t left quoted) → (k left : List ℕ) → ¬ IsFirstKey k left b
     no_end none k left is = let (d, e, h) = key_ends k left is in none k d e
 
-    module _ (t behind : List ℕ) (ends : EndsInQuote t behind quoted) where
-      key_left : (k left : List ℕ) → IsFirstKey k left b → (k ≡ t) × StandsNext (0x3A ∷ []) behind left
+    module _ (t after : List ℕ) (ends : EndsInQuote t after quoted) where
+      key_left : (k left : List ℕ) → IsFirstKey k left b → (k ≡ t) × StandsNext (0x3A ∷ []) after left
       key_left k left is =
           let (d, e, h) = key_ends k left is in
-          let same = quote_same k t d behind e.0 ends.0 (sym e.1 ∙ ends.1) in
+          let same = quote_same k t d after e.0 ends.0 (sym e.1 ∙ ends.1) in
           (same.0, subst (λ u. StandsNext (0x3A ∷ []) u left) same.1 h)
 
-      pub no_colon : ((left : List ℕ) → ¬ StandsNext (0x3A ∷ []) behind left) → (k left : List ℕ) → ¬ IsFirstKey k left b
+      pub no_colon : ((left : List ℕ) → ¬ StandsNext (0x3A ∷ []) after left) → (k left : List ℕ) → ¬ IsFirstKey k left b
       no_colon none k left is = none left (key_left k left is).1
 
-      module _ (rest : List ℕ) (third : (left : List ℕ) → StandsNext (0x3A ∷ []) behind left ↔ (left ≡ rest)) where
+      module _ (rest : List ℕ) (third : (left : List ℕ) → StandsNext (0x3A ∷ []) after left ↔ (left ≡ rest)) where
         pub key_is : IsFirstKey t rest b
         key_is =
-            let key = (next_parted 0x22 (t ++ 0x22 ∷ []) inside behind).1 ((second ((t ++ 0x22 ∷ []) ++ behind)).1 (append_assoc t (0x22 ∷ []) behind ∙ sym ends.1)) in (
+            let key = (next_parted 0x22 (t ++ 0x22 ∷ []) inside after).1 ((second ((t ++ 0x22 ∷ []) ++ after)).1 (append_assoc t (0x22 ∷ []) after ∙ sym ends.1)) in (
               ends.0,
               (up_to_mark (λ v. BeginsByKey t v rest) b w past (λ u. no_mark t u rest)).1
-                  (inside, behind, (first inside).1 refl, key, (third rest).1 refl),
+                  (inside, after, (first inside).1 refl, key, (third rest).1 refl),
             )
 
         pub key_only : (k left : List ℕ) → IsFirstKey k left b → (k ≡ t) × (left ≡ rest)
         key_only k left is = let its = key_left k left is in (its.0, (third left).0 its.1)
 
--- ---- the first byte behind white space
+-- ---- the first byte after white space
 
 pub dark_past : (b t : List ℕ) → IsPast b t → 1 ≤ length t → (¬ IsBlank (slice_index_or t 0 0)) × StandsFirst (slice_index_or t 0 0) b
 dark_past [] t e some = absurd (let none = ap length e in omega arith)
@@ -107,7 +107,7 @@ first_same x y (z ∷ b) dark other (left, inr (blank, h)) (more, inr (white, k)
 
 -- of an object with a first key, and of markup
 pub key_first : (k left b : List ℕ) → IsFirstKey k left b → StandsFirst 0x7B b ⊎ StandsFirst 0xEF b
-key_first k left b (dark, inl (inside, behind, first, key, colon)) = inl (inside, first)
+key_first k left b (dark, inl (inside, after, first, key, colon)) = inl (inside, first)
 key_first k left b (dark, inr (w, e, others)) = inr (0xBB ∷ 0xBF ∷ w, subst (λ s. StandsNext (0xEF ∷ []) s (0xBB ∷ 0xBF ∷ w)) (sym e) (inl refl))
 
 at_front : (b : List ℕ) → slice_index b 0 ≡ 0xEF → StandsFirst 0xEF b
@@ -120,13 +120,13 @@ space_blank x (inr (inl e)) = inr (inr (inl e))
 space_blank x (inr (inr (inl e))) = inr (inr (inr e))
 space_blank x (inr (inr (inr e))) = inl e
 
-behind_space : (b : List ℕ) (k : ℕ) → ((j : ℕ) → j < k → IsXmlSpace (slice_index b j)) → slice_index b k ≡ 0x3C → StandsFirst 0x3C b
-behind_space [] k spaces starts = absurd (cc)
-behind_space (y ∷ b) zero spaces starts = (b, inl (ap (λ z. z ∷ b) starts))
-behind_space (y ∷ b) (suc k) spaces starts =
-    let (left, next) = behind_space b k (λ j lt. spaces (suc j) (omega arith)) starts in
+after_space : (b : List ℕ) (k : ℕ) → ((j : ℕ) → j < k → IsXmlSpace (slice_index b j)) → slice_index b k ≡ 0x3C → StandsFirst 0x3C b
+after_space [] k spaces starts = absurd (cc)
+after_space (y ∷ b) zero spaces starts = (b, inl (ap (λ z. z ∷ b) starts))
+after_space (y ∷ b) (suc k) spaces starts =
+    let (left, next) = after_space b k (λ j lt. spaces (suc j) (omega arith)) starts in
     (left, inr (space_blank y (spaces 0 (omega arith)), next))
 
 pub markup_first : (b : List ℕ) → BeginsMarkup b → StandsFirst 0x3C b ⊎ StandsFirst 0xEF b
 markup_first b (inl o) = inr (at_front b (o.reads 0 (omega arith)))
-markup_first b (inr (k, low, spaces, starts)) = inl (behind_space b k (λ j lt. spaces j (omega arith) lt) starts)
+markup_first b (inr (k, low, spaces, starts)) = inl (after_space b k (λ j lt. spaces j (omega arith) lt) starts)

@@ -1,6 +1,6 @@
 -- With which byte markup begins, and that an element starts in it.
 use Rattle.infer_formats.proofs.Common.{◌≡◌, inl, inr, ℕ, ◌<◌, List, Option, None, codes, length, refl, subst, ◌∙◌, arith, slice_index, cases_lt, OccursAt, OccursAt-first, IsRootElement, ReachesTag, ◌↔◌, IsTrue, IsXmlSpace, ◌⊎◌, nat_tests, [], ◌∷◌, markup_lines, StandsByPlace, accepts, stands, any_of, at_least}
-use Rattle.infer_formats.specs.Laws.{BeginsMarkup, StartsBehindSpace, StartsElement}
+use Rattle.infer_formats.specs.Laws.{BeginsMarkup, StartsAfterSpace, StartsElement}
 use Rattle.infer_formats.specs.Markup.{here, later}
 use Rattle.infer_sig.specs.Signature.{byte}
 use Rattle.infer_formats.proofs.OutlineLemmas.{begins_among, marked}
@@ -9,10 +9,10 @@ module _ (b : List ℕ) where
   started : (t : List ℕ) → 0 < length t → slice_index t 0 ≡ 0x3C → (p : ℕ) → OccursAt b t p → slice_index b p ≡ 0x3C
   started t some first p o = OccursAt-first b t p some o ∙ first
 
-  at_once : (p : ℕ) → slice_index b p ≡ 0x3C → StartsBehindSpace b p
+  at_once : (p : ℕ) → slice_index b p ≡ 0x3C → StartsAfterSpace b p
   at_once p e = (p, omega arith, λ j low lt. absurd (omega arith), e)
 
-  tag_leads : (at to p : ℕ) (d : Option ℕ) → ReachesTag b at to p d → StartsBehindSpace b p
+  tag_leads : (at to p : ℕ) (d : Option ℕ) → ReachesTag b at to p d → StartsAfterSpace b p
   tag_leads at to p d (here _ _ tag) = at_once p tag.starts
   tag_leads at to p d (later _ _ q e (inl (inl (some, run), _)) rest) =
       let (k, le, spaces, starts) = tag_leads at to q e rest in
@@ -28,7 +28,7 @@ module _ (b : List ℕ) where
   pub begins_markup : (name rest : List ℕ) → IsRootElement name rest b → BeginsMarkup b
   begins_markup name rest (p, at, to, begins, leads, _, _) = elim begins [
     | inl (mark, _) ↦ inl mark
-    | inr (_, e) ↦ inr (subst (StartsBehindSpace b) e (tag_leads at to p None leads))
+    | inr (_, e) ↦ inr (subst (StartsAfterSpace b) e (tag_leads at to p None leads))
   ]
 
   pub starts_element : (name rest : List ℕ) → IsRootElement name rest b → StartsElement b

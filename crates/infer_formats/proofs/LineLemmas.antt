@@ -1,5 +1,5 @@
 -- White space and the lines that texts stand on.
-use Rattle.infer_formats.proofs.Common.{◌≡◌, ℕ, ◌+◌, ◌-◌, ◌≤◌, ◌<◌, ◌⊎◌, inl, inr, ◌↔◌, Bool, false, IsTrue, nat_eq, List, [], ◌∷◌, ◌++◌, Option, None, Some, length, take, drop, get_or, length-drop, refl, sym, subst, ap, ◌∙◌, arith, drop_more, take_rest, Symbol, blanks, text, same_line, next_line, BeginsLines, BeginsText, CanBe, UpToMark, IsKind, Stands, IsBracket, IsKindPastMark, IsPast, IsPastMark, Leaves, StartsLine, next_left, Kind, Lines, Text, Next, IsBlank, IsNextLine, LineTells}
+use Rattle.infer_formats.proofs.Common.{◌≡◌, ℕ, ◌+◌, ◌-◌, ◌≤◌, ◌<◌, ◌⊎◌, inl, inr, ◌↔◌, Bool, false, IsTrue, nat_eq, List, [], ◌∷◌, ◌++◌, Option, None, Some, length, take, drop, get_or, length-drop, refl, sym, subst, ap, ◌∙◌, arith, drop_more, take_rest, Symbol, blanks, text, same_line, next_line, BeginsLines, BeginsText, CanBe, UpToMark, SaysJson, Stands, IsBracket, SaysJsonPastMark, IsPast, IsPastMark, Leaves, StartsLine, next_left, Json, Lines, Text, Next, IsBlank, IsNextLine, LineSays}
 use Rattle.std.proofs.Common.{rules}
 use Rattle.infer_formats.specs.declared.json.lines.Line as line
 use Rattle.infer_formats.specs.declared.json.lines.Line.TheVariants as Line
@@ -7,7 +7,7 @@ use Rattle.infer_formats.proofs.JsonLemmas.{begins, range_begins}
 use Rattle.infer_formats.proofs.ReaderLemmas.{blank_read, blank_skip}
 use Rattle.infer_formats.proofs.CompleteLemmas.{AllHold, completes, next_holds}
 
--- what stands the same behind s and t
+-- what stands the same after s and t
 can_same : (ss us : List Symbol) (s t : List ℕ) → ((v : List ℕ) → Stands ss (s ++ v) ↔ Stands us (t ++ v))
     → CanBe ss s ↔ CanBe us t
 can_same ss us s t h = (λ (v, d). (v, (h v).0 d), λ (v, d). (v, (h v).1 d))
@@ -180,10 +180,10 @@ next_at_end s h = (
   omega arith,
 )
 
--- behind a whole text, and in one
-pub can_behind : (ss : List Symbol) (x n : ℕ) (rest : List ℕ) → Leaves x rest (λ us. us) (drop n rest)
+-- after a whole text, and in one
+pub can_after : (ss : List Symbol) (x n : ℕ) (rest : List ℕ) → Leaves x rest (λ us. us) (drop n rest)
     → CanBe (text ∷ ss) (x ∷ rest) ↔ CanBe ss (drop n rest)
-can_behind ss x n rest left_so = can_same (text ∷ ss) ss (x ∷ rest) (drop n rest) (left_so ss)
+can_after ss x n rest left_so = can_same (text ∷ ss) ss (x ∷ rest) (drop n rest) (left_so ss)
 
 pub can_complete : (ss : List Symbol) (x : ℕ) (rest : List ℕ) (n : Next) (d k : ℕ) → AllHold ss
     → Leaves x rest (next_left n d k) [] → CanBe (text ∷ ss) (x ∷ rest)
@@ -221,8 +221,8 @@ pub line_whole : (x n : ℕ) (s rest t : List ℕ) → s ≡ x ∷ rest → Leav
     → IsNextLine (take (length rest - n) (drop n rest)) t → WholeLine s t
 line_whole x n s rest t e left_so next =
     let h = subst (λ u. IsNextLine u t) (take_rest rest n) next in
-    let line = can_behind (same_line ∷ []) x n rest left_so in
-    let blank = can_behind (blanks ∷ []) x n rest left_so in
+    let line = can_after (same_line ∷ []) x n rest left_so in
+    let blank = can_after (blanks ∷ []) x n rest left_so in
     let short = length-drop n rest in
     let fewer = h.3 in
     let is : WholeLine (x ∷ rest) t = (
@@ -240,9 +240,9 @@ pub line_wrong : (x n : ℕ) (s rest : List ℕ) → s ≡ x ∷ rest → Leaves
     → (¬ CanBe (same_line ∷ []) (take (length rest - n) (drop n rest))) × (¬ CanBe (blanks ∷ []) (take (length rest - n) (drop n rest)))
     → WrongLine s
 line_wrong x n s rest e left_so none =
-    let behind = λ (a : Symbol) (never : ¬ CanBe (a ∷ []) (take (length rest - n) (drop n rest))) (can : CanBe (text ∷ a ∷ []) s).
-    never (subst (CanBe (a ∷ [])) (sym (take_rest rest n)) ((can_behind (a ∷ []) x n rest left_so).0 (subst (CanBe (text ∷ a ∷ [])) e can))) in
-    (behind same_line none.0, behind blanks none.1)
+    let after = λ (a : Symbol) (never : ¬ CanBe (a ∷ []) (take (length rest - n) (drop n rest))) (can : CanBe (text ∷ a ∷ []) s).
+    never (subst (CanBe (a ∷ [])) (sym (take_rest rest n)) ((can_after (a ∷ []) x n rest left_so).0 (subst (CanBe (text ∷ a ∷ [])) e can))) in
+    (after same_line none.0, after blanks none.1)
 
 abbrev pub CutLine : List ℕ → Type 0
 CutLine s = CanBe (text ∷ same_line ∷ []) s × CanBe (text ∷ blanks ∷ []) s
@@ -280,7 +280,7 @@ lines_so b s t p whole some =
 pub lines_single : (b s t : List ℕ) → IsPast b s → WholeLine s t → t ≡ [] → ¬ BeginsLines b
 lines_single b s t p whole none d = ((lines_past b s p).0 d).1 (whole.1.1 none)
 
-pub lines_none : (b s : List ℕ) (r : line.Line) → IsPast b s → LineTells s r → (r ≡ Line.Cut) ⊎ (r ≡ Line.Wrong)
+pub lines_none : (b s : List ℕ) (r : line.Line) → IsPast b s → LineSays s r → (r ≡ Line.Cut) ⊎ (r ≡ Line.Wrong)
     → ¬ BeginsLines b
 lines_none b s (Line.Whole t) p h is d = elim is [ inl e ↦ absurd (cc) | inr e ↦ absurd (cc) ]
 lines_none b s Line.Cut p h is d = ((lines_past b s p).0 d).1 h.1
@@ -321,7 +321,7 @@ text_past_mark b w h = past_mark BeginsText b w (λ u d. mark_stops (blanks ∷ 
 lines_past_mark : (b w : List ℕ) → IsPastMark b w → BeginsLines w ↔ UpToMark BeginsLines b
 lines_past_mark b w h = past_mark BeginsLines b w (λ u d. mark_stops (same_line ∷ []) (u ++ d.0.0) d.0.1) h
 
-pub kind_past : (b w : List ℕ) (k : Option Kind) → IsPastMark b w → IsKindPastMark w k → IsKind b k
-kind_past b w None p (t, l) = (λ d. t ((text_past_mark b w p).1 d), λ d. l ((lines_past_mark b w p).1 d))
-kind_past b w (Some Text) p (t, l) = ((text_past_mark b w p).0 t, λ d. l ((lines_past_mark b w p).1 d))
-kind_past b w (Some Lines) p (l, t) = ((lines_past_mark b w p).0 l, λ d. t ((text_past_mark b w p).1 d))
+pub json_past : (b w : List ℕ) (k : Option Json) → IsPastMark b w → SaysJsonPastMark w k → SaysJson b k
+json_past b w None p (t, l) = (λ d. t ((text_past_mark b w p).1 d), λ d. l ((lines_past_mark b w p).1 d))
+json_past b w (Some Text) p (t, l) = ((text_past_mark b w p).0 t, λ d. l ((lines_past_mark b w p).1 d))
+json_past b w (Some Lines) p (l, t) = ((lines_past_mark b w p).0 l, λ d. t ((text_past_mark b w p).1 d))

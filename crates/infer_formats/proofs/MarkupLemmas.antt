@@ -1,6 +1,6 @@
 -- The parts of a prolog, the tag that they lead to, the name of the document type, and what more bytes may make of them.
 use Rattle.infer_formats.proofs.Common.{◌≡◌, ◌↔◌, ℕ, ◌+◌, ◌-◌, ◌<◌, ◌≤◌, ◌⊎◌, inl, inr, List, ◌++◌, Option, None, Some, length, codes, get_or, add-zero, refl, sym, subst, ap, ◌∙◌, arith, cases_lt, slice_range, OccursAt, Lasts, AgreesWithDoctype, BeginsAt, BeginsElement, ClosesDeclaration, HasRoot, HasRootWith, IsDoctype, IsEnclosed, IsMisc, IsPart, IsRootElement, IsSpaceRun, EndsType, IsXmlSpace, ReachesTag, StartsTag, utf8_mark, IsAfterLast, IsRun, zero, suc, drop, get_or_append_left, AgreesAt, MayBecome, grown_agrees, OccursAt-front, HasInTag, drop-append-le, IsNameByte, MayReachTag}
-use Rattle.infer_formats.specs.Markup.{HasClosing, StartsElement, TellsRoot, here, later}
+use Rattle.infer_formats.specs.Markup.{HasClosing, StartsElement, DecidesRoot, here, later}
 use Rattle.infer_formats.proofs.FrontLemmas.{SharesFront, after_last_shared, byte_shared, byte_shared_back, front_grows, front_swaps, range_shared, run_shared, text_shared}
 use Rattle.infer_formats.proofs.RunLemmas.{one_after_last, one_run_end}
 use Rattle.infer_formats.proofs.SubsetLemmas.{close_lasts, close_within, comment_first, enclosed_lasts, instruction_first, one_close, one_enclosed}
@@ -131,7 +131,7 @@ no_misc b p no_space no_instruction no_comment q (inl space) = no_space (space_f
 no_misc b p no_space no_instruction no_comment q (inr (inl instruction)) = no_instruction q instruction
 no_misc b p no_space no_instruction no_comment q (inr (inr comment)) = no_comment q comment
 
--- where the name of an element begins behind "<" none of them does
+-- where the name of an element begins after "<" none of them does
 pub no_misc_started : (b : List ℕ) (p : ℕ) → StartsElement b p → (q : ℕ) → ¬ IsMisc b p q
 no_misc_started b p (within, tag, (no_mark, no_question)) q (inl space) = not_space _ tag (space_first b p q space)
 no_misc_started b p (within, tag, (no_mark, no_question)) q (inr (inl i)) = no_question (instruction_first b p q i).1
@@ -142,7 +142,7 @@ pub started_undeclared : (b : List ℕ) (p : ℕ) → StartsElement b p → (q :
 started_undeclared b p starts = no_part b p None (no_misc_started b p starts)
     (λ none name close doctype. let (within, tag, (no_mark, no_question)) = starts in no_mark (doctype_first b p name close doctype).1)
 
--- a tag is led to from before white space as from behind it
+-- a tag is led to from before white space as from after it
 pub spaces_lead : (b : List ℕ) (at to p q : ℕ) (d : Option ℕ) → p ≤ q → ((k : ℕ) → p ≤ k → k < q → IsXmlSpace (get_or b k 0))
     → ReachesTag b at to p d ↔ ReachesTag b at to q d
 spaces_lead b at to p q d order spaces = elim (cases_lt p q) [
@@ -359,17 +359,17 @@ reaches b more p at to d stuck leads = elim (ways (b ++ more) at to p d leads) [
 pub root_reached : (b name : List ℕ) (start p : ℕ) (d : Option ℕ) → ¬ ((length b < 3) × AgreesAt b utf8_mark 0) → BeginsAt b start
     → ((more : List ℕ) (at to : ℕ) → ReachesTag (b ++ more) at to start None ↔ ReachesTag (b ++ more) at to p d)
     → ((q : ℕ) (e : Option ℕ) → ¬ IsPart b p d q e) → MayBecome (HasRoot name) b → MayReachTag b p
-root_reached b name start p d other begins grown stuck (more, bytes, (rest, (q, at, to, begin, leads, is, behind))) =
+root_reached b name start p d other begins grown stuck (more, bytes, (rest, (q, at, to, begin, leads, is, follows))) =
     let same = one_begin (b ++ more) q start begin (begin_stays b more start other begins) in
     reaches b more p at to d stuck ((grown more at to).0 (subst (λ x. ReachesTag (b ++ more) at to x None) same leads))
 
 -- there is one
 pub one_root : (c n rest m other : List ℕ) → IsRootElement n rest c → IsRootElement m other c → (n ≡ m) × (rest ≡ other)
-one_root c n rest m other (p, at, to, begins, leads, is, behind) (q, from, end, begin, lead, same, after) =
+one_root c n rest m other (p, at, to, begins, leads, is, follows) (q, from, end, begin, lead, same, after) =
     let start = one_begin c q p begin begins in
     let both = one_lead c at to from end p None leads (subst (λ x. ReachesTag c from end x None) start lead) in (
       is ∙ ap (λ x. slice_range c x to) both.0 ∙ ap (slice_range c from) both.1 ∙ sym same,
-      behind ∙ ap (λ x. drop x c) both.1 ∙ sym after,
+      follows ∙ ap (λ x. drop x c) both.1 ∙ sym after,
     )
 
 pub root_stays : (b n rest name : List ℕ) → IsRootElement n rest b → MayBecome (HasRoot name) b → n ≡ name
@@ -396,13 +396,13 @@ pub without_text : (b name text : List ℕ) → MayBecome (HasRootWith name text
 without_text b name text (more, bytes, (rest, root, in_tag)) = (more, bytes, (rest, root))
 
 -- ---- what tells the root element: a root whose tag has ended, and that there will be none
-pub ended_tells : (b n rest : List ℕ) → IsRootElement n rest b → HasClosing rest → TellsRoot b
-ended_tells b n rest is closes m o ms os name text = (
+pub ended_says : (b n rest : List ℕ) → IsRootElement n rest b → HasClosing rest → DecidesRoot b
+ended_says b n rest is closes m o ms os name text = (
   λ h. let same = root_stays b n rest name is (m, ms, h) in HasRoot-lasts name b o (rest, subst (λ x. IsRootElement x rest b) same is),
   λ h. let stays = root_stays_with b n rest name text is (m, ms, h) in
       HasRootWith-lasts name text b o (rest, subst (λ x. IsRootElement x rest b) stays.0 is, in_tag_ended text rest closes stays.1),
 )
 
-pub never_tells : (b : List ℕ) → ((name : List ℕ) → ¬ MayBecome (HasRoot name) b) → TellsRoot b
-never_tells b never m o ms os name text =
+pub never_says : (b : List ℕ) → ((name : List ℕ) → ¬ MayBecome (HasRoot name) b) → DecidesRoot b
+never_says b never m o ms os name text =
     (λ h. absurd (never name (m, ms, h)), λ h. absurd (never name (without_text b name text (m, ms, h))))

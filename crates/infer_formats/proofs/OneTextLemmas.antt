@@ -9,7 +9,7 @@ among_passes p r [] all m = elim m [ ]
 among_passes p r (s ∷ rs) all (inl e) = subst (λ t. IsTrue (p t)) (sym e) (and_parts (p s) _ all).0
 among_passes p r (s ∷ rs) all (inr m) = among_passes p r rs (and_parts (p s) _ all).1 m
 
--- what is left behind a bracket that closes: of each open bracket white space and what comes behind a value
+-- what is left after a bracket that closes: of each open bracket white space and what comes after a value
 is_frame : List Symbol → Bool
 is_frame [] = false
 is_frame (blanks ∷ []) = true
@@ -21,7 +21,7 @@ in_string : List Symbol → Bool
 in_string (chars ∷ ss) = true
 in_string ss = false
 
--- behind what may end in "]" stands such a frame, or the rest of a string
+-- after what may end in "]" stands such a frame, or the rest of a string
 is_tidy : Symbol → List Symbol → Bool
 is_tidy (range low high) ss = (nat_lt 0x5D low || nat_lt high 0x5D) || (is_frame ss || in_string ss)
 is_tidy char ss = in_string ss
@@ -87,13 +87,13 @@ never_next nothing t (z ∷ p) y e = absurd (cc)
 never_next (one {low} {high} {x} {ss} {xs} l h d) t [] y e =
     let first : x ≡ 0x5D = cc in
     let rest : xs ≡ 0x0A ∷ 0x5B ∷ y = cc in
-    let behind = subst (Stands ss) rest d in
+    let after = subst (Stands ss) rest d in
     let tidy = and_parts (is_tidy (range low high) ss) _ t in
     elim (or_cases (nat_lt 0x5D low || nat_lt high 0x5D) _ tidy.0) [
       | inl other ↦ absurd (grind (arith, nat_tests, other, l, h, first))
       | inr kind ↦ elim (or_cases (is_frame ss) _ kind) [
-        | inl frame ↦ no_line ss frame y behind
-        | inr string ↦ no_char ss string (0x5B ∷ y) behind
+        | inl frame ↦ no_line ss frame y after
+        | inr string ↦ no_char ss string (0x5B ∷ y) after
       ]
     ]
 never_next (one {low} {high} {x} {ss} {xs} l h d) t (z ∷ p) y e =

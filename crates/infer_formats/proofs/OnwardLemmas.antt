@@ -1,5 +1,5 @@
--- What is left behind a token, and behind each byte of a text.
-use Rattle.infer_formats.proofs.Common.{◌≡◌, ℕ, ◌+◌, ◌≤◌, ◌<◌, inl, ◌↔◌, true, List, [], ◌∷◌, ◌++◌, length, drop, get_or, refl, sym, subst, ap, ◌∙◌, arith, drop_all, drop_more, Symbol, blanks, text, Stands, PlaceTells, EndTells, EndsNumber, Follows, IsPast, Leaves, Onward, Reads, due_left, frames, left, next_left, Token, Inside, Ended, EndedBefore, Wrong, Due, Colon, After, Value, Next, Closed, Between, InKey, InValue, Reader, IsBlank, TellsAsMuch}
+-- What is left after a token, and after each byte of a text.
+use Rattle.infer_formats.proofs.Common.{◌≡◌, ℕ, ◌+◌, ◌≤◌, ◌<◌, inl, ◌↔◌, true, List, [], ◌∷◌, ◌++◌, length, drop, get_or, refl, sym, subst, ap, ◌∙◌, arith, drop_all, drop_more, Symbol, blanks, text, Stands, PlaceSays, EndSays, EndsNumber, Follows, IsPast, Leaves, Onward, Reads, due_left, frames, left, next_left, Token, Inside, Ended, EndedBefore, Wrong, Due, Colon, After, Value, Next, Closed, Between, InKey, InValue, Reader, IsBlank, SaysAsMuch}
 use Rattle.infer_formats.specs.declared.json.reader.Place as place
 use Rattle.infer_formats.specs.declared.json.reader.Place.TheVariants as Place
 use Rattle.infer_formats.proofs.ReaderLemmas.{after_ends, between_left, blank_skip, colon_ends, colon_read, due_not_blank, frames_none, frames_open}
@@ -35,7 +35,7 @@ pub onward_cut : (t u : Token) (s b : List ℕ) (i : ℕ) → length b ≤ i →
     → Onward (left t) s (left u) []
 onward_cut t u s b i l before = subst (Onward (left t) s (left u)) (drop_all i b l) before
 
--- to the place behind a token
+-- to the place after a token
 abbrev Then : Next → Token → Due → ℕ → ℕ → Type 0
 Then n t due d k =
     ((ss : List Symbol) → next_left n d k ss ≡ left t ++ blanks ∷ due_left due d k ss)
@@ -74,7 +74,7 @@ place_wrong n t due d k s h o ss v x =
 
 place_told : (n : Next) (t : Token) (due : Due) (d k : ℕ) (b : List ℕ) (at : ℕ) (p : place.Place) → Then n t due d k
     → ((u : Token) → (m : Next) × Then m u due d k)
-    → EndTells t b at due p → PlaceTells n d k b at p
+    → EndSays t b at due p → PlaceSays n d k b at p
 place_told n t due d k b at (Place.At p next) h others (same, low, high, o) = (
   low,
   high,
@@ -87,12 +87,12 @@ place_told n t due d k b at Place.Cut h others (u, o) =
 place_told n t due d k b at Place.Wrong h others o = place_wrong n t due d k (drop at b) h o
 
 pub place_key : (n : Next) (t : Token) (d k : ℕ) (b : List ℕ) (at : ℕ) (p : place.Place) → n ≡ InKey t
-    → EndTells t b at Colon p → PlaceTells n d k b at p
+    → EndSays t b at Colon p → PlaceSays n d k b at p
 place_key n t d k b at p e h =
     place_told n t Colon d k b at p (then_colon n t d k e) (λ u. (InKey u, then_colon (InKey u) u d k refl)) h
 
 pub place_value : (n : Next) (t : Token) (d k : ℕ) (b : List ℕ) (at : ℕ) (p : place.Place) → 1 ≤ d → n ≡ InValue t
-    → EndTells t b at After p → PlaceTells n d k b at p
+    → EndSays t b at After p → PlaceSays n d k b at p
 place_value n t d k b at p l e h =
     place_told n t After d k b at p (then_after n t d k l e) (λ u. (InValue u, then_after (InValue u) u d k l refl)) h
 
@@ -165,7 +165,7 @@ due_cut x rest due d k at l past before ss v =
     subst (λ q. Stands (text ∷ ss) (x ∷ rest ++ v) ↔ Stands q v) (sym (between_left due d k ss l)) h
 
 -- a colon that stands where it is due leaves a value
-pub colon_past : (b : List ℕ) (p : ℕ) → p < length b → get_or b p 0 ≡ 0x3A → TellsAsMuch b (Place.At p Colon) (Place.At (p + 1) Value)
+pub colon_past : (b : List ℕ) (p : ℕ) → p < length b → get_or b p 0 ≡ 0x3A → SaysAsMuch b (Place.At p Colon) (Place.At (p + 1) Value)
 colon_past b p lt e n d k at (low, high, h) = (
   omega arith,
   omega arith,

@@ -25,7 +25,7 @@ pub key_read : (n x : ℕ) (ss : List Symbol) (v : List ℕ) → x ≡ 0x22
 key_read n x ss v e =
     let b = begins 2 x v (member n ∷ ss) in (λ d. let f = b.0 d in grind arith, λ d. b.1 (grind arith))
 
--- behind a value, in an array and in an object
+-- after a value, in an array and in an object
 more_item : (kind n : ℕ) (ss : List Symbol) (v : List ℕ) → kind ≡ 0
     → Stands (more_in kind n ∷ ss) (0x2C ∷ v) ↔ Stands (blanks ∷ value n ∷ blanks ∷ more_in kind n ∷ ss) v
 more_item zero n ss v e =

@@ -6,7 +6,7 @@ use Rattle.infer_formats.proofs.DbaseLemmas.{dbase_lines, dbase-lasts, known_tab
 use Rattle.infer_formats.proofs.ElfLemmas.{object_lines, shared_object-lasts, known_object}
 use Rattle.infer_formats.proofs.FirstKeyLemmas.{first_key-lasts, first_key_with-lasts, key_lines, known_key, known_value, value_lines}
 use Rattle.infer_formats.proofs.HeaderLemmas.{header-lasts, header_lines, known_header}
-use Rattle.infer_formats.proofs.Id3Lemmas.{behind-lasts, behind_lines, known_behind}
+use Rattle.infer_formats.proofs.Id3Lemmas.{after-lasts, after_lines, known_after}
 use Rattle.infer_formats.proofs.JsonLeadLemmas.{lines_lead, text_leads, json_begins}
 use Rattle.infer_formats.proofs.LeadLemmas.{begins_markup, markup_begins}
 use Rattle.infer_formats.proofs.MarkupLemmas.{HasRoot-lasts, HasRootWith-lasts}
@@ -39,7 +39,7 @@ relation_lasts (package_with folder) l = λ b more. package_with-lasts b more fo
 relation_lasts (class_id id) l = HasClassId-lasts id
 relation_lasts (directory_tag tag) l = λ b more. tag-lasts b more tag
 relation_lasts (directory_tag_and_make tag make) l = λ b more. tag_and_make-lasts b more tag make
-relation_lasts (behind_id3 t) l = λ b more. behind-lasts b more t
+relation_lasts (behind_id3 t) l = λ b more. after-lasts b more t
 relation_lasts (text_first t) l = λ b more. begins-lasts b more t
 relation_lasts (text_first_with t u) l = λ b more. begins_and_has-lasts b more t u
 relation_lasts (text_first_with_all t u v w) l = λ b more. begins_and_has_all-lasts b more t u v w
@@ -77,7 +77,7 @@ module _ (by_place : (place : ℕ) (t buf : List ℕ) → IsTrue (stands place t
   has_lines (class_id id) small (place, r, o) = let le = r.header.fits in begins by_place b 8 _ (omega arith) r.header
   has_lines (directory_tag tag) small (big, starts, e) = tag_lines by_place b big starts
   has_lines (directory_tag_and_make tag make) small (big, starts, tagged, made) = tag_lines by_place b big starts
-  has_lines (behind_id3 t) small h = behind_lines by_place b t h
+  has_lines (behind_id3 t) small h = after_lines by_place b t h
   has_lines (text_first t) small h = begins_lines by_place b t h
   has_lines (text_first_with t u) small h = begins_lines by_place b t h.0
   has_lines (text_first_with_all t u v w) small h = begins_lines by_place b t h.0
@@ -109,7 +109,7 @@ module _ (by_place : ByPlace) (inside : Leads) (single : Single) (b : List ℕ) 
   known_relation (class_id id) = known_class by_place b id
   known_relation (directory_tag tag) = known_tag by_place b tag
   known_relation (directory_tag_and_make tag make) = known_tag_and_make by_place b tag make
-  known_relation (behind_id3 t) = known_behind by_place b t
+  known_relation (behind_id3 t) = known_after by_place b t
   known_relation (text_first t) = known_begins by_place b t
   known_relation (text_first_with t u) = known_begins_and_has by_place b t u
   known_relation (text_first_with_all t u v w) = known_begins_and_has_all by_place b t u v w

@@ -41,12 +41,12 @@ abbrev starts_other : List ℕ → Bool
 starts_other [] = true
 starts_other (x ∷ b) = not (x == 0x3C) && (not (is_space x) || starts_other b)
 
-not_behind_space : (b : List ℕ) → IsTrue (starts_other b) → (k : ℕ) → ((j : ℕ) → j < k → IsXmlSpace (slice_index b j)) → slice_index b k ≢ 0x3C
-not_behind_space [] h k spaces e = omega arith
-not_behind_space (x ∷ b) h zero spaces e = let none = (and_parts (not (x == 0x3C)) _ h).0 in grind (arith, nat_tests)
-not_behind_space (x ∷ b) h (suc k) spaces e = elim (or_cases (not (is_space x)) _ ((and_parts (not (x == 0x3C)) _ h).1)) [
+not_after_space : (b : List ℕ) → IsTrue (starts_other b) → (k : ℕ) → ((j : ℕ) → j < k → IsXmlSpace (slice_index b j)) → slice_index b k ≢ 0x3C
+not_after_space [] h k spaces e = omega arith
+not_after_space (x ∷ b) h zero spaces e = let none = (and_parts (not (x == 0x3C)) _ h).0 in grind (arith, nat_tests)
+not_after_space (x ∷ b) h (suc k) spaces e = elim (or_cases (not (is_space x)) _ ((and_parts (not (x == 0x3C)) _ h).1)) [
   | inl dark ↦ let space = spaces 0 (omega arith) in grind (arith, nat_tests)
-  | inr rest ↦ not_behind_space b rest k (λ j lt. spaces (suc j) (omega arith)) e
+  | inr rest ↦ not_after_space b rest k (λ j lt. spaces (suc j) (omega arith)) e
 ]
 
 -- a name can have such signs
@@ -70,7 +70,7 @@ module _ (by_place : ByPlace) (inside : Leads) (single : Single) (b : List ℕ) 
     | inl none ↦ no_element b none (inside.element name b is)
     | inr other ↦ elim (inside.root name b is) [
       | inl mark ↦ let first = mark.reads 0 (omega arith) in no_mark b ((and_parts (starts_other b) _ other).1) first
-      | inr (k, low, spaces, starts) ↦ not_behind_space b ((and_parts (starts_other b) _ other).0) k (λ j lt. spaces j (omega arith) lt) starts
+      | inr (k, low, spaces, starts) ↦ not_after_space b ((and_parts (starts_other b) _ other).0) k (λ j lt. spaces j (omega arith) lt) starts
     ]
   ]
 
@@ -97,7 +97,7 @@ module _ (by_place : ByPlace) (inside : Leads) (single : Single) (b : List ℕ) 
   abbrev prolog_to : (p : ℕ) → Known ((p ≡ 0) ⊎ (IsEnclosed b (codes "<?") (codes "?>") 0 p ⊎ IsEnclosed b (codes "<!--") (codes "-->") 0 p))
   prolog_to p = either (same p 0) (either (enclosed (codes "<?") (codes "?>") p) (enclosed (codes "<!--") (codes "-->") p))
 
-  -- behind it signs name a root element
+  -- after it signs name a root element
   pub is_root : (p to : ℕ) → ¬ OccursAt b utf8_mark 0 → (p ≡ 0) ⊎ (IsEnclosed b (codes "<?") (codes "?>") 0 p ⊎ IsEnclosed b (codes "<!--") (codes "-->") 0 p)
       → slice_index b p ≡ 0x3C → Letters is_sign b (p + 1) to → p + 1 < to → to < length b → (slice_index b to ≡ 0x3E) ⊎ (slice_index b to ≡ 0x20)
       → IsRootElement (slice_range b (p + 1) to) (drop to b) b
@@ -127,7 +127,7 @@ module _ (by_place : ByPlace) (inside : Leads) (single : Single) (b : List ℕ) 
       ] in
       (0, p + 1, to, inr (unmarked, refl), leads, refl, refl)
 
-  -- where the root's tag starts: behind the ">" of an instruction or a comment, or at 0
+  -- where the root's tag starts: after the ">" of an instruction or a comment, or at 0
   abbrev opening : ℕ
   opening = if slice_index b 1 == 0x21 || slice_index b 1 == 0x3F then closed b else 0
 
@@ -158,15 +158,15 @@ module _ (by_place : ByPlace) (inside : Leads) (single : Single) (b : List ℕ) 
     named ← needs (rooted_so name) (λ h. let equal = single.root b name h.0 (slice_range b (opening + 1) name_end) (drop name_end b) h.1 own in subst (λ r. IsRootElement name r b) equal.1 h.1)
     proved (drop name_end b, named)
 
-  -- the text stands right behind the name, or nowhere behind it
-  abbrev somewhere_behind : (t : List ℕ) → Known ((k : ℕ) × OccursAt (drop name_end b) t k)
-  somewhere_behind t = elim (occurs by_place t (drop name_end b) 1) [
+  -- the text stands right after the name, or nowhere after it
+  abbrev somewhere_after : (t : List ℕ) → Known ((k : ℕ) × OccursAt (drop name_end b) t k)
+  somewhere_after t = elim (occurs by_place t (drop name_end b) 1) [
     | proved o ↦ proved (1, o)
     | other ↦ refuted_if (lacks 0 (suc (length (drop name_end b))) t (drop name_end b)) (λ none. λ (q, o). nowhere_from by_place t (drop name_end b) 0 q (omega arith) none o)
   ]
 
-  pub behind_name : (name t : List ℕ) → IsRootElement name (drop name_end b) b → HasRootWith name t b → (k : ℕ) × OccursAt (drop name_end b) t k
-  behind_name name t own (rest, element, (k, stands, clear)) =
+  pub after_name : (name t : List ℕ) → IsRootElement name (drop name_end b) b → HasRootWith name t b → (k : ℕ) × OccursAt (drop name_end b) t k
+  after_name name t own (rest, element, (k, stands, clear)) =
       let equal = single.root b name rest name (drop name_end b) element own in
       (k, subst (λ r. OccursAt r t k) equal.1 stands)
 
@@ -174,7 +174,7 @@ module _ (by_place : ByPlace) (inside : Leads) (single : Single) (b : List ℕ) 
   root_named_with name t = do
     rooted ← needs (root_named name) (inside.root_with name t b)
     own ← takes (rooted_so name)
-    stands ← needs (somewhere_behind t) (λ h. behind_name name t own h)
+    stands ← needs (somewhere_after t) (λ h. after_name name t own h)
     clear ← takes (proved_if (not (list_any (λ x. x == 0x3E) (drop name_end b))) (unclosed (drop name_end b)))
     proved (drop name_end b, own, (stands.0, stands.1, λ k lt. clear k))
 

@@ -1,8 +1,8 @@
 -- A run ends at one place, and what follows a byte begins at one.
 use Rattle.infer_formats.proofs.Common.{◌≡◌, ℕ, ◌-◌, ◌<◌, List, arith, IsAfterLast, IsRun}
 
-pub one_run_end : (Kind : ℕ → Type 0) (b : List ℕ) (from to other : ℕ) → IsRun Kind b from to → IsRun Kind b from other → to ≡ other
-one_run_end Kind b from to other r s =
+pub one_run_end : (P : ℕ → Type 0) (b : List ℕ) (from to other : ℕ) → IsRun P b from to → IsRun P b from other → to ≡ other
+one_run_end P b from to other r s =
     let early = λ (lt : to < other). r.ends (s.bytes to r.order lt) in
     let late = λ (lt : other < to). s.ends (r.bytes other s.order lt) in
     grind arith

@@ -83,11 +83,11 @@ no_first_word b none p q names = elim names [
 ]
 
 -- where the first word is `env`, the next that it does not take for itself names the program
-pub named_behind_env : (b : List ℕ) (from to : ℕ) → IsFirstWord b from to → IsEnv b from to → (r : Option Word)
+pub named_after_env : (b : List ℕ) (from to : ℕ) → IsFirstWord b from to → IsEnv b from to → (r : Option Word)
     → MatchOption r ((p q : ℕ) → to ≤ p → IsWord b p q → IsSetting b p q) (λ w. IsNextWord b (λ i j. ¬ IsSetting b i j) to w.from w.to)
     → MatchOption r ((p q : ℕ) → ¬ NamesProgram b p q) (λ w. NamesProgram b w.from w.to)
-named_behind_env b from to first env (Some w) next = inr (from, to, first, env, next)
-named_behind_env b from to first env None settings = λ p q names. elim names [
+named_after_env b from to first env (Some w) next = inr (from, to, first, env, next)
+named_after_env b from to first env None settings = λ p q names. elim names [
   | inl (other, not_env) ↦
       let same = one_next_word b (λ i j. Unit {0}) 2 p q from to other first in
       not_env (subst (λ x. IsEnv b x q) same.0 (subst (λ y. IsEnv b from y) same.1 env))
@@ -350,7 +350,7 @@ not_version x h (inl (low, high)) = grind (arith, nat_tests)
 not_version x h (inr e) = grind (arith, nat_tests)
 
 module _ (by_place : ByPlace) (single : Single) (b : List ℕ) where
-  -- a name that begins the line, or stands behind the "/" that does, up to a gap
+  -- a name that begins the line, or stands after the "/" that does, up to a gap
   pub is_program : (at to : ℕ) → OccursAt b (codes "#!") 0 → (at ≡ 2) ⊎ ((at ≡ 3) × (slice_index b 2 ≡ 0x2F)) → Letters is_named_byte b at to
       → at < to → to < length b → IsTrue (is_gap (slice_index b to)) → IsTrue (not (is_version (slice_index b (to - 1)))) → ¬ OccursAt b (codes "env") at
       → IsProgram (slice_range b at to) b
@@ -362,7 +362,7 @@ module _ (by_place : ByPlace) (single : Single) (b : List ℕ) where
       ] in
       let bytes : (k : ℕ) → 2 ≤ k → k < to → IsWordByte (slice_index b k) = λ k from lt. elim (cases_lt k at) [
         | inl before ↦ let slash = early k from before in (λ e. omega arith, λ e. omega arith, λ e. omega arith, λ e. omega arith)
-        | inr behind ↦ byte_of_word (slice_index b k) (letters k behind lt)
+        | inr after ↦ byte_of_word (slice_index b k) (letters k after lt)
       ] in
       let word : IsWord b 2 to = record {
         low = omega arith;

@@ -2,7 +2,7 @@
 use Rattle.infer_formats.proofs.Common.{◌≡◌, ◌↔◌, ◌⊎◌, [], ◌∷◌, inl, inr, ℕ, zero, suc, ◌+◌, ◌<◌, ◌≤◌, List, Option, None, Some, length, FindsPlace, codes, get_or, add-zero, arith, cases_lt, subst, refl, OccursAt, IsEnclosed, IsFirstPlace-same, IsRun, IsXmlSpace}
 use Rattle.std.proofs.Common.{◌≢◌}
 use Rattle.std.proofs.lemmas.Bool.{cases_order}
-use Rattle.infer_formats.specs.Markup.{ClosesBehind, ClosesDeclaration, ClosesPlain, EndsSubset, IsPlainByte, IsSealed, IsPastPiece, OpensSeal, ends_here, past_byte, past_sealed}
+use Rattle.infer_formats.specs.Markup.{ClosesAfter, ClosesDeclaration, ClosesPlain, EndsSubset, IsPlainByte, IsSealed, IsPastPiece, OpensSeal, ends_here, past_byte, past_sealed}
 use Rattle.infer_formats.proofs.FrontLemmas.{SharesFront, byte_shared, front_swaps, run_shared, text_shared}
 use Rattle.infer_formats.proofs.GrowthLemmas.{there}
 use Rattle.infer_formats.proofs.RunLemmas.{one_run_end}
@@ -280,14 +280,14 @@ module _ (b c : List ℕ) (s : SharesFront (length b) b c) where
 
 -- ---- how a declaration closes
 
-pub behind_within : (b : List ℕ) (bracket close : ℕ) → ClosesBehind b bracket close → (bracket < close) × (close < length b)
-behind_within b bracket close (end, subset, order, space, closes) =
+pub after_within : (b : List ℕ) (bracket close : ℕ) → ClosesAfter b bracket close → (bracket < close) × (close < length b)
+after_within b bracket close (end, subset, order, space, closes) =
     let within = subset_within b end (bracket + 1) subset in (omega arith, there b close (omega arith))
 
 pub close_within : (b : List ℕ) (from close : ℕ) → ClosesDeclaration b from close → (from ≤ close) × (close < length b)
 close_within b from close (inl (run, is)) = (run.order, run.whole)
-close_within b from close (inr (bracket, run, is_open, behind)) =
-    let within = behind_within b bracket close behind in let order = run.order in (omega arith, within.1)
+close_within b from close (inr (bracket, run, is_open, follows)) =
+    let within = after_within b bracket close follows in let order = run.order in (omega arith, within.1)
 
 -- white space up to a ">" is of one length
 first_closing : (b : List ℕ) (end close other : ℕ) → end < close → ((k : ℕ) → end < k → k < other → IsXmlSpace (get_or b k 0))
@@ -297,26 +297,26 @@ first_closing b end close other order space is = elim (cases_lt close other) [
   | inr le ↦ le
 ]
 
-pub one_behind : (b : List ℕ) (bracket close other : ℕ) → ClosesBehind b bracket close → ClosesBehind b bracket other → close ≡ other
-one_behind b bracket close other (end, subset, order, space, is) (far, more, later, spaces, same) =
+pub one_after : (b : List ℕ) (bracket close other : ℕ) → ClosesAfter b bracket close → ClosesAfter b bracket other → close ≡ other
+one_after b bracket close other (end, subset, order, space, is) (far, more, later, spaces, same) =
     let one = one_subset b end far (bracket + 1) subset more in
     let low = first_closing b end close other order (λ k l h. spaces k (omega arith) h) is in
     let high = first_closing b end other close (omega arith) space same in
     omega arith
 
--- behind all the white space after a subset stands the only one
+-- after all the white space after a subset stands the only one
 pub only_close : (b : List ℕ) (bracket end close other : ℕ) → EndsSubset b end (bracket + 1) → end < close
-    → ((k : ℕ) → end + 1 ≤ k → k < close → IsXmlSpace (get_or b k 0)) → (¬ IsXmlSpace (get_or b close 0)) → ClosesBehind b bracket other → other ≡ close
+    → ((k : ℕ) → end + 1 ≤ k → k < close → IsXmlSpace (get_or b k 0)) → (¬ IsXmlSpace (get_or b close 0)) → ClosesAfter b bracket other → other ≡ close
 only_close b bracket end close other subset order spaces dark (far, more, later, room, same) =
     let one = one_subset b end far (bracket + 1) subset more in
     let low = first_closing b end other close (omega arith) (λ k l h. spaces k (omega arith) h) same in
     elim (cases_lt close other) [ inl early ↦ absurd (dark (room close (omega arith) early)) | inr le ↦ omega arith ]
 
-one_close_behind : (b : List ℕ) (from bracket at close other : ℕ) → IsRun IsPlainByte b from bracket → IsRun IsPlainByte b from at
-    → ClosesBehind b bracket close → ClosesBehind b at other → close ≡ other
-one_close_behind b from bracket at close other run runs behind after =
+one_close_after : (b : List ℕ) (from bracket at close other : ℕ) → IsRun IsPlainByte b from bracket → IsRun IsPlainByte b from at
+    → ClosesAfter b bracket close → ClosesAfter b at other → close ≡ other
+one_close_after b from bracket at close other run runs follows after =
     let same = one_run_end IsPlainByte b from at bracket runs run in
-    one_behind b bracket close other behind (subst (λ o. ClosesBehind b o other) same after)
+    one_after b bracket close other follows (subst (λ o. ClosesAfter b o other) same after)
 
 plain_or_subset : (b : List ℕ) (from close bracket : ℕ) → ClosesPlain b from close → IsRun IsPlainByte b from bracket → get_or b bracket 0 ≡ 0x5B → ⊥
 plain_or_subset b from close bracket (run, is) runs is_open =
@@ -325,10 +325,10 @@ plain_or_subset b from close bracket (run, is) runs is_open =
 
 pub one_close : (b : List ℕ) (from close other : ℕ) → ClosesDeclaration b from close → ClosesDeclaration b from other → close ≡ other
 one_close b from close other (inl (run, is)) (inl (runs, same)) = one_run_end IsPlainByte b from close other run runs
-one_close b from close other (inl plain) (inr (bracket, runs, is_open, behind)) = absurd (plain_or_subset b from close bracket plain runs is_open)
-one_close b from close other (inr (bracket, runs, is_open, behind)) (inl plain) = absurd (plain_or_subset b from other bracket plain runs is_open)
-one_close b from close other (inr (bracket, run, is_open, behind)) (inr (at, runs, _, after)) =
-    one_close_behind b from bracket at close other run runs behind after
+one_close b from close other (inl plain) (inr (bracket, runs, is_open, follows)) = absurd (plain_or_subset b from close bracket plain runs is_open)
+one_close b from close other (inr (bracket, runs, is_open, follows)) (inl plain) = absurd (plain_or_subset b from other bracket plain runs is_open)
+one_close b from close other (inr (bracket, run, is_open, follows)) (inr (at, runs, _, after)) =
+    one_close_after b from bracket at close other run runs follows after
 
 pub close_lasts : (b c : List ℕ) (s : SharesFront (length b) b c) (from close : ℕ) → ClosesDeclaration b from close → ClosesDeclaration c from close
 close_lasts b c s from close (inl (run, is)) =
@@ -350,7 +350,7 @@ close_lasts b c s from close (inr (bracket, run, is_open, (end, subset, order, s
       ),
     )
 
--- where the first byte that is not plain is no ">", a declaration closes as the subset behind it does
+-- where the first byte that is not plain is no ">", a declaration closes as the subset after it does
 module _ (b : List ℕ) (from stop : ℕ) (run : IsRun IsPlainByte b from stop) (other : get_or b stop 0 ≢ 0x3E) where
   is_bracket : get_or b stop 0 ≡ 0x5B
   is_bracket = elim (cases_order (get_or b stop 0) 0x5B) [
@@ -359,13 +359,13 @@ module _ (b : List ℕ) (from stop : ℕ) (run : IsRun IsPlainByte b from stop) 
     | inr (inr gt) ↦ absurd (run.ends (other, λ e. omega arith))
   ]
 
-  pub closes_behind : (r : Option ℕ) → FindsPlace (ClosesBehind b stop) r → FindsPlace (ClosesDeclaration b from) r
-  closes_behind (Some close) behind = inr (stop, run, is_bracket, behind)
-  closes_behind None none = λ close closes. elim closes [
+  pub closes_after : (r : Option ℕ) → FindsPlace (ClosesAfter b stop) r → FindsPlace (ClosesDeclaration b from) r
+  closes_after (Some close) follows = inr (stop, run, is_bracket, follows)
+  closes_after None none = λ close closes. elim closes [
     | inl (runs, is) ↦
         let same = one_run_end IsPlainByte b from close stop runs run in
         other (subst (λ k. get_or b k 0 ≡ 0x3E) same is)
-    | inr (bracket, runs, is, behind) ↦
+    | inr (bracket, runs, is, follows) ↦
         let same = one_run_end IsPlainByte b from bracket stop runs run in
-        none close (subst (λ k. ClosesBehind b k close) same behind)
+        none close (subst (λ k. ClosesAfter b k close) same follows)
   ]

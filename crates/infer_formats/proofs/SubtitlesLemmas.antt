@@ -60,7 +60,7 @@ module _ (b more : List ℕ) where
 
 -- ---- what more bytes may make
 
--- a cue begins with a digit, and behind that the digits or the line go on
+-- a cue begins with a digit, and after that the digits or the line go on
 cue_begins : (b : List ℕ) (p : ℕ) → IsCue b p → IsDigit (slice_index b p) × GoesOn (slice_index b (p + 1))
 cue_begins b p (n, t, (some, few), digits, line, span) = (
   rw add-zero at (digits 0 some),

@@ -1,5 +1,5 @@
--- The checksum is all the digits that stand behind the spaces.
-use Rattle.infer_formats.proofs.Common.{◌≡◌, ℕ, ◌+◌, ◌<◌, ◌≤◌, List, get_or, add-zero, subst, arith, IsField, IsOctal, octal, inl, inr, zero, suc, ◌-◌, ◌++◌, length, refl, sym, ◌∙◌, cases_lt, get_or_append_left, MayBecome, HasTarChecksum, header_sum, sum_from, true, length-append, slice_index, OccursAt, ◌↔◌, IsTrue, and_from, le-leb, or_left, or_right, get_or-replicate, length-replicate, nat_le, replicate, digit_behind, digits_behind, lines, tar_checksum, StandsByPlace, accepts, fits, stands}
+-- The checksum is all the digits that stand after the spaces.
+use Rattle.infer_formats.proofs.Common.{◌≡◌, ℕ, ◌+◌, ◌<◌, ◌≤◌, List, get_or, add-zero, subst, arith, IsField, IsOctal, octal, inl, inr, zero, suc, ◌-◌, ◌++◌, length, refl, sym, ◌∙◌, cases_lt, get_or_append_left, MayBecome, HasTarChecksum, header_sum, sum_from, true, length-append, slice_index, OccursAt, ◌↔◌, IsTrue, and_from, le-leb, or_left, or_right, get_or-replicate, length-replicate, nat_le, replicate, digit_after, digits_after, lines, tar_checksum, StandsByPlace, accepts, fits, stands}
 use Rattle.infer_formats.specs.Tar.{HasField}
 use Rattle.infer_formats.proofs.OutlineLemmas.{in_range, occurs}
 use Rattle.infer_sig.proofs.KnownLemmas.{Known, at_most, both, proved, same, takes, ◌>>=◌}
@@ -109,24 +109,24 @@ module _ (by_place : (place : ℕ) (t buf : List ℕ) → IsTrue (stands place t
     reads = λ j l. let long = length-replicate {A = ℕ} n 0x20 in all (148 + j) (omega arith) (omega arith) ∙ sym (get_or-replicate n j 0x20 0 (omega arith));
   }
 
-  digit_lines : (n m k : ℕ) → k < m → IsTrue (fits b (digit_behind (n + k))) → IsTrue (accepts (digits_behind n m) b)
+  digit_lines : (n m k : ℕ) → k < m → IsTrue (fits b (digit_after (n + k))) → IsTrue (accepts (digits_after n m) b)
   digit_lines n zero k lt h = absurd (omega arith)
-  digit_lines n (suc m) zero lt h = let e : n + 0 ≡ n = omega arith in or_left (fits b (digit_behind n)) _ (subst (λ x. IsTrue (fits b (digit_behind x))) e h)
+  digit_lines n (suc m) zero lt h = let e : n + 0 ≡ n = omega arith in or_left (fits b (digit_after n)) _ (subst (λ x. IsTrue (fits b (digit_after x))) e h)
   digit_lines n (suc m) (suc k) lt h =
       let e : n + suc k ≡ suc n + k = omega arith in
-      or_right (fits b (digit_behind n)) _ (digit_lines (suc n) m k (omega arith) (subst (λ x. IsTrue (fits b (digit_behind x))) e h))
+      or_right (fits b (digit_after n)) _ (digit_lines (suc n) m k (omega arith) (subst (λ x. IsTrue (fits b (digit_after x))) e h))
 
   pub field_lines : (p d : ℕ) → 512 ≤ length b → IsField b p d → IsTrue (accepts (lines tar_checksum) b)
   field_lines p d long f =
       let low = f.low in let high = f.high in let some = f.some in
       let place : 148 + (p - 148) ≡ p = omega arith in
       let digit = subst (λ k. IsOctal (slice_index b k)) (let e : p + 0 ≡ 148 + (p - 148) = omega arith in e) (f.digits 0 (omega arith)) in
-      let behind : IsTrue (fits b (digit_behind (p - 148))) =
+      let after : IsTrue (fits b (digit_after (p - 148))) =
       and_from (nat_le 512 (length b)) _ (le-leb 512 (length b) long)
       (and_from _ _ (occurs by_place b 148 _ (spaces_at (p - 148) (omega arith) (λ k from to. f.spaces k from (omega arith))))
       (and_from _ true (in_range by_place b (148 + (p - 148)) 0x30 0x37 (omega arith) digit.0 digit.1) refl)) in
       let e : p - 148 ≡ 0 + (p - 148) = omega arith in
-      digit_lines 0 8 (p - 148) (omega arith) (subst (λ n. IsTrue (fits b (digit_behind n))) e behind)
+      digit_lines 0 8 (p - 148) (omega arith) (subst (λ n. IsTrue (fits b (digit_after n))) e after)
 
 -- ---- what a computation says of a tar archive
 

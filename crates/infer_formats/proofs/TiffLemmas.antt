@@ -128,7 +128,7 @@ module _ (by_place : ByPlace) (b : List ℕ) where
   abbrev pub known_tag : (tag : ℕ) → Known (HasTag tag b)
   known_tag tag = ◌>>◌ (known_first_tag tag) (refuted_if (lacks_tag tag) (untagged tag))
 
-  -- the tag first, and the make right behind it
+  -- the tag first, and the make right after it
   abbrev known_made_next : (tag : ℕ) (make : List ℕ) → Known (HasTagAndMake tag make b)
   known_made_next tag make = do
     begins ← takes (Place.occurs by_place (0x4D ∷ 0x4D ∷ 0x00 ∷ 0x2A ∷ []) b 0)

@@ -1,9 +1,9 @@
 -- Where tokens end.
-use Rattle.infer_formats.proofs.Common.{[], ◌≡◌, ℕ, ◌+◌, ◌≤◌, ◌<◌, ◌⊎◌, inl, inr, ◌↔◌, Bool, true, false, IsTrue, List, ◌∷◌, ◌++◌, Option, None, Some, length, drop, get_or, append_assoc, refl, sym, subst, ap, ◌∙◌, arith, OnTrue, drop_more, Symbol, range, blanks, value, chars, escape, hex, integer, fraction, power, digits, byte, digit, BeginsWhole, BehindBlanks, text, BeginsText, CanBe, IsAmong, IsKind, BeginsWithToken, Stands, nothing, one, by_rule, EndsNumber, Follows, IsBracket, IsKindPastMark, IsPast, IsPastMark, left, Kind, Lines, Text, Token, Chars, Inside, Ended, EndedBefore, Wrong, append-nil, not, rules, BeginsToken, IsBlank, IsStructural, NoneGoesOn, IsKindBefore, NoToken, Starts}
+use Rattle.infer_formats.proofs.Common.{[], ◌≡◌, ℕ, ◌+◌, ◌≤◌, ◌<◌, ◌⊎◌, inl, inr, ◌↔◌, Bool, true, false, IsTrue, List, ◌∷◌, ◌++◌, Option, None, Some, length, drop, get_or, append_assoc, refl, sym, subst, ap, ◌∙◌, arith, OnTrue, drop_more, Symbol, range, blanks, value, chars, escape, hex, integer, fraction, power, digits, byte, digit, BeginsWhole, AfterBlanks, text, BeginsText, CanBe, IsAmong, SaysJson, BeginsWithToken, Stands, nothing, one, by_rule, EndsNumber, Follows, IsBracket, SaysJsonPastMark, IsPast, IsPastMark, left, Json, Lines, Text, Token, Chars, Inside, Ended, EndedBefore, Wrong, append-nil, not, rules, BeginsToken, IsBlank, IsStructural, NoneGoesOn, SaysJsonBefore, NoToken, Starts}
 use Rattle.infer_formats.specs.declared.json.token.Step.{Step}
 use Rattle.infer_formats.proofs.CompleteLemmas.{AllHold, Completes, completes, token_holds}
 use Rattle.infer_formats.proofs.JsonLemmas.{value_begins}
-use Rattle.infer_formats.proofs.LineLemmas.{CutLine, WholeLine, WrongLine, lines_none, lines_begin, lines_single, lines_so, none_left, kind_past, past_can, text_no_blank}
+use Rattle.infer_formats.proofs.LineLemmas.{CutLine, WholeLine, WrongLine, lines_none, lines_begin, lines_single, lines_so, none_left, json_past, past_can, text_no_blank}
 use Rattle.infer_formats.specs.declared.json.lines.Line.TheVariants as Line
 
 -- one after the other, and apart
@@ -31,17 +31,17 @@ apart (by_rule {a = b} {ss} {xs} r m d) (a ∷ us) bs e =
     let p = apart d (r ++ us) bs (ap (λ t. r ++ t) rest ∙ sym (append_assoc r us bs)) in
     (p.0, p.1, p.2, subst (λ s. Stands (s ∷ us) p.0) same (by_rule r m p.3), p.4)
 
-none_behind : (x : ℕ) (ys zs : List ℕ) → x ∷ [] ≡ ys ++ zs → Stands (byte x ∷ []) zs → ys ≡ []
-none_behind x [] zs e d = refl
-none_behind x (y ∷ ys) [] e (by_rule r m d) = elim m [ ]
-none_behind x (y ∷ []) (z ∷ zs) e d = absurd (cc)
-none_behind x (y ∷ w ∷ ys) (z ∷ zs) e d = absurd (cc)
+alone_so : (x : ℕ) (ys zs : List ℕ) → x ∷ [] ≡ ys ++ zs → Stands (byte x ∷ []) zs → ys ≡ []
+alone_so x [] zs e d = refl
+alone_so x (y ∷ ys) [] e (by_rule r m d) = elim m [ ]
+alone_so x (y ∷ []) (z ∷ zs) e d = absurd (cc)
+alone_so x (y ∷ w ∷ ys) (z ∷ zs) e d = absurd (cc)
 
 -- what ss stands for where it ended before the byte x: nothing
 before_byte : (ss : List Symbol) (x : ℕ) → Stands (ss ++ byte x ∷ []) (x ∷ []) → Stands ss []
 before_byte ss x d =
     let p = apart d ss (byte x ∷ []) refl in
-    subst (Stands ss) (none_behind x p.0 p.1 p.2 p.4) p.3
+    subst (Stands ss) (alone_so x p.0 p.1 p.2 p.4) p.3
 
 by_itself : (x : ℕ) → Stands (byte x ∷ []) (x ∷ [])
 by_itself x = one (omega arith) (omega arith) nothing
@@ -202,14 +202,14 @@ none_starts x s n m =
     let q = λ (e : x ≡ 0x7B). m (inr (inr (inl e))) in
     never_whole (value 0 ∷ []) x s (λ v. n 0 [] v p q) (n 0 (byte x ∷ []) [] p q)
 
--- behind white space
-behind_past : (P : List ℕ → Type 0) (s t : List ℕ) → ((x : ℕ) (u : List ℕ) → IsBlank x → ¬ P (x ∷ u)) → IsPast s t
-    → BehindBlanks P s ↔ P t
-behind_past P [] t n e = (λ p. subst P (sym e) p, λ p. subst P e p)
-behind_past P (x ∷ s) t n (inl (b, p)) =
-    let h = behind_past P s t n p in
+-- after white space
+after_past : (P : List ℕ → Type 0) (s t : List ℕ) → ((x : ℕ) (u : List ℕ) → IsBlank x → ¬ P (x ∷ u)) → IsPast s t
+    → AfterBlanks P s ↔ P t
+after_past P [] t n e = (λ p. subst P (sym e) p, λ p. subst P e p)
+after_past P (x ∷ s) t n (inl (b, p)) =
+    let h = after_past P s t n p in
     (λ d. elim d [ inl q ↦ absurd (n x s b q) | inr q ↦ h.0 q.1 ], λ q. inr (b, h.1 q))
-behind_past P (x ∷ s) t n (inr (m, e)) =
+after_past P (x ∷ s) t n (inr (m, e)) =
     (λ d. elim d [ inl q ↦ subst P (sym e) q | inr q ↦ absurd (m q.0) ], λ q. inl (subst P e q))
 
 blank_no_token : (x : ℕ) → IsBlank x → NoToken x
@@ -221,25 +221,25 @@ token_not_blank x s b d = elim d [
   | inr w ↦ none_starts x s (blank_no_token x b) (λ m. grind arith) w
 ]
 
-token_past : (s t : List ℕ) → IsPast s t → BehindBlanks BeginsToken s ↔ BeginsToken t
-token_past s t p = behind_past BeginsToken s t token_not_blank p
+token_past : (s t : List ℕ) → IsPast s t → AfterBlanks BeginsToken s ↔ BeginsToken t
+token_past s t p = after_past BeginsToken s t token_not_blank p
 
-begins_past : (s t : List ℕ) → IsPast s t → BehindBlanks BeginsWithToken s ↔ BeginsWithToken t
-begins_past s t p = behind_past BeginsWithToken s t (λ x u b d. (let o = d.0 in grind arith)) p
+begins_past : (s t : List ℕ) → IsPast s t → AfterBlanks BeginsWithToken s ↔ BeginsWithToken t
+begins_past s t p = after_past BeginsWithToken s t (λ x u b d. (let o = d.0 in grind arith)) p
 
 -- of a buffer by its first byte
-pub tokens_past : (b s rest : List ℕ) (x : ℕ) → IsPast b s → s ≡ x ∷ rest → BehindBlanks BeginsToken b
+pub tokens_past : (b s rest : List ℕ) (x : ℕ) → IsPast b s → s ≡ x ∷ rest → AfterBlanks BeginsToken b
     ↔ BeginsToken (x ∷ rest)
-tokens_past b s rest x p e = subst (λ u. BehindBlanks BeginsToken b ↔ BeginsToken u) e (token_past b s p)
+tokens_past b s rest x p e = subst (λ u. AfterBlanks BeginsToken b ↔ BeginsToken u) e (token_past b s p)
 
-pub no_token : (b s : List ℕ) → IsPast b s → length s < 1 → ¬ BehindBlanks BeginsToken b
+pub no_token : (b s : List ℕ) → IsPast b s → length s < 1 → ¬ AfterBlanks BeginsToken b
 no_token b [] p l d = (token_past b [] p).0 d
 no_token b (x ∷ s) p l d = absurd (omega arith)
 
 pub text_past : (b s rest : List ℕ) (x : ℕ) → IsPast b s → s ≡ x ∷ rest
-    → BeginsText b ↔ ((IsBracket x × BehindBlanks BeginsToken rest) × CanBe (text ∷ blanks ∷ []) (x ∷ rest))
+    → BeginsText b ↔ ((IsBracket x × AfterBlanks BeginsToken rest) × CanBe (text ∷ blanks ∷ []) (x ∷ rest))
 text_past b s rest x p e =
-    let first = subst (λ u. BehindBlanks BeginsWithToken b ↔ BeginsWithToken u) e (begins_past b s p) in
+    let first = subst (λ u. AfterBlanks BeginsWithToken b ↔ BeginsWithToken u) e (begins_past b s p) in
     let can = subst (λ u. CanBe (blanks ∷ text ∷ blanks ∷ []) b ↔ CanBe (text ∷ blanks ∷ []) u) e
     (past_can (text ∷ blanks ∷ []) b s tt (text_no_blank (blanks ∷ [])) p) in
     (λ (o, d). (first.0 o, can.0 d), λ (o, d). (first.1 o, can.1 d))
@@ -248,52 +248,52 @@ pub no_text : (b s : List ℕ) → IsPast b s → length s < 1 → ¬ BeginsText
 no_text b [] p l d = (begins_past b [] p).0 d.0
 no_text b (x ∷ s) p l d = absurd (omega arith)
 
--- which kind of JSON it is, by its first line and what stands behind the bracket of its first text
+-- which kind of JSON it is, by its first line and what stands after the bracket of its first text
 module _ (b s rest : List ℕ) (x : ℕ) (p : IsPast b s) (e : s ≡ x ∷ rest) where
-  single : BeginsText b → BehindBlanks BeginsToken rest × CanBe (text ∷ blanks ∷ []) s
+  single : BeginsText b → AfterBlanks BeginsToken rest × CanBe (text ∷ blanks ∷ []) s
   single d = let (o, can) = (text_past b s rest x p e).0 d in (o.1, subst (CanBe (text ∷ blanks ∷ [])) (sym e) can)
 
-  is_single : IsBracket x → BehindBlanks BeginsToken rest → CanBe (text ∷ blanks ∷ []) s → BeginsText b
+  is_single : IsBracket x → AfterBlanks BeginsToken rest → CanBe (text ∷ blanks ∷ []) s → BeginsText b
   is_single o t can = (text_past b s rest x p e).1 ((o, t), subst (CanBe (text ∷ blanks ∷ [])) e can)
 
-  pub kind_whole : (t : List ℕ) (k : Option Kind) → IsBracket x → WholeLine s t → IsKindBefore rest t k → IsKindPastMark b k
-  kind_whole t None o line_whole (inl (none, never)) = (λ d. never (single d).0, lines_single b s t p line_whole none)
-  kind_whole t None o line_whole (inr (some, never)) = (λ d. some (line_whole.1.0 (single d).1), λ d. never ((lines_so b s t p line_whole some).0 d))
-  kind_whole t (Some Text) o line_whole (none, token) = (is_single o token (line_whole.1.1 none), lines_single b s t p line_whole none)
-  kind_whole t (Some Lines) o line_whole (some, can) = ((lines_so b s t p line_whole some).1 can, λ d. some (line_whole.1.0 (single d).1))
+  pub json_whole : (t : List ℕ) (k : Option Json) → IsBracket x → WholeLine s t → SaysJsonBefore rest t k → SaysJsonPastMark b k
+  json_whole t None o line_whole (inl (none, never)) = (λ d. never (single d).0, lines_single b s t p line_whole none)
+  json_whole t None o line_whole (inr (some, never)) = (λ d. some (line_whole.1.0 (single d).1), λ d. never ((lines_so b s t p line_whole some).0 d))
+  json_whole t (Some Text) o line_whole (none, token) = (is_single o token (line_whole.1.1 none), lines_single b s t p line_whole none)
+  json_whole t (Some Lines) o line_whole (some, can) = ((lines_so b s t p line_whole some).1 can, λ d. some (line_whole.1.0 (single d).1))
 
-  pub kind_cut : (k : Option Kind) → IsBracket x → CutLine s → IsKindBefore rest [] k → IsKindPastMark b k
-  kind_cut None o cut (inl (none, never)) = (λ d. never (single d).0, lines_none b s Line.Cut p cut (inl refl))
-  kind_cut None o cut (inr (some, never)) = absurd (some refl)
-  kind_cut (Some Text) o cut (none, token) = (is_single o token cut.1, lines_none b s Line.Cut p cut (inl refl))
-  kind_cut (Some Lines) o cut (some, can) = absurd (some refl)
+  pub json_cut : (k : Option Json) → IsBracket x → CutLine s → SaysJsonBefore rest [] k → SaysJsonPastMark b k
+  json_cut None o cut (inl (none, never)) = (λ d. never (single d).0, lines_none b s Line.Cut p cut (inl refl))
+  json_cut None o cut (inr (some, never)) = absurd (some refl)
+  json_cut (Some Text) o cut (none, token) = (is_single o token cut.1, lines_none b s Line.Cut p cut (inl refl))
+  json_cut (Some Lines) o cut (some, can) = absurd (some refl)
 
-  pub kind_wrong : WrongLine s → IsKindPastMark b None
-  kind_wrong wrong = (λ d. wrong.1 (single d).1, lines_none b s Line.Wrong p wrong (inr refl))
+  pub json_wrong : WrongLine s → SaysJsonPastMark b None
+  json_wrong wrong = (λ d. wrong.1 (single d).1, lines_none b s Line.Wrong p wrong (inr refl))
 
-  pub kind_unbegun : ¬ IsBracket x → IsKindPastMark b None
-  kind_unbegun never = (λ d. never ((text_past b s rest x p e).0 d).0.0, lines_begin b s rest x p e never)
+  pub json_unbegun : ¬ IsBracket x → SaysJsonPastMark b None
+  json_unbegun never = (λ d. never ((text_past b s rest x p e).0 d).0.0, lines_begin b s rest x p e never)
 
-pub kind_empty : (b s : List ℕ) → IsPast b s → length s < 1 → IsKindPastMark b None
-kind_empty b s p l = (no_text b s p l, lines_none b s Line.Cut p (none_left s l) (inl refl))
+pub json_empty : (b s : List ℕ) → IsPast b s → length s < 1 → SaysJsonPastMark b None
+json_empty b s p l = (no_text b s p l, lines_none b s Line.Cut p (none_left s l) (inl refl))
 
-kind_shut : (w : List ℕ) (x : ℕ) → 1 ≤ length w → get_or w 0 0 ≡ x → ¬ IsBlank x → ¬ IsBracket x → IsKindPastMark w None
-kind_shut [] x l e never none = absurd (omega arith)
-kind_shut (y ∷ w) x l e never none =
+json_shut : (w : List ℕ) (x : ℕ) → 1 ≤ length w → get_or w 0 0 ≡ x → ¬ IsBlank x → ¬ IsBracket x → SaysJsonPastMark w None
+json_shut [] x l e never none = absurd (omega arith)
+json_shut (y ∷ w) x l e never none =
     let nb = subst (λ z. ¬ IsBlank z) (sym e) never in
-    kind_unbegun (y ∷ w) (y ∷ w) w y (inr (nb, refl)) refl (subst (λ z. ¬ IsBracket z) (sym e) none)
+    json_unbegun (y ∷ w) (y ∷ w) w y (inr (nb, refl)) refl (subst (λ z. ¬ IsBracket z) (sym e) none)
 
-pub kind_nothing : (w : List ℕ) → length w ≡ 0 → IsKind w None
-kind_nothing [] e = kind_past [] [] None (inr (refl, λ u same. absurd (cc))) (kind_empty [] [] refl (omega arith))
-kind_nothing (x ∷ w) e = absurd (omega arith)
+pub json_nothing : (w : List ℕ) → length w ≡ 0 → SaysJson w None
+json_nothing [] e = json_past [] [] None (inr (refl, λ u same. absurd (cc))) (json_empty [] [] refl (omega arith))
+json_nothing (x ∷ w) e = absurd (omega arith)
 
 -- what begins with no mark is its own rest
 unmarked : (w : List ℕ) → ¬ (get_or w 0 0 ≡ 0xEF) → IsPastMark w w
 unmarked w never = inr (refl, λ u e. never (subst (λ l. get_or l 0 0 ≡ 0xEF) (sym e) refl))
 
 pub on_shut : (w : List ℕ) (r : Bool) → 1 ≤ length w → (IsBlank (get_or w 0 0) ⊎ IsBracket (get_or w 0 0) ⊎ (get_or w 0 0 ≡ 0xEF) → IsTrue r)
-    → OnTrue (not r) (IsKind w None)
+    → OnTrue (not r) (SaysJson w None)
 on_shut w true l begins = tt
 on_shut w false l begins =
-    kind_past w w None (unmarked w (λ mark. let e = begins (inr (inr mark)) in absurd (cc)))
-    (kind_shut w (get_or w 0 0) l refl (λ blank. let e = begins (inl blank) in absurd (cc)) (λ bracket. let e = begins (inr (inl bracket)) in absurd (cc)))
+    json_past w w None (unmarked w (λ mark. let e = begins (inr (inr mark)) in absurd (cc)))
+    (json_shut w (get_or w 0 0) l refl (λ blank. let e = begins (inl blank) in absurd (cc)) (λ bracket. let e = begins (inr (inl bracket)) in absurd (cc)))

@@ -122,7 +122,7 @@ cut_three p x y z lead = (
   λ (may, utf). joined p (x ∷ y ∷ z ∷ []) utf (three_complete x y z may.0 may.1 lead),
 )
 
--- the last three bytes, by their places behind three others
+-- the last three bytes, by their places after three others
 last_three_reads : (x y z : ℕ) (bs : List ℕ) → last_three x y z bs
     ≡ (get_or (x ∷ y ∷ z ∷ bs) (length bs) 0, get_or (x ∷ y ∷ z ∷ bs) (suc (length bs)) 0, get_or (x ∷ y ∷ z ∷ bs) (suc (suc (length bs))) 0)
 last_three_reads x y z [] = refl
@@ -164,29 +164,29 @@ last_of_three : (b : List ℕ) (i : ℕ) → i + 3 ≡ length b → drop i b ≡
 last_of_three b i e = drop_more b i 0 (omega arith) ∙ ap (λ t. get_or b i 0 ∷ t) (last_two b (i + 1) (omega arith))
 
 -- what the part before and the part cut off say together
-abbrev Tells : List ℕ → List ℕ → List ℕ → Type 0
-Tells b p t = BeginsUtf8 b ↔ (MayBeginChar t × IsUtf8 p)
+abbrev Says : List ℕ → List ℕ → List ℕ → Type 0
+Says b p t = BeginsUtf8 b ↔ (MayBeginChar t × IsUtf8 p)
 
-at_parts : (b t : List ℕ) (i : ℕ) → drop i b ≡ t → Tells (take i b ++ t) (take i b) t → Tells b (take i b) (drop i b)
-at_parts b t i e tells =
+at_parts : (b t : List ℕ) (i : ℕ) → drop i b ≡ t → Says (take i b ++ t) (take i b) t → Says b (take i b) (drop i b)
+at_parts b t i e says =
     let whole : take i b ++ t ≡ b = ap (λ u. take i b ++ u) (sym e) ∙ take-append-drop i b in
-    subst (λ u. Tells b (take i b) u) (sym e) (subst (λ u. Tells u (take i b) t) whole tells)
+    subst (λ u. Says b (take i b) u) (sym e) (subst (λ u. Says u (take i b) t) whole says)
 
-uncut : (b : List ℕ) → (BeginsUtf8 b → IsUtf8 b) → Tells b b []
+uncut : (b : List ℕ) → (BeginsUtf8 b → IsUtf8 b) → Says b b []
 uncut b whole = (
   λ begins. (tt, whole begins),
   λ (may, utf). ([], subst IsUtf8 (sym (append-nil b)) utf),
 )
 
-uncut_at : (b : List ℕ) (i : ℕ) → i ≡ length b → (BeginsUtf8 b → IsUtf8 b) → Tells b (take i b) (drop i b)
+uncut_at : (b : List ℕ) (i : ℕ) → i ≡ length b → (BeginsUtf8 b → IsUtf8 b) → Says b (take i b) (drop i b)
 uncut_at b i e whole =
-    subst (λ p. Tells b p (drop i b)) (sym (take_all i b (omega arith)))
-    (subst (λ t. Tells b b t) (sym (drop_all i b (omega arith))) (uncut b whole))
+    subst (λ p. Says b p (drop i b)) (sym (take_all i b (omega arith)))
+    (subst (λ t. Says b b t) (sym (drop_all i b (omega arith))) (uncut b whole))
 
 lead_at : (b : List ℕ) (least i j : ℕ) → i ≡ j → least ≤ get_or b i 0 → least ≤ get_or b j 0
 lead_at b least i j e le = subst (λ k. least ≤ get_or b k 0) e le
 
-pub begins_by_cut : (b : List ℕ) (n : ℕ) → IsCutLen b n → Tells b (take (length b - n) b) (drop (length b - n) b)
+pub begins_by_cut : (b : List ℕ) (n : ℕ) → IsCutLen b n → Says b (take (length b - n) b) (drop (length b - n) b)
 begins_by_cut b n (le, cases) =
     let i = length b - n in
     elim cases [
@@ -196,6 +196,6 @@ begins_by_cut b n (le, cases) =
       | inr (inr (inr none)) ↦ uncut_at b i (omega arith) (cut_none b none.1 none.2 none.3)
     ]
 
-pub begins_by_parts : (b p t : List ℕ) (n : ℕ) → IsCutLen b n → p ≡ take (length b - n) b → t ≡ drop (length b - n) b → Tells b p t
+pub begins_by_parts : (b p t : List ℕ) (n : ℕ) → IsCutLen b n → p ≡ take (length b - n) b → t ≡ drop (length b - n) b → Says b p t
 begins_by_parts b p t n cut front back =
-    subst (λ u. Tells b u t) (sym front) (subst (λ u. Tells b (take (length b - n) b) u) (sym back) (begins_by_cut b n cut))
+    subst (λ u. Says b u t) (sym front) (subst (λ u. Says b (take (length b - n) b) u) (sym back) (begins_by_cut b n cut))

@@ -112,9 +112,9 @@ module _ (b folder : List ℕ) (application : IsOneOf folder applications) where
   pub none_begins : ¬ MayBeginAny b → ¬ IsPackageWith folder b
   none_begins none (may, part, first) = none (begins_any may)
 
-  pub folder_tells : (q : ℕ) → MayBeginAny b → ((p : ℕ) × IsPartEntry b p) → IsFirstFolder b q
+  pub folder_says : (q : ℕ) → MayBeginAny b → ((p : ℕ) × IsPartEntry b p) → IsFirstFolder b q
       → OccursAt b folder (q + 30) ↔ IsPackageWith folder b
-  folder_tells q may part first =
+  folder_says q may part first =
       let decides = folder_decides b folder q first in
       (λ o. (begins_with q first o may, part, decides.0 o), λ (begins, any, there). decides.1 there)
 
@@ -218,7 +218,7 @@ module _ (b more : List ℕ) where
   package_with-lasts folder (begins, (p, part), (q, first, f)) =
       (begins_package folder begins, (p, part_entry p part), (q, first_folder-lasts q first, OccursAt-append b more folder (q + 30) f))
 
--- a place of an entry in b is one of b with more behind it
+-- a place of an entry in b is one of b with more after it
 pub has_entry-lasts : (b more name : List ℕ) → HasEntry name b → HasEntry name (b ++ more)
 has_entry-lasts b more name (first, (q, (o, sized, stands))) =
     let fits = stands.fits in (
@@ -248,7 +248,7 @@ name_known name b b_bytes (more, bytes, (h, is, o)) =
       short = omega arith;
       header = grown_agrees b more zip_header 0 h.header;
       sized = grown_agrees b more (low_bytes n) 26 (record { fits = let l = h.long in omega arith; reads = go });
-      tells = grown_agrees b more name 30 o;
+      says = grown_agrees b more name 30 o;
     }
   where
     go : (k : ℕ) → k < 2 → get_or (b ++ more) (26 + k) 0 ≡ get_or (low_bytes (length name)) k 0
@@ -259,7 +259,7 @@ name_known name b b_bytes (more, bytes, (h, is, o)) =
 pub ending_known : (wanted b : List ℕ) → MayBecome (FirstEntryEndsIn wanted) b → MayHaveFirstEnding wanted b
 ending_known wanted b (more, bytes, (h, long, o)) = record {
   header = grown_agrees b more zip_header 0 h.header;
-  tells = λ whole.
+  says = λ whole.
       let same = le16-append b more 26 (omega arith) in
       (subst (λ n. length wanted ≤ n) same long, subst (λ n. AgreesAt b wanted (30 + n - length wanted)) same (grown_agrees b more wanted _ o));
 }
@@ -267,7 +267,7 @@ ending_known wanted b (more, bytes, (h, long, o)) = record {
 pub extra_known : (wanted b : List ℕ) → MayBecome (FirstEntryHasExtra wanted) b → MayHaveFirstField wanted b
 extra_known wanted b (more, bytes, (h, long, o)) = record {
   header = grown_agrees b more zip_header 0 h.header;
-  tells = λ whole.
+  says = λ whole.
       let same = le16-append b more 26 (omega arith) in (
         subst (λ n. length wanted ≤ n) (le16-append b more 28 (omega arith)) long,
         subst (λ n. AgreesAt b wanted (30 + n)) same (grown_agrees b more wanted _ o),
@@ -420,7 +420,7 @@ module _ (by_place : ByPlace) (b : List ℕ) where
   pub unnamed : (name : List ℕ) → IsTrue (Place.lacks 0 (suc (length b)) name b) → ¬ HasEntry name b
   unnamed name none (first, (q, (o, sized, stands))) = Place.nowhere_from by_place name b 0 (q + 30) (omega arith) none stands
 
-  -- an entry behind the first, or no such name
+  -- an entry after the first, or no such name
   abbrev pub known_later : (name : List ℕ) → Known (HasEntry name b)
   known_later name = ◌>>◌ (known_at_48 name) (refuted_if (Place.lacks 0 (suc (length b)) name b) (unnamed name))
 

@@ -3,7 +3,7 @@ use Rattle.std.specs.Prelude.{ℕ, List, ◌⊎◌}
 use Rattle.memchr.specs.Find.{OccursAt}
 use Rattle.infer_formats.specs.Markup.{utf8_mark}
 
--- the text stands first, or behind a byte order mark that does
+-- the text stands first, or after a byte order mark that does
 abbrev pub Begins : List ℕ → List ℕ → Type 0
 Begins t b = OccursAt b t 0 ⊎ (OccursAt b utf8_mark 0 × OccursAt b t 3)
 

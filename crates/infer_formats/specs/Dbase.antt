@@ -13,8 +13,8 @@ abbrev pub versions : List ℕ
 versions = 0x02 ∷ 0x03 ∷ 0x30 ∷ 0x31 ∷ 0x32 ∷ 0x43 ∷ 0x63 ∷ 0x83 ∷ 0x8B ∷ 0xCB ∷ 0xF5 ∷ []
 
 -- how many bytes of the header stand from the end of the fields on: one, and 263 more for Visual FoxPro
-abbrev pub behind : ℕ → ℕ
-behind version = if nat_le 0x30 version && nat_le version 0x32 then 264 else 1
+abbrev pub after : ℕ → ℕ
+after version = if nat_le 0x30 version && nat_le version 0x32 then 264 else 1
 
 -- a letter or "_"
 abbrev pub BeginsName : ℕ → Type 0
@@ -23,7 +23,7 @@ BeginsName x = ((0x41 ≤ x) × (x ≤ 0x5A)) ⊎ ((0x61 ≤ x) × (x ≤ 0x7A))
 -- the header, whose length the two bytes at 8 say, has whole fields of 32 bytes up to e, where 0D ends them
 abbrev pub EndsFields : List ℕ → ℕ → Type 0
 EndsFields b e =
-    (e + behind (slice_index b 0) ≡ le16 b 8) × (64 ≤ e) × (e % 32 ≡ 0) × (e + 1 ≤ length b) × (slice_index b e ≡ 0x0D)
+    (e + after (slice_index b 0) ≡ le16 b 8) × (64 ≤ e) × (e % 32 ≡ 0) × (e + 1 ≤ length b) × (slice_index b e ≡ 0x0D)
 
 -- a version, a month, a day, and two bytes 0
 abbrev pub IsDated : List ℕ → Type 0

@@ -12,16 +12,16 @@ StandsNext t (x ∷ s) left = (x ∷ s ≡ t ++ left) ⊎ (IsBlank x × StandsNe
 abbrev pub in_quotes : List ℕ → List ℕ
 in_quotes t = 0x22 ∷ (t ++ 0x22 ∷ [])
 
--- an object begins w, whose first key is k; behind the colon stands what is left
+-- an object begins w, whose first key is k; after the colon stands what is left
 abbrev pub BeginsByKey : List ℕ → List ℕ → List ℕ → Type 0
 BeginsByKey k w left =
-    (inside behind : List ℕ) × StandsNext (0x7B ∷ []) w inside × StandsNext (in_quotes k) inside behind × StandsNext (0x3A ∷ []) behind left
+    (inside after : List ℕ) × StandsNext (0x7B ∷ []) w inside × StandsNext (in_quotes k) inside after × StandsNext (0x3A ∷ []) after left
 
 -- and the text v is its value, or such a text begins there
 abbrev pub BeginsByValue : List ℕ → List ℕ → List ℕ → Type 0
 BeginsByValue k v w = (value left : List ℕ) × BeginsByKey k w value × StandsNext (in_quotes v) value left
 
--- behind a byte order mark, if there is one, an object begins whose first key is k
+-- after a byte order mark, if there is one, an object begins whose first key is k
 abbrev pub HasFirstKey : List ℕ → List ℕ → Type 0
 HasFirstKey k = UpToMark (λ w. (left : List ℕ) × BeginsByKey k w left)
 
@@ -41,7 +41,7 @@ has_no_quote t = list_all (λ x. not (x == 0x22)) t
 abbrev pub EndsInQuote : List ℕ → List ℕ → List ℕ → Type 0
 EndsInQuote t left s = IsTrue (has_no_quote t) × (s ≡ t ++ 0x22 ∷ left)
 
--- behind a byte order mark, if there is one, an object begins b, and k, in which no quote stands, is its first key; behind
+-- after a byte order mark, if there is one, an object begins b, and k, in which no quote stands, is its first key; after
 -- the colon stands what is left
 abbrev pub IsFirstKey : List ℕ → List ℕ → List ℕ → Type 0
 IsFirstKey k left b = IsTrue (has_no_quote k) × UpToMark (λ w. BeginsByKey k w left) b

@@ -1,7 +1,7 @@
 -- JSON, by the grammar of RFC 8259 (white space is written before each token), and of RFC 3629 for its characters.
 use Rattle.std.specs.Prelude.{◌≡◌, ℕ, zero, suc, ◌≤◌, ◌⊎◌, List, [], ◌∷◌, ◌++◌, Option, None, Some, map, codes}
-use Rattle.infer_formats.specs.declared.json.Kind.{Kind}
-use Rattle.infer_formats.specs.declared.json.Kind.TheVariants.{Lines, Text}
+use Rattle.infer_formats.specs.declared.json.Json.{Json}
+use Rattle.infer_formats.specs.declared.json.Json.TheVariants.{Lines, Text}
 
 -- white space
 abbrev pub IsBlank : ℕ → Type 0
@@ -45,7 +45,7 @@ digit = range 0x30 0x39
 abbrev pub later : Symbol
 later = range 0x80 0xBF
 
--- the arrays and objects: one more bracket, and what stands behind it
+-- the arrays and objects: one more bracket, and what stands after it
 abbrev pub nested : ℕ → List (List Symbol)
 nested zero = []
 nested (suc n) = (byte 0x5B ∷ blanks ∷ items n ∷ []) ∷ (byte 0x7B ∷ blanks ∷ members n ∷ []) ∷ []
@@ -126,26 +126,26 @@ abbrev pub BeginsToken : List ℕ → Type 0
 BeginsToken [] = ⊥
 BeginsToken (x ∷ s) = IsStructural x ⊎ BeginsWhole (value 0 ∷ []) (x ∷ s)
 
--- P holds behind some white space at the front
-abbrev pub BehindBlanks : (List ℕ → Type 0) → List ℕ → Type 0
-BehindBlanks P [] = P []
-BehindBlanks P (x ∷ s) = P (x ∷ s) ⊎ (IsBlank x × BehindBlanks P s)
+-- P holds after some white space at the front
+abbrev pub AfterBlanks : (List ℕ → Type 0) → List ℕ → Type 0
+AfterBlanks P [] = P []
+AfterBlanks P (x ∷ s) = P (x ∷ s) ⊎ (IsBlank x × AfterBlanks P s)
 
--- the first byte begins an array or an object, and a whole token comes behind it
+-- the first byte begins an array or an object, and a whole token comes after it
 abbrev pub BeginsWithToken : List ℕ → Type 0
 BeginsWithToken [] = ⊥
-BeginsWithToken (x ∷ s) = ((x ≡ 0x5B) ⊎ (x ≡ 0x7B)) × BehindBlanks BeginsToken s
+BeginsWithToken (x ∷ s) = ((x ≡ 0x5B) ⊎ (x ≡ 0x7B)) × AfterBlanks BeginsToken s
 
--- w has a whole token behind its first bracket, and some bytes can follow so that the whole is one text
+-- w has a whole token after its first bracket, and some bytes can follow so that the whole is one text
 abbrev pub BeginsText : List ℕ → Type 0
-BeginsText w = BehindBlanks BeginsWithToken w × CanBe (blanks ∷ text ∷ blanks ∷ []) w
+BeginsText w = AfterBlanks BeginsWithToken w × CanBe (blanks ∷ text ∷ blanks ∷ []) w
 
--- some bytes can follow w so that the whole is texts, each behind the first on a new line, and none so that it is one text:
+-- some bytes can follow w so that the whole is texts, each after the first on a new line, and none so that it is one text:
 -- the second has begun
 abbrev pub BeginsLines : List ℕ → Type 0
 BeginsLines w = CanBe (blanks ∷ text ∷ same_line ∷ []) w × (¬ CanBe (blanks ∷ text ∷ blanks ∷ []) w)
 
--- P holds behind a byte order mark, or of a buffer without one
+-- P holds after a byte order mark, or of a buffer without one
 abbrev pub UpToMark : (List ℕ → Type 0) → List ℕ → Type 0
 UpToMark P b = P b ⊎ ((w : List ℕ) × (b ≡ 0xEF ∷ 0xBB ∷ 0xBF ∷ w) × P w)
 
@@ -158,7 +158,7 @@ abbrev pub IsJsonLines : List ℕ → Type 0
 IsJsonLines = UpToMark BeginsLines
 
 -- k is which of the two b is, and none if neither; it is never both
-abbrev pub IsKind : List ℕ → Option Kind → Type 0
-IsKind b None = (¬ IsJson b) × (¬ IsJsonLines b)
-IsKind b (Some Text) = IsJson b × (¬ IsJsonLines b)
-IsKind b (Some Lines) = IsJsonLines b × (¬ IsJson b)
+abbrev pub SaysJson : List ℕ → Option Json → Type 0
+SaysJson b None = (¬ IsJson b) × (¬ IsJsonLines b)
+SaysJson b (Some Text) = IsJson b × (¬ IsJsonLines b)
+SaysJson b (Some Lines) = IsJsonLines b × (¬ IsJson b)

@@ -1,8 +1,8 @@
 -- What is left of a text where its reader stands. Only private contracts cite it.
 use Rattle.std.specs.Prelude.{◌≡◌, ◌↔◌, ℕ, zero, suc, ◌-◌, ◌/◌, ◌%◌, ◌<◌, ◌≤◌, ◌^◌, ◌⊎◌, Bool, true, false, List, [], Option, None, Some, length, drop, ◌∷◌, ◌++◌, codes}
-use Rattle.infer_formats.specs.Json.{Symbol, range, blanks, value, items, more_items, members, member, more_members, chars, escape, hex, integer, fraction, exponent, power, digits, text, same_line, next_line, byte, exact, digit, later, BeginsLines, BeginsText, BeginsToken, BehindBlanks, CanBe, IsBlank, Stands}
-use Rattle.infer_formats.specs.declared.json.Kind.{Kind}
-use Rattle.infer_formats.specs.declared.json.Kind.TheVariants.{Lines, Text}
+use Rattle.infer_formats.specs.Json.{Symbol, range, blanks, value, items, more_items, members, member, more_members, chars, escape, hex, integer, fraction, exponent, power, digits, text, same_line, next_line, byte, exact, digit, later, BeginsLines, BeginsText, BeginsToken, AfterBlanks, CanBe, IsBlank, Stands}
+use Rattle.infer_formats.specs.declared.json.Json.{Json}
+use Rattle.infer_formats.specs.declared.json.Json.TheVariants.{Lines, Text}
 use Rattle.infer_formats.specs.declared.json.token.Token.{Token}
 use Rattle.infer_formats.specs.declared.json.token.Token.TheVariants.{Chars, Escape, Hex4, Hex3, Hex2, Hex1, Char1, Char2, Char3, CharE0, CharEd, CharF0, CharF4, T, Tr, Tru, F, Fa, Fal, Fals, N, Nu, Nul, Minus, Zero, Integer, Point, Fraction, Exponent, Sign, Power}
 use Rattle.infer_formats.specs.declared.json.token.Step.{Step}
@@ -57,11 +57,11 @@ left Power = digits ∷ []
 abbrev pub MayGoOn : ℕ → Type 0
 MayGoOn x = ((0x30 ≤ x) × (x ≤ 0x39)) ⊎ (x ≡ 0x2E) ⊎ (x ≡ 0x45) ⊎ (x ≡ 0x65)
 
--- ss can come behind a number: they stand for nothing that begins so
+-- ss can come after a number: they stand for nothing that begins so
 abbrev pub EndsNumber : List Symbol → Type 0
 EndsNumber ss = (x : ℕ) (v : List ℕ) → MayGoOn x → ¬ Stands ss (x ∷ v)
 
--- the step tells what ss and then others stand for, behind the byte x
+-- the step tells what ss and then others stand for, after the byte x
 abbrev pub Follows : List Symbol → ℕ → Step → Type 0
 Follows ss x (Inside t) =
     (others : List Symbol) → EndsNumber others → (v : List ℕ) → Stands (ss ++ others) (x ∷ v)
@@ -70,7 +70,7 @@ Follows ss x Ended = (others : List Symbol) (v : List ℕ) → Stands (ss ++ oth
 Follows ss x EndedBefore = (others : List Symbol) (v : List ℕ) → Stands (ss ++ others) (x ∷ v) ↔ Stands others (x ∷ v)
 Follows ss x Wrong = (others : List Symbol) (v : List ℕ) → ¬ Stands (ss ++ others) (x ∷ v)
 
--- what is first in a bracket of this kind, and what comes behind a value there: 0 for an array, 1 for an object
+-- what is first in a bracket of this kind, and what comes after a value there: 0 for an array, 1 for an object
 abbrev pub first_in : ℕ → ℕ → Symbol
 first_in zero n = items n
 first_in (suc k) n = members n
@@ -79,12 +79,12 @@ abbrev pub more_in : ℕ → ℕ → Symbol
 more_in zero n = more_items n
 more_in (suc k) n = more_members n
 
--- what is left of `depth` open brackets behind a value in the innermost, and then ss
+-- what is left of `depth` open brackets after a value in the innermost, and then ss
 unfoldable pub frames : ℕ → ℕ → List Symbol → List Symbol
 frames zero kinds ss = ss
 frames (suc d) kinds ss = blanks ∷ more_in (kinds % 2) (128 - suc d) ∷ frames d (kinds / 2) ss
 
--- what is left where this is due, behind white space
+-- what is left where this is due, after white space
 abbrev pub due_left : Due → ℕ → ℕ → List Symbol → List Symbol
 due_left First depth kinds ss = first_in (kinds % 2) (128 - depth) ∷ frames (depth - 1) (kinds / 2) ss
 due_left Value depth kinds ss = value (128 - depth) ∷ frames depth kinds ss
@@ -113,7 +113,7 @@ IsSound r = (r.depth ≤ 128) × (r.kinds < 2 ^ r.depth)
 abbrev pub IsNested : Reader → Type 0
 IsNested r = (1 ≤ r.depth) × IsSound r
 
--- where `before` was left, the reader r tells what is left behind the byte x, if it can be
+-- where `before` was left, the reader r tells what is left after the byte x, if it can be
 abbrev pub Reads : (List Symbol → List Symbol) → ℕ → Reader → Bool → Type 0
 Reads before x r true =
     IsSound r × (r.depth ≡ 0 → r.next ≡ Closed)
@@ -155,39 +155,39 @@ Onward ss s us t =
     (others : List Symbol) → EndsNumber others → (v : List ℕ) → Stands (ss ++ others) (s ++ v)
     ↔ Stands (us ++ others) (t ++ v)
 
--- where a token ends, of which t is left at this place and behind which this is due
-abbrev pub EndTells : Token → List ℕ → ℕ → Due → place.Place → Type 0
-EndTells t b at due (Place.At p next) =
+-- where a token ends, of which t is left at this place and after which this is due
+abbrev pub EndSays : Token → List ℕ → ℕ → Due → place.Place → Type 0
+EndSays t b at due (Place.At p next) =
     (next ≡ due) × (at ≤ p) × (p ≤ length b) × Onward (left t) (drop at b) [] (drop p b)
-EndTells t b at due Place.Cut = (u : Token) × Onward (left t) (drop at b) (left u) []
-EndTells t b at due Place.Wrong =
+EndSays t b at due Place.Cut = (u : Token) × Onward (left t) (drop at b) (left u) []
+EndSays t b at due Place.Wrong =
     (others : List Symbol) → EndsNumber others → (v : List ℕ) → ¬ Stands (left t ++ others) (drop at b ++ v)
 
--- what is due behind the token that n may stand in, in d brackets of the kinds k
-abbrev pub PlaceTells : Next → ℕ → ℕ → List ℕ → ℕ → place.Place → Type 0
-PlaceTells n d k b at (Place.At p due) =
+-- what is due after the token that n may stand in, in d brackets of the kinds k
+abbrev pub PlaceSays : Next → ℕ → ℕ → List ℕ → ℕ → place.Place → Type 0
+PlaceSays n d k b at (Place.At p due) =
     (at ≤ p) × (p ≤ length b)
     × ((ss : List Symbol) (v : List ℕ) → Stands (next_left n d k ss) (drop at b ++ v)
     ↔ Stands (blanks ∷ due_left due d k ss) (drop p b ++ v))
-PlaceTells n d k b at Place.Cut =
+PlaceSays n d k b at Place.Cut =
     (m : Next) × ((ss : List Symbol) (v : List ℕ) → Stands (next_left n d k ss) (drop at b ++ v)
     ↔ Stands (next_left m d k ss) v)
-PlaceTells n d k b at Place.Wrong = (ss : List Symbol) (v : List ℕ) → ¬ Stands (next_left n d k ss) (drop at b ++ v)
+PlaceSays n d k b at Place.Wrong = (ss : List Symbol) (v : List ℕ) → ¬ Stands (next_left n d k ss) (drop at b ++ v)
 
 -- the place q tells what is due wherever p does
-abbrev pub TellsAsMuch : List ℕ → place.Place → place.Place → Type 0
-TellsAsMuch b p q = (n : Next) (d k at : ℕ) → PlaceTells n d k b at p → PlaceTells n d k b at q
+abbrev pub SaysAsMuch : List ℕ → place.Place → place.Place → Type 0
+SaysAsMuch b p q = (n : Next) (d k at : ℕ) → PlaceSays n d k b at p → PlaceSays n d k b at q
 
--- x and the bytes behind it leave just `left_of ss` of a text and then ss, before t
+-- x and the bytes after it leave just `left_of ss` of a text and then ss, before t
 abbrev pub Leaves : ℕ → List ℕ → (List Symbol → List Symbol) → List ℕ → Type 0
 Leaves x rest left_of t =
     (ss : List Symbol) (v : List ℕ) → Stands (text ∷ ss) (x ∷ rest ++ v) ↔ Stands (left_of ss) (t ++ v)
 
--- what x and the bytes behind it have of a text
-abbrev pub Tells : ℕ → List ℕ → read.Reading → Type 0
-Tells x rest (Reading.Whole n) = (n ≤ length rest) × Leaves x rest (λ ss. ss) (drop n rest)
-Tells x rest Reading.Cut = (n : Next) × (d k : ℕ) × Leaves x rest (next_left n d k) []
-Tells x rest Reading.Wrong = (ss : List Symbol) (v : List ℕ) → ¬ Stands (text ∷ ss) (x ∷ rest ++ v)
+-- what x and the bytes after it have of a text
+abbrev pub Says : ℕ → List ℕ → read.Reading → Type 0
+Says x rest (Reading.Whole n) = (n ≤ length rest) × Leaves x rest (λ ss. ss) (drop n rest)
+Says x rest Reading.Cut = (n : Next) × (d k : ℕ) × Leaves x rest (next_left n d k) []
+Says x rest Reading.Wrong = (ss : List Symbol) (v : List ℕ) → ¬ Stands (text ∷ ss) (x ∷ rest ++ v)
 
 -- w is b without a byte order mark at its front
 abbrev pub IsPastMark : List ℕ → List ℕ → Type 0
@@ -210,21 +210,21 @@ IsNextLine s t =
     × (length t ≤ length s)
 
 -- what s has of a text that only the line's end can follow
-abbrev pub LineTells : List ℕ → line.Line → Type 0
-LineTells s (Line.Whole t) =
+abbrev pub LineSays : List ℕ → line.Line → Type 0
+LineSays s (Line.Whole t) =
     (CanBe (text ∷ same_line ∷ []) s ↔ CanBe (next_line ∷ []) t.now) × (CanBe (text ∷ blanks ∷ []) s ↔ (t.now ≡ []))
     × StartsLine t.now × (length t.now < length s)
-LineTells s Line.Cut = CanBe (text ∷ same_line ∷ []) s × CanBe (text ∷ blanks ∷ []) s
-LineTells s Line.Wrong = (¬ CanBe (text ∷ same_line ∷ []) s) × (¬ CanBe (text ∷ blanks ∷ []) s)
+LineSays s Line.Cut = CanBe (text ∷ same_line ∷ []) s × CanBe (text ∷ blanks ∷ []) s
+LineSays s Line.Wrong = (¬ CanBe (text ∷ same_line ∷ []) s) × (¬ CanBe (text ∷ blanks ∷ []) s)
 
 -- k is which kind of JSON w is, which has no byte order mark
-abbrev pub IsKindPastMark : List ℕ → Option Kind → Type 0
-IsKindPastMark w None = (¬ BeginsText w) × (¬ BeginsLines w)
-IsKindPastMark w (Some Text) = BeginsText w × (¬ BeginsLines w)
-IsKindPastMark w (Some Lines) = BeginsLines w × (¬ BeginsText w)
+abbrev pub SaysJsonPastMark : List ℕ → Option Json → Type 0
+SaysJsonPastMark w None = (¬ BeginsText w) × (¬ BeginsLines w)
+SaysJsonPastMark w (Some Text) = BeginsText w × (¬ BeginsLines w)
+SaysJsonPastMark w (Some Lines) = BeginsLines w × (¬ BeginsText w)
 
--- k is which kind a whole text begins, with `rest` behind its bracket and t on the next lines
-abbrev pub IsKindBefore : List ℕ → List ℕ → Option Kind → Type 0
-IsKindBefore rest t None = ((t ≡ []) × (¬ BehindBlanks BeginsToken rest)) ⊎ ((¬ (t ≡ [])) × (¬ CanBe (next_line ∷ []) t))
-IsKindBefore rest t (Some Text) = (t ≡ []) × BehindBlanks BeginsToken rest
-IsKindBefore rest t (Some Lines) = (¬ (t ≡ [])) × CanBe (next_line ∷ []) t
+-- k is which kind a whole text begins, with `rest` after its bracket and t on the next lines
+abbrev pub SaysJsonBefore : List ℕ → List ℕ → Option Json → Type 0
+SaysJsonBefore rest t None = ((t ≡ []) × (¬ AfterBlanks BeginsToken rest)) ⊎ ((¬ (t ≡ [])) × (¬ CanBe (next_line ∷ []) t))
+SaysJsonBefore rest t (Some Text) = (t ≡ []) × AfterBlanks BeginsToken rest
+SaysJsonBefore rest t (Some Lines) = (¬ (t ≡ [])) × CanBe (next_line ∷ []) t

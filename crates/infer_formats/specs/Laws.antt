@@ -16,24 +16,24 @@ pub record Growth : Type 0 where
   pub binary : Lasts IsBinary
 
 -- from p on stands white space, perhaps none, and then "<"
-abbrev pub StartsBehindSpace : List ℕ → ℕ → Type 0
-StartsBehindSpace b p = (k : ℕ) × (p ≤ k) × ((j : ℕ) → p ≤ j → j < k → IsXmlSpace (slice_index b j)) × (slice_index b k ≡ 0x3C)
+abbrev pub StartsAfterSpace : List ℕ → ℕ → Type 0
+StartsAfterSpace b p = (k : ℕ) × (p ≤ k) × ((j : ℕ) → p ≤ j → j < k → IsXmlSpace (slice_index b j)) × (slice_index b k ≡ 0x3C)
 
 -- b begins with a byte order mark, or with white space, perhaps none, and then "<"
 abbrev pub BeginsMarkup : List ℕ → Type 0
-BeginsMarkup b = OccursAt b utf8_mark 0 ⊎ StartsBehindSpace b 0
+BeginsMarkup b = OccursAt b utf8_mark 0 ⊎ StartsAfterSpace b 0
 
--- "<" stands in b, and neither "!" nor "?" behind it
+-- "<" stands in b, and neither "!" nor "?" after it
 abbrev pub StartsElement : List ℕ → Type 0
 StartsElement b = (k : ℕ) × (slice_index b k ≡ 0x3C) × BeginsElement (slice_index b (k + 1))
 
 -- white space stands first, perhaps none, and then the bracket of an array or of an object
-abbrev pub BeginsBehindBlanks : List ℕ → Type 0
-BeginsBehindBlanks b = (k : ℕ) × ((j : ℕ) → j < k → IsBlank (slice_index b j)) × IsBracket (slice_index b k)
+abbrev pub BeginsAfterBlanks : List ℕ → Type 0
+BeginsAfterBlanks b = (k : ℕ) × ((j : ℕ) → j < k → IsBlank (slice_index b j)) × IsBracket (slice_index b k)
 
 -- b begins with a byte order mark, or so
 abbrev pub BeginsJson : List ℕ → Type 0
-BeginsJson b = OccursAt b utf8_mark 0 ⊎ BeginsBehindBlanks b
+BeginsJson b = OccursAt b utf8_mark 0 ⊎ BeginsAfterBlanks b
 
 -- such a bracket stands in b
 abbrev pub HasBracket : List ℕ → Type 0

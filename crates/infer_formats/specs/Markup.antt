@@ -1,4 +1,4 @@
--- Markup, by its root element: the first element, behind a prolog of white space, processing instructions, comments and
+-- Markup, by its root element: the first element, after a prolog of white space, processing instructions, comments and
 -- at most one document type declaration.
 use Rattle.std.specs.Prelude.{◌≡◌, ◌≢◌, ◌↔◌, ℕ, ◌+◌, ◌-◌, ◌<◌, ◌≤◌, ◌⊎◌, All, Bool, IsTrue, List, [], ◌∷◌, ◌++◌, length, codes, drop, slice_index, slice_range, Option, None, Some, MatchOption}
 use Rattle.memchr.specs.Find.{OccursAt}
@@ -63,17 +63,17 @@ pub data EndsSubset (b : List ℕ) (end : ℕ) : ℕ → Type 0 where
 abbrev pub ClosesPlain : List ℕ → ℕ → ℕ → Type 0
 ClosesPlain b from close = IsRun IsPlainByte b from close × (slice_index b close ≡ 0x3E)
 
--- behind the "[" at `bracket` an internal subset goes on up to a "]", and behind that white space, perhaps none, up to the ">" at
+-- after the "[" at `bracket` an internal subset goes on up to a "]", and after that white space, perhaps none, up to the ">" at
 -- `close`
-abbrev pub ClosesBehind : List ℕ → ℕ → ℕ → Type 0
-ClosesBehind b bracket close =
+abbrev pub ClosesAfter : List ℕ → ℕ → ℕ → Type 0
+ClosesAfter b bracket close =
     (end : ℕ) × EndsSubset b end (bracket + 1) × (end < close) × ((k : ℕ) → end < k → k < close → IsXmlSpace (slice_index b k))
     × (slice_index b close ≡ 0x3E)
 
 -- the first "[" from `from` on, no ">" before it, has such a ">"
 abbrev pub ClosesSubset : List ℕ → ℕ → ℕ → Type 0
 ClosesSubset b from close =
-    (bracket : ℕ) × IsRun IsPlainByte b from bracket × (slice_index b bracket ≡ 0x5B) × ClosesBehind b bracket close
+    (bracket : ℕ) × IsRun IsPlainByte b from bracket × (slice_index b bracket ≡ 0x5B) × ClosesAfter b bracket close
 
 abbrev pub ClosesDeclaration : List ℕ → ℕ → ℕ → Type 0
 ClosesDeclaration b from close = ClosesPlain b from close ⊎ ClosesSubset b from close
@@ -102,7 +102,7 @@ AgreesWithDoctype b (Some name) p q =
 abbrev pub BeginsElement : ℕ → Type 0
 BeginsElement x = (x ≢ 0x21) × (x ≢ 0x3F)
 
--- "<" stands at p, and behind it a byte that can begin an element's name
+-- "<" stands at p, and after it a byte that can begin an element's name
 abbrev pub StartsElement : List ℕ → ℕ → Type 0
 StartsElement b p = (p + 1 < length b) × (slice_index b p ≡ 0x3C) × BeginsElement (slice_index b (p + 1))
 
@@ -134,7 +134,7 @@ pub record EndsProlog (b : List ℕ) (start place : ℕ) (d : Option ℕ) : Type
 abbrev pub utf8_mark : List ℕ
 utf8_mark = 0xEF ∷ 0xBB ∷ 0xBF ∷ []
 
--- the prolog begins at p: at 0, or behind a byte order mark if there is one
+-- the prolog begins at p: at 0, or after a byte order mark if there is one
 abbrev pub BeginsAt : List ℕ → ℕ → Type 0
 BeginsAt b p = (OccursAt b utf8_mark 0 × (p ≡ 3)) ⊎ ((¬ OccursAt b utf8_mark 0) × (p ≡ 0))
 
@@ -155,7 +155,7 @@ HasInTag text rest = (p : ℕ) × OccursAt rest text p × ((k : ℕ) → k < p +
 abbrev pub HasRoot : List ℕ → List ℕ → Type 0
 HasRoot name b = (rest : List ℕ) × IsRootElement name rest b
 
--- and the text in its tag behind the name
+-- and the text in its tag after the name
 abbrev pub HasRootWith : List ℕ → List ℕ → List ℕ → Type 0
 HasRootWith name text b = (rest : List ℕ) × IsRootElement name rest b × HasInTag text rest
 
@@ -164,19 +164,19 @@ abbrev pub HasClosing : List ℕ → Type 0
 HasClosing rest = (k : ℕ) × (k < length rest) × (slice_index rest k ≡ 0x3E)
 
 -- whatever bytes follow b, its root element has the same name, and the same texts in its tag
-abbrev pub TellsRoot : List ℕ → Type 0
-TellsRoot b = (m n : List ℕ) → All (λ x. x < 256) m → All (λ x. x < 256) n → (name text : List ℕ)
+abbrev pub DecidesRoot : List ℕ → Type 0
+DecidesRoot b = (m n : List ℕ) → All (λ x. x < 256) m → All (λ x. x < 256) n → (name text : List ℕ)
     → (HasRoot name (b ++ m) → HasRoot name (b ++ n)) × (HasRootWith name text (b ++ m) → HasRootWith name text (b ++ n))
 
 -- P asks for nothing but the root element: where that is told, P is
 abbrev pub IsOfRoot : (List ℕ → Type 0) → Type 0
-IsOfRoot P = (b m n : List ℕ) → TellsRoot b → All (λ x. x < 256) m → All (λ x. x < 256) n → P (b ++ m) → P (b ++ n)
+IsOfRoot P = (b m n : List ℕ) → DecidesRoot b → All (λ x. x < 256) m → All (λ x. x < 256) n → P (b ++ m) → P (b ++ n)
 
 -- and so it is told by this root element, if there is one, whether a buffer has P
-abbrev pub TellsByRoot : Option Root → (List ℕ → Type 0) → Bool → Type 0
-TellsByRoot root P answer = IsOfRoot P × ((b : List ℕ) → IsRootOf root b → (IsTrue answer ↔ P b))
+abbrev pub DecidesByRoot : Option Root → (List ℕ → Type 0) → Bool → Type 0
+DecidesByRoot root P answer = IsOfRoot P × ((b : List ℕ) → IsRootOf root b → (IsTrue answer ↔ P b))
 
--- behind a "<" the name of an element stands at p, or another "<" there or behind
+-- after a "<" the name of an element stands at p, or another "<" there or after
 abbrev pub MayStart : List ℕ → ℕ → Type 0
 MayStart b p = BeginsElement (slice_index b p) ⊎ ((j : ℕ) × (p ≤ j) × (slice_index b j ≡ 0x3C))
 

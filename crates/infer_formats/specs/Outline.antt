@@ -19,12 +19,12 @@ counted_for [] place = at_least 30 (text 0 zip_header ∷ []) ∷ []
 counted_for (x ∷ t) place = counted place
 
 -- n spaces and a digit, from 148 on; n, and each up to n + m - 1
-abbrev pub digit_behind : ℕ → fixed.Alternative
-digit_behind n = at_least 512 (text 148 (replicate n 0x20) ∷ byte (148 + n) (between 0x30 0x37) ∷ [])
+abbrev pub digit_after : ℕ → fixed.Alternative
+digit_after n = at_least 512 (text 148 (replicate n 0x20) ∷ byte (148 + n) (between 0x30 0x37) ∷ [])
 
-abbrev pub digits_behind : ℕ → ℕ → List fixed.Alternative
-digits_behind n zero = []
-digits_behind n (suc m) = digit_behind n ∷ digits_behind (suc n) m
+abbrev pub digits_after : ℕ → ℕ → List fixed.Alternative
+digits_after n zero = []
+digits_after n (suc m) = digit_after n ∷ digits_after (suc n) m
 
 -- a byte order mark, white space or "<" first
 abbrev pub markup_lines : List fixed.Alternative
@@ -45,7 +45,7 @@ abbrev pub object_outline : List fixed.Alternative
 object_outline =
     at_least 1 (byte 0 (any_of (0x09 ∷ 0x0A ∷ 0x0D ∷ 0x20 ∷ 0x7B ∷ [])) ∷ []) ∷ at_least 3 (text 0 (0xEF ∷ 0xBB ∷ 0xBF ∷ []) ∷ []) ∷ []
 
--- the first entry of a ZIP archive with the text behind its header, and the low byte of its length at the place
+-- the first entry of a ZIP archive with the text after its header, and the low byte of its length at the place
 abbrev pub model_entry : ℕ → List ℕ → fixed.Alternative
 model_entry place t = at_least (30 + length t) (text 0 zip_header ∷ text place (length t % 256 ∷ []) ∷ text 30 t ∷ [])
 

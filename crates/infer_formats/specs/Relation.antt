@@ -8,10 +8,10 @@ use Rattle.infer_formats.specs.Dbase.{IsDbase, versions}
 use Rattle.infer_formats.specs.Elf.{IsSharedObject}
 use Rattle.infer_formats.specs.FirstKey.{HasFirstKey, HasFirstKeyWith}
 use Rattle.infer_formats.specs.Header.{HasLaterHeader}
-use Rattle.infer_formats.specs.Id3.{IsBehindId3}
+use Rattle.infer_formats.specs.Id3.{IsAfterId3}
 use Rattle.infer_formats.specs.Json.{IsJson, IsJsonLines}
 use Rattle.infer_formats.specs.Markup.{HasRoot, HasRootWith}
-use Rattle.infer_formats.specs.Outline.{counted_for, digits_behind, first_lines, json_outline, markup_lines, model_entry, named, object_outline, tiff_lines}
+use Rattle.infer_formats.specs.Outline.{counted_for, digits_after, first_lines, json_outline, markup_lines, model_entry, named, object_outline, tiff_lines}
 use Rattle.infer_formats.specs.Png.{IsAnimated, png_header}
 use Rattle.infer_formats.specs.Script.{IsProgram}
 use Rattle.infer_formats.specs.Subtitles.{IsSubRip}
@@ -100,7 +100,7 @@ of_text Package t = package_with t
 of_text AnyEntry t = has_entry t
 of_text BehindId3 t = behind_id3 t
 
--- what each relation is called, and what stands behind its name. "JSON lines" stands before "JSON"
+-- what each relation is called, and what stands after its name. "JSON lines" stands before "JSON"
 abbrev pub names : List (List Token × Takes)
 names =
     (bare (codes "shared") ∷ bare (codes "object") ∷ [], Nothing listed.SharedObject)
@@ -140,7 +140,7 @@ Fits (package_with folder) b = IsPackageWith folder b
 Fits (class_id id) b = HasClassId id b
 Fits (directory_tag tag) b = HasTag tag b
 Fits (directory_tag_and_make tag make) b = HasTagAndMake tag make b
-Fits (behind_id3 t) b = IsBehindId3 t b
+Fits (behind_id3 t) b = IsAfterId3 t b
 Fits (text_first t) b = Begins t b
 Fits (text_first_with t u) b = BeginsAndHas t u b
 Fits (text_first_with_all t u v w) b = BeginsAndHasAll t u v w b
@@ -195,7 +195,7 @@ lines subrip =
     ∷ at_least 2 (byte 0 (between 0x30 0x39) ∷ byte 1 (any_of (0x0A ∷ 0x0D ∷ [])) ∷ [])
     ∷ at_least 3 (text 0 (0xEF ∷ 0xBB ∷ 0xBF ∷ []) ∷ []) ∷ []
 lines dbase = at_least 14 (byte 0 (any_of versions) ∷ text 12 (0x00 ∷ 0x00 ∷ []) ∷ []) ∷ []
-lines tar_checksum = digits_behind 0 8
+lines tar_checksum = digits_after 0 8
 lines (program name) = at_least 2 (text 0 (codes "#!") ∷ []) ∷ []
 lines (root name) = markup_lines
 lines (root_with name t) = markup_lines
@@ -218,7 +218,7 @@ is_plain other = false
 abbrev pub HasLines : Relation → List ℕ → Type 0
 HasLines r b = (IsTrue (is_plain r) → (i : ℕ) → slice_index b i < 256) → Fits r b → IsTrue (accepts (lines r) b)
 
--- a short buffer that fits the relation, as texts at places with zeros between them. A root element stands behind the text
+-- a short buffer that fits the relation, as texts at places with zeros between them. A root element stands after the text
 -- that is before it
 abbrev pub model : List ℕ → Relation → fixed.Alternative
 model before shared_object = at_least 46 (text 4 (0x01 ∷ 0x01 ∷ []) ∷ text 16 (0x03 ∷ []) ∷ text 42 (0x20 ∷ 0x00 ∷ 0x01 ∷ []) ∷ [])

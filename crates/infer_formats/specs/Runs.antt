@@ -2,11 +2,11 @@
 use Rattle.std.specs.Prelude.{◌≡◌, ◌≢◌, ℕ, ◌-◌, ◌<◌, ◌≤◌, List, length, slice_index}
 
 -- the bytes from `from` up to `to` are of the kind, and the next one, which b has, is not
-pub record IsRun (Kind : ℕ → Type 0) (b : List ℕ) (from to : ℕ) : Type 0 where
+pub record IsRun (P : ℕ → Type 0) (b : List ℕ) (from to : ℕ) : Type 0 where
   pub order : from ≤ to
-  pub bytes : (k : ℕ) → from ≤ k → k < to → Kind (slice_index b k)
+  pub bytes : (k : ℕ) → from ≤ k → k < to → P (slice_index b k)
   pub whole : to < length b
-  pub ends : ¬ Kind (slice_index b to)
+  pub ends : ¬ P (slice_index b to)
 
 -- from `at` on stands what follows the last x between `from` and `to`, or all that is between them if no x is
 pub record IsAfterLast (x : ℕ) (b : List ℕ) (from to at : ℕ) : Type 0 where

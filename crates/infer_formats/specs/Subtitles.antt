@@ -38,11 +38,11 @@ IsSpan b t = IsTime b t × OccursAt b (codes " --> ") (t + 12) × IsTime b (t + 
 abbrev pub IsCue : List ℕ → ℕ → Type 0
 IsCue b p = (n t : ℕ) × ((1 ≤ n) × (n ≤ 9)) × AreDigits b p n × EndsLine b (p + n) t × IsSpan b t
 
--- the first cue stands at 0, or behind a byte order mark
+-- the first cue stands at 0, or after a byte order mark
 abbrev pub IsSubRip : List ℕ → Type 0
 IsSubRip b = IsCue b 0 ⊎ (OccursAt b (0xEF ∷ 0xBB ∷ 0xBF ∷ []) 0 × IsCue b 3)
 
--- as far as b goes, a cue may begin at p: a digit stands there, and behind it another or the end of the line
+-- as far as b goes, a cue may begin at p: a digit stands there, and after it another or the end of the line
 abbrev pub GoesOn : ℕ → Type 0
 GoesOn x = IsDigit x ⊎ (x ≡ 0x0A) ⊎ (x ≡ 0x0D)
 

@@ -19,7 +19,7 @@ abbrev pub octal : List ℕ → ℕ → ℕ → ℕ
 octal b p zero = 0
 octal b p (suc n) = 8 * octal b p n + (slice_index b (p + n) - 0x30)
 
--- the checksum is d digits from p on, behind spaces, up to the end of its eight bytes, a 00 or a 20
+-- the checksum is d digits from p on, after spaces, up to the end of its eight bytes, a 00 or a 20
 pub record IsField (b : List ℕ) (p d : ℕ) : Type 0 where
   pub low : 148 ≤ p
   pub spaces : (k : ℕ) → 148 ≤ k → k < p → slice_index b k ≡ 0x20

@@ -20,7 +20,7 @@ FirstEntryIs name b = HasFirstName b × (le16 b 26 ≡ length name) × OccursAt 
 abbrev pub FirstEntryEndsIn : List ℕ → List ℕ → Type 0
 FirstEntryEndsIn text b = HasFirstName b × (length text ≤ le16 b 26) × OccursAt b text (30 + le16 b 26 - length text)
 
--- the text stands behind the name, and the two bytes at 28 say that the extra field is as long or longer
+-- the text stands after the name, and the two bytes at 28 say that the extra field is as long or longer
 abbrev pub FirstEntryHasExtra : List ℕ → List ℕ → Type 0
 FirstEntryHasExtra text b = HasFirstName b × (length text ≤ le16 b 28) × OccursAt b text (30 + le16 b 26)
 
@@ -115,17 +115,17 @@ pub record MayHaveFirstName (name b : List ℕ) : Type 0 where
   pub short : length name ≤ 0xFFFF
   pub header : AgreesAt b zip_header 0
   pub sized : AgreesAt b (low_bytes (length name)) 26
-  pub tells : AgreesAt b name 30
+  pub says : AgreesAt b name 30
 
 -- or one that ends in the text, if b has the whole header
 pub record MayHaveFirstEnding (text b : List ℕ) : Type 0 where
   pub header : AgreesAt b zip_header 0
-  pub tells : 30 ≤ length b → (length text ≤ le16 b 26) × AgreesAt b text (30 + le16 b 26 - length text)
+  pub says : 30 ≤ length b → (length text ≤ le16 b 26) × AgreesAt b text (30 + le16 b 26 - length text)
 
--- or the text behind its name
+-- or the text after its name
 pub record MayHaveFirstField (text b : List ℕ) : Type 0 where
   pub header : AgreesAt b zip_header 0
-  pub tells : 30 ≤ length b → (length text ≤ le16 b 28) × AgreesAt b text (30 + le16 b 26)
+  pub says : 30 ≤ length b → (length text ≤ le16 b 28) × AgreesAt b text (30 + le16 b 26)
 
 -- or one that begins with the text
 abbrev pub MayBeginFirstName : List ℕ → List ℕ → Type 0

@@ -1,7 +1,7 @@
 //! dBASE tables, by their header: dBASE table file format (dBase knowledge base), the table file header and the field
 //! descriptors.
 ghost use Rattle.std.specs.Prelude.{◌≡◌, ◌↔◌, ◌≤◌, ℕ, length, slice_index, codes, IsTrue};
-ghost use Rattle.infer_formats.specs.Dbase.{BeginsName, EndsFields, HasField, IsDated, IsDbase, IsOneOf, behind, versions};
+ghost use Rattle.infer_formats.specs.Dbase.{BeginsName, EndsFields, HasField, IsDated, IsDbase, IsOneOf, after, versions};
 
 mod may_become;
 
@@ -133,8 +133,8 @@ fn is_kind(byte: u8) -> bool
 }
 
 /// How many bytes of the header stand from the end of the fields on.
-fn behind(version: u8) -> usize
-    ensures is { result ≡ behind version }
+fn after(version: u8) -> usize
+    ensures is { result ≡ after version }
     ensures some { 1 ≤ result }
     ensures few { result ≤ 264 }
 {
@@ -151,10 +151,10 @@ fn ends_fields(buf: &[u8]) -> bool
     ensures { IsTrue result ↔ ((e : ℕ) × EndsFields buf.now e) }
 {
     let length = le16(buf, HEADER_LENGTH) as usize;
-    let behind = behind(buf[VERSION]);
-    if length < behind + FIELD + FIELD_SIZE || length - behind >= buf.len() {
+    let after = after(buf[VERSION]);
+    if length < after + FIELD + FIELD_SIZE || length - after >= buf.len() {
         return false;
     }
-    let end = length - behind;
+    let end = length - after;
     end % FIELD_SIZE == 0 && buf[end] == FIELDS_END
 }

@@ -1,6 +1,6 @@
 //! What stands after an ID3v2 tag: ID3 tag version 2.4.0, main structure, sections 3.1 and 6.2.
 ghost use Rattle.std.specs.Prelude.{◌≡◌, ◌↔◌, ◌<◌, ◌≤◌, IsTrue, length};
-ghost use Rattle.infer_formats.specs.Id3.{IsBehindId3, IsSynchsafe, tag_size};
+ghost use Rattle.infer_formats.specs.Id3.{IsAfterId3, IsSynchsafe, tag_size};
 
 mod may_become;
 
@@ -17,7 +17,7 @@ const RADIX: usize = 0x80;
 /// A tag stands first, and right after it the text.
 #[inline(never)]
 pub fn is_behind_id3(buf: &[u8], text: &[u8]) -> bool
-    ensures { IsTrue result ↔ IsBehindId3 text.now buf.now }
+    ensures { IsTrue result ↔ IsAfterId3 text.now buf.now }
 {
     if buf.len() < HEADER_SIZE || !stands_at(buf, b"ID3", 0) {
         return false;

@@ -1,8 +1,8 @@
 //! JSON texts, of which a buffer may have the beginning only: RFC 8259, sections 2 to 7, and RFC 3629, section 4.
 ghost use Rattle.std.specs.Prelude.{◌≡◌, ◌⊎◌, ◌↔◌, [], None, IsTrue, not};
 ghost use Rattle.std.specs.Bool.{OnTrue};
-ghost use Rattle.infer_formats.specs.Json.{IsBlank, IsJson, IsJsonLines, IsKind, text};
-ghost use Rattle.infer_formats.specs.JsonStates.{IsBracket, IsKindBefore, IsKindPastMark, IsPastMark, StartsLine};
+ghost use Rattle.infer_formats.specs.Json.{IsBlank, IsJson, IsJsonLines, SaysJson, text};
+ghost use Rattle.infer_formats.specs.JsonStates.{IsBracket, SaysJsonBefore, SaysJsonPastMark, IsPastMark, StartsLine};
 
 mod key;
 mod lines;
@@ -20,7 +20,7 @@ use token::has_token;
 
 /// What JSON a buffer is.
 #[derive(Clone, Copy, Debug, PartialEq, Eq)]
-pub enum Kind {
+pub enum Json {
     /// One text.
     Text,
     /// JSON lines.
@@ -36,9 +36,9 @@ pub enum Kind {
 pub fn is_json(buf: &[u8]) -> bool
     ensures { IsTrue result ↔ IsJson buf.now }
 {
-    match kind_of(buf) {
-        Some(Kind::Text) => true,
-        Some(Kind::Lines) | None => false,
+    match json_of(buf) {
+        Some(Json::Text) => true,
+        Some(Json::Lines) | None => false,
     }
 }
 
@@ -47,18 +47,18 @@ pub fn is_json(buf: &[u8]) -> bool
 pub fn is_json_lines(buf: &[u8]) -> bool
     ensures { IsTrue result ↔ IsJsonLines buf.now }
 {
-    match kind_of(buf) {
-        Some(Kind::Lines) => true,
-        Some(Kind::Text) | None => false,
+    match json_of(buf) {
+        Some(Json::Lines) => true,
+        Some(Json::Text) | None => false,
     }
 }
 
 /// Which of the two a buffer is, and `None` if neither: it is never both. It is read once.
-pub fn kind_of(buf: &[u8]) -> Option<Kind>
-    ensures { IsKind buf.now result }
+pub fn json_of(buf: &[u8]) -> Option<Json>
+    ensures { SaysJson buf.now result }
 {
     if may_begin(buf) {
-        kind_begun(buf)
+        json_begun(buf)
     } else {
         None
     }
@@ -66,7 +66,7 @@ pub fn kind_of(buf: &[u8]) -> Option<Kind>
 
 /// Whether white space, a bracket or the first byte of a mark stands first. Most of what is no JSON costs no call.
 fn may_begin(buf: &[u8]) -> bool
-    ensures { OnTrue (not result) (IsKind buf.now None) }
+    ensures { OnTrue (not result) (SaysJson buf.now None) }
 {
     if buf.is_empty() {
         return false;
@@ -80,13 +80,13 @@ fn begins_json(byte: u8) -> bool
     matches!(byte, b'\t' | b'\n' | b'\r' | b' ' | b'[' | b'{' | 0xEF)
 }
 
-/// [`kind_of`] what may be JSON.
-#[tactic(auto, using(crate::proofs::LineLemmas::kind_past))]
+/// [`json_of`] what may be JSON.
+#[tactic(auto, using(crate::proofs::LineLemmas::json_past))]
 #[inline(never)]
-fn kind_begun(buf: &[u8]) -> Option<Kind>
-    ensures { IsKind buf.now result }
+fn json_begun(buf: &[u8]) -> Option<Json>
+    ensures { SaysJson buf.now result }
 {
-    kind_past_mark(past_mark(buf))
+    json_past_mark(past_mark(buf))
 }
 
 /// What stands after the byte order mark, if there is one.
@@ -99,9 +99,9 @@ fn past_mark(buf: &[u8]) -> &[u8]
     }
 }
 
-/// [`kind_of`] of what stands after a mark.
-fn kind_past_mark(buf: &[u8]) -> Option<Kind>
-    ensures { IsKindPastMark buf.now result }
+/// [`json_of`] of what stands after a mark.
+fn json_past_mark(buf: &[u8]) -> Option<Json>
+    ensures { SaysJsonPastMark buf.now result }
 {
     let text = past_blanks(buf);
     let [first, rest @ ..] = text else {
@@ -111,33 +111,33 @@ fn kind_past_mark(buf: &[u8]) -> Option<Kind>
         return None;
     }
     match read_line(text) {
-        Line::Whole(next) => kind_before(rest, next),
-        Line::Cut => kind_behind(rest),
+        Line::Whole(next) => json_before(rest, next),
+        Line::Cut => json_after(rest),
         Line::Wrong => None,
     }
 }
 
 /// What JSON a buffer is whose first text is whole, by what stands after its bracket and on the next lines.
-fn kind_before(rest: &[u8], next: &[u8]) -> Option<Kind>
+fn json_before(rest: &[u8], next: &[u8]) -> Option<Json>
     requires { StartsLine next.now }
-    ensures { IsKindBefore rest.now next.now result }
+    ensures { SaysJsonBefore rest.now next.now result }
 {
     if next.is_empty() {
-        return kind_behind(rest);
+        return json_after(rest);
     }
     if begins_line(next) {
-        Some(Kind::Lines)
+        Some(Json::Lines)
     } else {
         None
     }
 }
 
 /// One text, if a token is whole after its bracket.
-fn kind_behind(rest: &[u8]) -> Option<Kind>
-    ensures { IsKindBefore rest.now [] result }
+fn json_after(rest: &[u8]) -> Option<Json>
+    ensures { SaysJsonBefore rest.now [] result }
 {
     if has_token(rest) {
-        Some(Kind::Text)
+        Some(Json::Text)
     } else {
         None
     }

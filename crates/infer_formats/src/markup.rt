@@ -9,10 +9,10 @@ mod prolog;
 
 use crate::search::find_early;
 use infer_deep::places::{has_at, may_stand_at};
-pub use may_become::{may_have_root, may_have_root_with, tells_root};
+pub use may_become::{decides_root, may_have_root, may_have_root_with};
 use memchr::memchr;
 use names::{begins_element, is_xml_space};
-use prolog::{prolog_behind, tag_at};
+use prolog::{prolog_after, tag_at};
 
 /// The root element of markup.
 #[derive(Clone, Copy, Debug)]
@@ -84,7 +84,7 @@ pub fn root_of(buf: &[u8]) -> Option<Root<'_>>
         (λ r. (name rest : List ℕ) → IsRootElement name rest buf.now → (name ≡ r.name.now)
         × (rest ≡ r.rest.now)) }
 {
-    let tag = tag_at(buf, prolog_behind(buf))?;
+    let tag = tag_at(buf, prolog_after(buf))?;
     Some(Root {
         name: &buf[tag.at..tag.to],
         rest: &buf[tag.to..],

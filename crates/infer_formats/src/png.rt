@@ -1,6 +1,6 @@
 //! PNG images, by their chunks: PNG Specification, third edition (W3C), sections 5.2 and 5.3.
 ghost use Rattle.std.specs.Prelude.{◌↔◌, IsTrue};
-ghost use Rattle.infer_formats.specs.Open.{TellsMayBecome};
+ghost use Rattle.infer_formats.specs.Open.{DecidesMayBecome};
 ghost use Rattle.infer_formats.specs.Png.{IsAnimated};
 
 mod may_become;
@@ -25,7 +25,7 @@ pub fn is_animated(buf: &[u8]) -> bool
 
 /// Whether the chunks are those of an animated image, and none if they go on past the end of `buf`.
 fn animation(buf: &[u8]) -> Option<bool>
-    ensures { TellsMayBecome IsAnimated buf.now result }
+    ensures { DecidesMayBecome IsAnimated buf.now result }
 {
     let mut chunk = SIGNATURE_SIZE;
     while chunk < buf.len() && buf.len() - chunk >= CHUNK_TYPE + 4 {

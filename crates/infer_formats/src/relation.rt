@@ -3,7 +3,7 @@
 ghost use Rattle.std.specs.Prelude.{◌≡◌, ◌≤◌, ◌↔◌, [], IfSome, IsTrue, is_some, length, map};
 ghost use Rattle.infer_deep.specs.Signatures.{MayBecome};
 ghost use Rattle.infer_formats.specs.Open.{Stays};
-ghost use Rattle.infer_formats.specs.Markup.{TellsByRoot};
+ghost use Rattle.infer_formats.specs.Markup.{DecidesByRoot};
 ghost use Rattle.infer_formats.specs.Relation.{Fits, IsSound, class_id, dbase, directory_tag, directory_tag_and_make, first_key, first_key_with, has_entry, header, is_of_root, least_of, model, model_listed, name_listed, names, of_text, package_with, program, relation_listed, root, root_with, shared_object, text_first_with_all};
 
 use crate::begins::{begins, begins_and_has, begins_and_has_all, may_begin};
@@ -245,7 +245,7 @@ impl<'a> Relation<'a> {
     /// Whether a buffer with this root element, or with none, has it. `None` if it asks for something else.
     pub fn of_root(&self, root: &Option<Root<'_>>) -> Option<bool>
         ensures asks { is_some result ≡ is_of_root (relation_listed self.now) }
-        ensures tells { IfSome result (TellsByRoot root.now (Fits (relation_listed self.now))) }
+        ensures says { IfSome result (DecidesByRoot root.now (Fits (relation_listed self.now))) }
     {
         match self {
             Relation::Root(name) => Some(has_name(root, name)),
@@ -322,7 +322,7 @@ impl<'a> Relation<'a> {
             Relation::FirstEntryEndsIn(end) => entry(26, Text::Slice(end)),
             Relation::FirstEntryHasExtra(extra) => entry(28, Text::Two(*extra)),
             Relation::JavaArchive => entry(26, Text::Slice(b"META-INF/MANIFEST.MF")),
-            Relation::HasEntry(name) => entry_behind(name),
+            Relation::HasEntry(name) => entry_after(name),
             Relation::PackageWith(folder) => package(folder),
             Relation::ClassId(id) => compound(*id),
             Relation::DirectoryTag(tag) => directory(*tag),
@@ -411,7 +411,7 @@ fn object_with_value<'b>(key: &'b [u8], value: &'b [u8]) -> Model<'b>
 }
 
 /// That of an archive with an entry of this name, after what its parent has.
-fn entry_behind<'b>(name: &'b [u8]) -> Model<'b>
+fn entry_after<'b>(name: &'b [u8]) -> Model<'b>
     requires { length name.now ≤ 65536 }
     ensures model { model_listed result ≡ model [] (has_entry name.now) }
     ensures few { result.count ≤ 5 }

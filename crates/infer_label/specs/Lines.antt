@@ -2,7 +2,7 @@
 use Rattle.std.specs.Prelude.{◌≡◌, ℕ, List, Option, is_some, length}
 use Rattle.infer_label.specs.Label.{IsLabel, Label}
 use Rattle.infer_label.specs.Line.{line}
-use Rattle.infer_label.specs.Options.{Options, tells_why}
+use Rattle.infer_label.specs.Options.{Options, gives_why}
 use Rattle.infer_label.specs.Why.{IsWhy, Why}
 use Rattle.infer_label.specs.Writes.{laid, saturated}
 use Rattle.infer_label.specs.declared.Answer as code
@@ -12,12 +12,12 @@ pub record IsLineOf (o : Options) (name b : List ℕ) (answer : code.Answer) (te
   pub label : Label
   pub why : Option Why
   pub is_label : IsLabel o name b label
-  pub is_why : IsWhy (tells_why o) o.look b why
+  pub is_why : IsWhy (gives_why o) o.look b why
   pub is : text ≡ line o name label why
   pub length : answer.len ≡ saturated (length text)
   pub known : answer.is_known ≡ is_some label.mime_type
   pub standing : answer.standing ≡ label.standing
 
 -- it was laid into the room
-abbrev pub TellsLine : Options → (name b : List ℕ) → code.Answer → (old new : List ℕ) → Type 0
-TellsLine o name b answer old new = (text : List ℕ) × IsLineOf o name b answer text × (new ≡ laid text old)
+abbrev pub WritesLine : Options → (name b : List ℕ) → code.Answer → (old new : List ℕ) → Type 0
+WritesLine o name b answer old new = (text : List ℕ) × IsLineOf o name b answer text × (new ≡ laid text old)

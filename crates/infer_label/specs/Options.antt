@@ -23,8 +23,8 @@ abbrev pub default_options : Options
 default_options = record { look = NameAndBytes; form = Text; own = None; content_type = None; why = false; is_unnamed = false; size = None }
 
 -- reasons are told if they are asked for; of types of one's own there are none
-abbrev pub tells_why : Options → Bool
-tells_why o = o.why && not (is_some o.own)
+abbrev pub gives_why : Options → Bool
+gives_why o = o.why && not (is_some o.own)
 
 -- the options as the code has them
 abbrev pub options_listed : code.Options → Options

@@ -15,7 +15,7 @@ use Rattle.infer_label.specs.declared.options.Look.TheVariants as looks
 use Rattle.infer_label.specs.declared.why.Reason as reason_code
 use Rattle.infer_label.specs.declared.why.Why as code
 
--- bytes that tell: the place of the first, how many they are, how far each other stands behind the one before, the bytes if
+-- bytes that tell: the place of the first, how many they are, how far each other stands after the one before, the bytes if
 -- they stand side by side, the row of which they tell, if it is a single one, and whether it accepts by them
 pub record Reason : Type 0 where
   pub place : ℕ
@@ -97,8 +97,8 @@ IsWhyBy looks.Browser b why = why ≡ None
 IsWhyBy looks.BrowserForbidden b why = why ≡ None
 
 -- what is told is so, by what is looked at
-abbrev pub IsTold : Look → List ℕ → Option Why → Type 0
-IsTold look b why = IfSome why (λ w. IsWhyBy look b (Some w))
+abbrev pub IsReported : Look → List ℕ → Option Why → Type 0
+IsReported look b why = IfSome why (λ w. IsWhyBy look b (Some w))
 
 -- it is told if it is asked for, and there are bytes
 abbrev pub IsWhy : Bool → Look → List ℕ → Option Why → Type 0

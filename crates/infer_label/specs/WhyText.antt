@@ -89,7 +89,7 @@ is_other first_is_told r = not r.accepts && (is_some r.row || not first_is_told)
 abbrev pub other_texts : List Reason → List (List ℕ)
 other_texts reasons = flat_map (λ r. text_if (is_other (list_any has_first reasons) r) r) reasons
 
--- then what is needed of the length, unless some bytes end there or behind; and that these are not all reasons
+-- then what is needed of the length, unless some bytes end there or after; and that these are not all reasons
 abbrev pub end_of : Reason → ℕ
 end_of r = if r.len == 0 then r.place else r.place + (r.len - 1) * r.step + 1
 

@@ -9,7 +9,7 @@ ghost use Rattle.infer_more.specs.Text.{found_shows, rows_of};
 ghost use Rattle.infer_more.specs.Wider.{IsWiderAnswer};
 ghost use Rattle.infer_label.specs.Options.{options_listed};
 ghost use Rattle.infer_label.specs.Label.{IsLabel, IsLabelBy, IsLabelOf, IsLabelOfBrowser, IsLabelOfType, IsOwnLabel, IsSupply, class_in, contradicted, extension_in, label_listed, mime_type_in};
-ghost use Rattle.infer_label.specs.Why.{IsTold, why_listed};
+ghost use Rattle.infer_label.specs.Why.{IsReported, why_listed};
 ghost use Rattle.mime_sniff.specs.Computed.{IsComputed, supply_of};
 
 use crate::options::{Look, Options};
@@ -48,7 +48,7 @@ pub fn label_of<'a>(
     buf: &[u8],
     why: Option<&Why<'_>>,
 ) -> Label<'a>
-    requires { IsTold (options_listed options).look buf.now (option_map (λ w. why_listed w.now) why) }
+    requires { IsReported (options_listed options).look buf.now (option_map (λ w. why_listed w.now) why) }
     ensures { IsLabel (options_listed options.entry) name.now buf.now (label_listed result) }
 {
     match options.own {
@@ -86,7 +86,7 @@ fn of_own<'a>(found: Found<'a>, buf: &[u8]) -> Label<'a>
 
 /// By what is looked at.
 fn by_look<'a>(options: Options<'a>, name: &[u8], buf: &[u8], why: Option<&Why<'_>>) -> Label<'a>
-    requires { IsTold (options_listed options).look buf.now (option_map (λ w. why_listed w.now) why) }
+    requires { IsReported (options_listed options).look buf.now (option_map (λ w. why_listed w.now) why) }
     ensures { IsLabelBy (options_listed options.entry).look (options_listed options.entry).content_type name.now buf.now (label_listed result) }
 {
     match options.look {
@@ -100,7 +100,7 @@ fn by_look<'a>(options: Options<'a>, name: &[u8], buf: &[u8], why: Option<&Why<'
 
 /// By the name and the bytes.
 fn by_both(name: &[u8], buf: &[u8], why: Option<&Why<'_>>) -> Label<'static>
-    requires { IsTold Look.NameAndBytes buf.now (option_map (λ w. why_listed w.now) why) }
+    requires { IsReported Look.NameAndBytes buf.now (option_map (λ w. why_listed w.now) why) }
     ensures { (told : Option (List ℕ)) → IsLabelBy Look.NameAndBytes told name.now buf.now (label_listed result) }
 {
     let found = wider(buf, why);
@@ -109,7 +109,7 @@ fn by_both(name: &[u8], buf: &[u8], why: Option<&Why<'_>>) -> Label<'static>
 
 /// The type of the wider answer, which reasons have if they are reported.
 fn wider(buf: &[u8], why: Option<&Why<'_>>) -> Option<Type>
-    requires { IsTold Look.Bytes buf.now (option_map (λ w. why_listed w.now) why) }
+    requires { IsReported Look.Bytes buf.now (option_map (λ w. why_listed w.now) why) }
     ensures { IsWiderAnswer buf.now (option_map triple_of result) }
 {
     match why {
@@ -170,7 +170,7 @@ fn extension_told(told: Option<Told>) -> Option<&'static str>
 
 /// By the bytes alone.
 fn by_bytes(buf: &[u8], why: Option<&Why<'_>>) -> Label<'static>
-    requires { IsTold Look.Bytes buf.now (option_map (λ w. why_listed w.now) why) }
+    requires { IsReported Look.Bytes buf.now (option_map (λ w. why_listed w.now) why) }
     ensures { (told : Option (List ℕ)) (name : List ℕ) → IsLabelBy Look.Bytes told name buf.now (label_listed result) }
 {
     let found = wider(buf, why);

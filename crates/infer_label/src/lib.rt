@@ -4,7 +4,7 @@
 
 ghost use Rattle.std.specs.Prelude.{◌≡◌};
 ghost use Rattle.infer_label.specs.Line.{note_line};
-ghost use Rattle.infer_label.specs.Lines.{TellsLine};
+ghost use Rattle.infer_label.specs.Lines.{WritesLine};
 ghost use Rattle.infer_label.specs.Options.{options_listed};
 ghost use Rattle.infer_label.specs.Writes.{laid, saturated};
 ghost use Rattle.std.specs.Prelude.{length};
@@ -44,7 +44,7 @@ pub struct Answer {
 ///
 /// Types of one's own are to be a text that `infer_more::types::check` passes: of another nothing is said.
 pub fn write_line(options: Options<'_>, name: &[u8], buf: &[u8], out: &mut [u8]) -> Answer
-    ensures { TellsLine (options_listed options.entry) name.now buf.now result out.old out.new }
+    ensures { WritesLine (options_listed options.entry) name.now buf.now result out.old out.new }
 {
     let why = why_of(options, buf);
     let label = label_of(options, name, buf, why.as_ref());

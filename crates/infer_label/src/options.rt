@@ -1,6 +1,6 @@
 //! What a line may be asked for.
 ghost use Rattle.std.specs.Prelude.{◌≡◌};
-ghost use Rattle.infer_label.specs.Options.{default_options, options_listed, tells_why};
+ghost use Rattle.infer_label.specs.Options.{default_options, options_listed, gives_why};
 
 /// What an input is identified by.
 #[derive(Clone, Copy, Debug)]
@@ -75,8 +75,8 @@ impl<'a> Options<'a> {
     }
 
     /// Whether reasons are reported. Of types of one's own there are none.
-    pub fn tells_why(&self) -> bool
-        ensures { result ≡ tells_why (options_listed self.now) }
+    pub fn gives_why(&self) -> bool
+        ensures { result ≡ gives_why (options_listed self.now) }
     {
         self.why && self.own.is_none()
     }

@@ -4,7 +4,7 @@ ghost use Rattle.infer.specs.Triple.{triple_of};
 ghost use Rattle.infer_evidence.specs.Evidence.{ranges_of};
 ghost use Rattle.infer_more.specs.Laws.{built_in_by};
 ghost use Rattle.infer_more.specs.Wider.{shown_at};
-ghost use Rattle.infer_label.specs.Options.{options_listed, tells_why};
+ghost use Rattle.infer_label.specs.Options.{options_listed, gives_why};
 ghost use Rattle.infer_label.specs.Why.{IsBuiltInWhy, IsWhy, IsWhyBy, IsWiderWhy, bytes_of, is_accepting, is_that, reason_listed, reason_of, why_listed};
 
 use crate::options::{Look, Options};
@@ -40,10 +40,10 @@ pub struct Reason<'a> {
 
 /// Why the bytes have their answer, if that is asked for and there are bytes.
 pub fn why_of<'a>(options: Options<'_>, buf: &'a [u8]) -> Option<Why<'a>>
-    ensures { IsWhy (tells_why (options_listed options.entry)) (options_listed options.entry).look buf.entry.now
+    ensures { IsWhy (gives_why (options_listed options.entry)) (options_listed options.entry).look buf.entry.now
         (option_map why_listed result) }
 {
-    if options.tells_why() && !buf.is_empty() {
+    if options.gives_why() && !buf.is_empty() {
         by_look(options.look, buf)
     } else {
         None

@@ -16,8 +16,8 @@ unless_failed true bytes = None
 unless_failed false bytes = bytes
 
 -- what is known of the bytes of a writer grew by exactly a line, unless the writer has failed
-abbrev pub Tells : {W : Type 0} (contents : W → Option (List ℕ)) (old new : WatchedWriter W) → List ℕ → Type 0
-Tells contents old new told_line = OnFalse (has_failed new) (Appends (contents (inner old)) (contents (inner new)) told_line)
+abbrev pub AddsLine : {W : Type 0} (contents : W → Option (List ℕ)) (old new : WatchedWriter W) → List ℕ → Type 0
+AddsLine contents old new told_line = OnFalse (has_failed new) (Appends (contents (inner old)) (contents (inner new)) told_line)
 
 -- what a run says: its outcome, and the bytes of the writers of lines and of faults, before and after
 abbrev pub Saying : Type 1
@@ -34,7 +34,7 @@ Says contents err_contents old new result Said =
 
 -- the outcome is `Failed`, the writer of lines is as it was, and the writer of faults was told this line
 abbrev pub RefusesBy : {W E : Type 0} (err_contents : E → Option (List ℕ)) (old new : Output W E) → Outcome → List ℕ → Type 0
-RefusesBy err_contents old new result refusal = (result ≡ Failed) × (new.out ≡ old.out) × Tells err_contents old.err new.err refusal
+RefusesBy err_contents old new result refusal = (result ≡ Failed) × (new.out ≡ old.out) × AddsLine err_contents old.err new.err refusal
 
 -- this was said through buffers, which gave their writers back, or none of one that has failed
 abbrev pub SaysThrough : {W E : Type 0} (contents : W → Option (List ℕ)) (err_contents : E → Option (List ℕ))

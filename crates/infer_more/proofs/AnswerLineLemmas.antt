@@ -41,7 +41,7 @@ module _ (extension : Option (List ℕ)) (b line : List ℕ) where
       let both : Some (Some s) ≡ Some (Some r) = sym is ∙ are in
       let same : r ≡ s = cc in h.0 (subst (Answers extension b) same a)
 
--- a line of a text that describes rows, and the lines behind it
+-- a line of a text that describes rows, and the lines after it
 pub line_described : (rest line : List ℕ) (lines : List (List ℕ)) → lines_of rest ≡ line ∷ lines → IsTrue (is_some (rows_of rest))
     → (o : Option Row) × (line_of line ≡ Some o) × IsTrue (is_some (rows_in lines))
 line_described rest line lines is told = from (rows_of rest) refl told

@@ -65,7 +65,7 @@ pub use Rattle.infer_formats.specs.Relation.{first_entry_has_extra, first_entry_
 pub use Rattle.infer_formats.specs.Relation.{plain_text, program, relation_listed, root, root_with, shared_object, subrip}
 pub use Rattle.infer_formats.specs.Relation.{tar_checksum}
 unfoldable pub use Rattle.infer_notation.specs.Signature.{signature_of}
-pub use Rattle.infer_notation.specs.Words.{behind_blanks}
+pub use Rattle.infer_notation.specs.Words.{after_blanks}
 pub use Rattle.infer_sig.proofs.PlaceLemmas.{stands_from_occurs}
 pub use Rattle.infer_sig.specs.Open.{may_have}
 pub use Rattle.infer_sig.specs.Places.{StandsByPlace}
@@ -76,10 +76,10 @@ pub use Rattle.infer_sig.specs.Signature.{fits, has_part}
 pub use Rattle.infer_more.specs.Decided.{MayWiden}
 pub use Rattle.infer_more.specs.Ended.{ended_shown}
 pub use Rattle.infer_more.specs.Entries.{left_lines, row_lines}
-pub use Rattle.infer_more.specs.Index.{HasTagText, IsFoundBelow, IsLeast, IsNamed, IsOfProgram, IsRooted, IsRootedBy, name_at}
+pub use Rattle.infer_more.specs.Index.{HasText, IsFoundBelow, IsLeast, IsNamed, IsNamedWith, IsOfProgram, IsRooted, name_at}
 pub use Rattle.infer_more.specs.Index.{IsRowOf, IsTried, ascends, candidate, candidates, has_byte}
 pub use Rattle.infer_more.specs.Index.{is_covered, is_listed, is_plain, is_settled, is_tried_parentless}
-pub use Rattle.infer_more.specs.Index.{is_true_below, named_row, bucket_of, rooted_row, tried_parentless}
+pub use Rattle.infer_more.specs.Index.{is_true_below, named_row, bucket_of, tried_parentless}
 pub use Rattle.infer_more.specs.Laws.{AllLast, IsLost, is_dark, is_filled, is_lasting}
 unfoldable pub use Rattle.infer_more.specs.Line.{class_of, is_built_in, is_mime_type, row_of}
 pub use Rattle.infer_more.specs.Line.{Fields, fields_listed, fields_of, is_alphanumeric, is_name, is_name_byte}
@@ -103,7 +103,6 @@ pub use Rattle.infer_more.specs.declared.index.Below.{Below}
 pub use Rattle.infer_more.specs.declared.index.Below.TheVariants.{Nothing}
 pub use Rattle.infer_more.specs.declared.index.Named.{Named}
 pub use Rattle.infer_more.specs.declared.index.Parentless.{Parentless}
-pub use Rattle.infer_more.specs.declared.index.Rooted.{Rooted}
 pub use Rattle.infer_more.specs.declared.index.generated.TheConstants.{FURTHER_COUNT}
 pub use Rattle.infer_more.specs.declared.samples.TheConstants.{SAMPLE_SIZE}
 pub use Rattle.infer_more.specs.declared.row_data.Piece.{Piece}

@@ -1,5 +1,5 @@
 -- Rows of which something is known.
-use Rattle.infer_more.proofs.Common.{◌≡◌, ◌+◌, ◌<◌, ℕ, Bool, true, false, not, cond, drop, get_or, List, [], ◌∷◌, ◌++◌, Option, None, Some, inl, inr, length, map, option_map, refl, sym, ap, ◌∙◌, cases_Bool, false≢true, drop_more, left_lines, row_lines, Fields, fields_of, is_remark, line_of, row_of, lines_of, rows_in, rows_left, with_row, behind_blanks}
+use Rattle.infer_more.proofs.Common.{◌≡◌, ◌+◌, ◌<◌, ℕ, Bool, true, false, not, cond, drop, get_or, List, [], ◌∷◌, ◌++◌, Option, None, Some, inl, inr, length, map, option_map, refl, sym, ap, ◌∙◌, cases_Bool, false≢true, drop_more, left_lines, row_lines, Fields, fields_of, is_remark, line_of, row_of, lines_of, rows_in, rows_left, with_row, after_blanks}
 use Rattle.infer_more.specs.Entries.{is_row_line}
 use Rattle.infer_more.specs.Line.{Row}
 use Rattle.infer_more.specs.declared.types.entries.Entry.{Entry}
@@ -9,9 +9,9 @@ use Rattle.infer_notation.specs.Words.{◌>>=◌}
 
 -- a remark describes no row
 remark_of : (line : List ℕ) → is_row_line line ≡ false → line_of line ≡ Some None
-remark_of line e = chosen (is_remark (behind_blanks line)) e
+remark_of line e = chosen (is_remark (after_blanks line)) e
   where
-    chosen : (b : Bool) → not b ≡ false → cond b (Some None) (option_map (λ r. Some r) (row_of (fields_of (behind_blanks line)))) ≡ Some None
+    chosen : (b : Bool) → not b ≡ false → cond b (Some None) (option_map (λ r. Some r) (row_of (fields_of (after_blanks line)))) ≡ Some None
     chosen true e = refl
     chosen false e = absurd cc
 
@@ -37,13 +37,13 @@ row_in_from : (own : Row) (o : Option Row) → option_map (λ r. Some r) o ≡ S
 row_in_from own None e = absurd cc
 row_in_from own (Some r) e = cc
 
-pub row_in : (line text : List ℕ) (own : Row) (f : Fields) → text ≡ behind_blanks line → is_remark text ≡ false → f ≡ fields_of text → line_of line ≡ Some (Some own) → row_of f ≡ Some own
-row_in line text own f is other same e = ap row_of (same ∙ ap fields_of is) ∙ chosen (is_remark (behind_blanks line)) (sym (ap is_remark is) ∙ other) e
+pub row_in : (line text : List ℕ) (own : Row) (f : Fields) → text ≡ after_blanks line → is_remark text ≡ false → f ≡ fields_of text → line_of line ≡ Some (Some own) → row_of f ≡ Some own
+row_in line text own f is other same e = ap row_of (same ∙ ap fields_of is) ∙ chosen (is_remark (after_blanks line)) (sym (ap is_remark is) ∙ other) e
   where
-    chosen : (b : Bool) → b ≡ false → cond b (Some None) (option_map (λ r. Some r) (row_of (fields_of (behind_blanks line)))) ≡ Some (Some own)
-        → row_of (fields_of (behind_blanks line)) ≡ Some own
+    chosen : (b : Bool) → b ≡ false → cond b (Some None) (option_map (λ r. Some r) (row_of (fields_of (after_blanks line)))) ≡ Some (Some own)
+        → row_of (fields_of (after_blanks line)) ≡ Some own
     chosen true t e = absurd (false≢true (sym t))
-    chosen false t e = row_in_from own (row_of (fields_of (behind_blanks line))) e
+    chosen false t e = row_in_from own (row_of (fields_of (after_blanks line))) e
 
 -- ---- entries
 

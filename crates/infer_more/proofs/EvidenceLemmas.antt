@@ -6,10 +6,10 @@ use Rattle.std.proofs.lemmas.List.Elements.{All-drop, All-head, All-tail}
 use Rattle.std.specs.Prelude.{All, Any}
 use Rattle.infer.proofs.CandidateLemmas.{read_has}
 use Rattle.infer.proofs.EvidenceLemmas.{buffers_with, same_by_reads}
-use Rattle.infer_formats.specs.Markup.{IsOfRoot, TellsByRoot, TellsRoot}
+use Rattle.infer_formats.specs.Markup.{IsOfRoot, DecidesByRoot, DecidesRoot}
 use Rattle.infer_formats.specs.declared.markup.Root.{Root}
 use Rattle.infer_notation.specs.Alternative as signature
-use Rattle.infer_evidence.proofs.ListedLemmas.{all_told}
+use Rattle.infer_evidence.proofs.ListedLemmas.{all_refused_already}
 use Rattle.infer_sig.specs.Places.{StandsByPlace}
 use Rattle.infer_sig.specs.Signature as fixed
 use Rattle.infer_sig.specs.Signature.{byte, fits, stands, text}
@@ -30,20 +30,20 @@ alike_with (Some r) f v w bytes more told =
       | inr never ↦ (λ h. absurd (never (w, more, h)), λ h. absurd (never (v, bytes, h)))
     ]
 
-pub front_tells : (i : ℕ) (b c : List ℕ) (n : ℕ) → IsBuffer b → IsBuffer c → n ≤ length b → IsRowDecided i (take n b)
+pub front_proves : (i : ℕ) (b c : List ℕ) (n : ℕ) → IsBuffer b → IsBuffer c → n ≤ length b → IsRowDecided i (take n b)
     → ((k : ℕ) → k < n → (k < length c) × (get_or c k 0 ≡ get_or b k 0)) → IsAlikeAt i b c
-front_tells i b c n bytes others le told same =
+front_proves i b c n bytes others le told same =
     buffers_with (IsAlikeAt i) b c n bytes others le same (λ v w of more. alike_with (slice_get further i) (take n b) v w of more told)
 
 alike_itself : (o : Option Further) (b : List ℕ) → MatchOption o (Unit {0}) (λ r. Accepted r.signature b ↔ Accepted r.signature b)
 alike_itself None b = tt
 alike_itself (Some r) b = (λ h. h, λ h. h)
 
-pub same_tells : (i : ℕ) (b c : List ℕ) → c ≡ b → IsAlikeAt i b c
-same_tells i b c same = subst (IsAlikeAt i b) (sym same) (alike_itself (slice_get further i) b)
+pub same_proves : (i : ℕ) (b c : List ℕ) → c ≡ b → IsAlikeAt i b c
+same_proves i b c same = subst (IsAlikeAt i b) (sym same) (alike_itself (slice_get further i) b)
 
-pub whole_tells : (i : ℕ) (b c : List ℕ) → length c ≡ length b → ((k : ℕ) → k < length b → (k < length c) × (get_or c k 0 ≡ get_or b k 0)) → IsAlikeAt i b c
-whole_tells i b c long same = same_tells i b c (same_by_reads b c long same)
+pub whole_proves : (i : ℕ) (b c : List ℕ) → length c ≡ length b → ((k : ℕ) → k < length b → (k < length c) × (get_or c k 0 ≡ get_or b k 0)) → IsAlikeAt i b c
+whole_proves i b c long same = same_proves i b c (same_by_reads b c long same)
 
 -- ---- rows that ask for a root element
 
@@ -53,11 +53,11 @@ some_true true q = (λ h. inl refl, λ h. refl)
 some_true false q = (λ h. inr h, λ h. elim h as (λ t. IsTrue q) [ inl p ↦ absurd (false≢true p) | inr q ↦ q ])
 
 pub root_of_either : (root : Option Root) (P Q R : List ℕ → Type 0) (p q : Bool) → ((b : List ℕ) → R b ↔ (P b ⊎ Q b))
-    → TellsByRoot root P p → TellsByRoot root Q q → TellsByRoot root R (p || q)
+    → DecidesByRoot root P p → DecidesByRoot root Q q → DecidesByRoot root R (p || q)
 root_of_either root P Q R p q parts (own, first) (other, second) = (
-  λ front m n tells ms ns h. (parts (front ++ n)).1 (elim ((parts (front ++ m)).0 h) as (λ t. P (front ++ n) ⊎ Q (front ++ n)) [
-    | inl x ↦ inl (own front m n tells ms ns x)
-    | inr y ↦ inr (other front m n tells ms ns y)
+  λ front m n proves ms ns h. (parts (front ++ n)).1 (elim ((parts (front ++ m)).0 h) as (λ t. P (front ++ n) ⊎ Q (front ++ n)) [
+    | inl x ↦ inl (own front m n proves ms ns x)
+    | inr y ↦ inr (other front m n proves ms ns y)
   ]),
   λ b is. let tests = some_true p q in (
     λ told. (parts b).1 (elim (tests.0 told) as (λ t. P b ⊎ Q b) [ inl x ↦ inl ((first b is).0 x) | inr y ↦ inr ((second b is).0 y) ]),
@@ -65,32 +65,32 @@ root_of_either root P Q R p q parts (own, first) (other, second) = (
   ),
 )
 
-pub root_of_same : (root : Option Root) (P R : List ℕ → Type 0) (told : Bool) → ((b : List ℕ) → R b ↔ P b) → TellsByRoot root P told → TellsByRoot root R told
+pub root_of_same : (root : Option Root) (P R : List ℕ → Type 0) (told : Bool) → ((b : List ℕ) → R b ↔ P b) → DecidesByRoot root P told → DecidesByRoot root R told
 root_of_same root P R told same (own, answer) = (
-  λ front m n tells ms ns h. (same (front ++ n)).1 (own front m n tells ms ns ((same (front ++ m)).0 h)),
+  λ front m n proves ms ns h. (same (front ++ n)).1 (own front m n proves ms ns ((same (front ++ m)).0 h)),
   λ b is. (λ t. (same b).1 ((answer b is).0 t), λ h. (answer b is).1 ((same b).0 h)),
 )
 
-pub root_of_none : (root : Option Root) → TellsByRoot root (λ b. ⊥) false
-root_of_none root = (λ front m n tells ms ns h. h, λ b is. (λ no. absurd (false≢true no), λ h. absurd h))
+pub root_of_none : (root : Option Root) → DecidesByRoot root (λ b. ⊥) false
+root_of_none root = (λ front m n proves ms ns h. h, λ b is. (λ no. absurd (false≢true no), λ h. absurd h))
 
 -- so a front that tells it tells of the row
-root_told : (xs : List signature.Alternative) (b : List ℕ) (n : ℕ) (accepts : Bool) → IsBuffer b → IsOfRoot (Accepted xs) → TellsRoot (take n b)
+root_told : (xs : List signature.Alternative) (b : List ℕ) (n : ℕ) (accepts : Bool) → IsBuffer b → IsOfRoot (Accepted xs) → DecidesRoot (take n b)
     → IsTrue accepts ↔ Accepted xs b → IsSignatureDecided xs (take n b)
-root_told xs b n true bytes of tells answer =
-    inl (λ more ms. of (take n b) (drop n b) more tells (All-drop (λ x. x < 256) n b bytes) ms (subst (Accepted xs) (sym (take-append-drop n b)) (answer.0 refl)))
-root_told xs b n false bytes of tells answer =
+root_told xs b n true bytes of proves answer =
+    inl (λ more ms. of (take n b) (drop n b) more proves (All-drop (λ x. x < 256) n b bytes) ms (subst (Accepted xs) (sym (take-append-drop n b)) (answer.0 refl)))
+root_told xs b n false bytes of proves answer =
     inr (λ (more, ms, h). false≢true (answer.1 (subst (Accepted xs) (take-append-drop n b)
-    (of (take n b) more (drop n b) tells ms (All-drop (λ x. x < 256) n b bytes) h))))
+    (of (take n b) more (drop n b) proves ms (All-drop (λ x. x < 256) n b bytes) h))))
 
 pub root_told_at : (i : ℕ) (r : Further) (read : RootRead) (b : List ℕ) (accepts : Bool) → slice_get further i ≡ Some r → IsBuffer b → IsRootRead read b
-    → TellsByRoot read.root (Accepted r.signature) accepts → IfSome read.front (λ n. (n ≤ length b) × IsRowDecided i (take n b))
+    → DecidesByRoot read.root (Accepted r.signature) accepts → IfSome read.front (λ n. (n ≤ length b) × IsRowDecided i (take n b))
 root_told_at i r read b accepts e bytes (is, front) (of, answer) = within read.front front
   where
-    within : (o : Option ℕ) → IfSome o (λ n. (n ≤ length b) × TellsRoot (take n b)) → IfSome o (λ n. (n ≤ length b) × IsRowDecided i (take n b))
+    within : (o : Option ℕ) → IfSome o (λ n. (n ≤ length b) × DecidesRoot (take n b)) → IfSome o (λ n. (n ≤ length b) × IsRowDecided i (take n b))
     within None f = tt
-    within (Some n) (le, tells) =
-        (le, subst (λ o. MatchOption o (Unit {0}) (λ r. IsSignatureDecided r.signature (take n b))) (sym e) (root_told r.signature b n accepts bytes of tells (answer b is)))
+    within (Some n) (le, proves) =
+        (le, subst (λ o. MatchOption o (Unit {0}) (λ r. IsSignatureDecided r.signature (take n b))) (sym e) (root_told r.signature b n accepts bytes of proves (answer b is)))
 
 -- with what it means that a text stands somewhere
 module _ (by_place : (place : ℕ) (t b : List ℕ) → IsTrue (stands place t b) ↔ StandsByPlace place t b) (b : List ℕ) where
@@ -125,7 +125,7 @@ module _ (by_place : (place : ℕ) (t b : List ℕ) → IsTrue (stands place t b
 
   pub bytes_told : (a : listed.Bytes) → IsTrue (fits b (bytes_listed a)) ↔ HasBytes b a
   bytes_told a =
-      let pieces = all_told (has_part b) part_listed (λ p. HasPiece p b) (λ p. (λ h. h, λ h. h)) (pieces_of a) in (
+      let pieces = all_refused_already (has_part b) part_listed (λ p. HasPiece p b) (λ p. (λ h. h, λ h. h)) (pieces_of a) in (
         λ h. let both = and_parts _ _ h in (leb-true a.least (length b) both.0, pieces.0 both.1),
         λ has. and_from _ _ (le-leb a.least (length b) has.0) (pieces.1 has.1),
       )

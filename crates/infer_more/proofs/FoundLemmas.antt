@@ -1,6 +1,6 @@
 -- By the index just those rows are found that widen an answer.
 use Rattle.std.proofs.lemmas.Bool.{ltb-true, or_cases, or_left, or_right}
-use Rattle.infer_more.proofs.Common.{◌≡◌, ◌↔◌, ℕ, zero, suc, ◌+◌, ◌++◌, ◌<◌, ◌≤◌, ◌==◌, inl, inr, ◌⊎◌, Bool, true, false, IsTrue, List, [], ◌∷◌, Option, None, Some, length, get_or, ap, sym, ◌∙◌, subst, arith, refl, ◌&&◌, ◌||◌, slice_index, nat_le, nat_lt, list_all, list_any, option_map_or, cases_lt, eqb-true, leb-true, get_or_default, slice_get_cases, Bor, IsJson, IsJsonLines, BeginsElement, IsRootElement, IsXmlSpace, there, IsProgram, IsOneOf, IsPackageWith, applications, accepts, fits, stands, StandsByPlace, IsBuffer, is_listed, HasTagText, IsFoundBelow, IsLeast, IsNamed, IsOfProgram, IsRootedBy, IsRooted, IsRowOf, IsTried, ascends, candidates, is_covered, is_plain, is_tried_parentless, is_true_below, named_row, rooted_row, tried_parentless, lines, Further, Accepted, Fits, related, json_lines, json_text, package_with, plain_text, program, root, root_with, further, Widens, WidensAt, Nothing, Named, Parentless, Rooted, FURTHER_COUNT, and_from, bucket_of, class_id, if◌then◌else◌, not, eq-eqb}
+use Rattle.infer_more.proofs.Common.{◌≡◌, ◌↔◌, ℕ, zero, suc, ◌+◌, ◌++◌, ◌<◌, ◌≤◌, ◌==◌, inl, inr, ◌⊎◌, Bool, true, false, IsTrue, List, [], ◌∷◌, Option, None, Some, length, get_or, ap, sym, ◌∙◌, subst, arith, refl, ◌&&◌, ◌||◌, slice_index, nat_le, nat_lt, list_all, list_any, option_map_or, cases_lt, eqb-true, leb-true, get_or_default, slice_get_cases, Bor, IsJson, IsJsonLines, BeginsElement, IsRootElement, IsXmlSpace, there, IsProgram, IsOneOf, IsPackageWith, applications, accepts, fits, stands, StandsByPlace, IsBuffer, is_listed, IsFoundBelow, IsLeast, IsNamed, IsOfProgram, IsRooted, IsRowOf, IsTried, ascends, candidates, is_covered, is_plain, is_tried_parentless, is_true_below, named_row, tried_parentless, lines, Further, Accepted, Fits, related, json_lines, json_text, package_with, plain_text, program, root, root_with, further, Widens, WidensAt, Nothing, Named, Parentless, FURTHER_COUNT, and_from, bucket_of, class_id, if◌then◌else◌, not, eq-eqb, HasText, IsNamedWith}
 use Rattle.std.specs.Prelude.{slice_get}
 use Rattle.std.proofs.lemmas.List.Sums.{AllPass-from_list_all}
 use Rattle.infer_deep.specs.ClassId.{HasClassId}
@@ -14,13 +14,12 @@ use Rattle.infer_formats.specs.Tiff.{HasTag}
 use Rattle.infer_formats.specs.Markup.{HasInTag, MayBeRooted}
 use Rattle.infer_sig.specs.Signature as fixed
 use Rattle.infer_sig.proofs.OccurrenceLemmas.{not_both}
-use Rattle.infer_more.specs.Index.{AllApplications, AreClassIds, AreWaysBelow, EachIsByLead, EachIsFoundByName, EachParentlessIsFound, FindsBelow, FindsByLead, FindsParentless, IsFoundParentless, IsKeyed, IsKeyedBy, IsFoundByName, IsWayBelow, IsTextRow, HasKeyValue, MayHaveName, all_ascend, are_keyed, are_rooted, are_roots_of, are_texts, are_true, asks_class_id, asks_folder, asks_key, asks_program, asks_root, below_at, bucket_by, has_byte, has_named, has_rooted, keyed_row, roots_of, is_application, is_child, is_found_below, is_found_parentless, is_in_class_ids, is_in_folders, is_in_keys, is_in_programs, is_in_roots, is_json, is_lines, is_of_name, is_of_tag, is_row_below, is_row_parentless, is_row_parentless_found, is_row_with, is_text_row, is_found_by_name, is_tried_below, bucket_at, same, same_text, name_at}
+use Rattle.infer_more.specs.Index.{AllApplications, AreClassIds, AreWaysBelow, EachIsByLead, EachIsFoundByName, EachParentlessIsFound, FindsBelow, FindsByLead, FindsParentless, IsFoundParentless, IsKeyed, IsFoundByName, IsWayBelow, IsTextRow, MayHaveName, all_ascend, are_keyed, are_rooted, are_roots_of, are_texts, are_true, asks_class_id, asks_folder, asks_key, asks_program, asks_root, below_at, bucket_by, has_byte, has_named, is_application, is_child, is_found_below, is_found_parentless, is_in_class_ids, is_in_folders, is_in_keys, is_in_programs, is_in_roots, is_json, is_lines, is_of_name, is_of_tag, is_row_below, is_row_parentless, is_row_parentless_found, is_row_with, is_text_row, is_found_by_name, is_tried_below, bucket_at, same, same_text, name_at}
 use Rattle.infer_notation.specs.Alternative.{Alternative}
 use Rattle.infer_evidence.specs.declared.spans.Span.{Span}
 use Rattle.infer_more.specs.declared.index.Below as below
 use Rattle.infer_more.specs.declared.index.Below.TheVariants.{ClassIds, Entries, Packages, Programs, Roots, Tagged}
 use Rattle.infer_more.specs.declared.index.Entry.{Entry}
-use Rattle.infer_more.specs.declared.index.Keyed.{Keyed}
 use Rattle.infer_more.specs.declared.index.ByLead.{ByLead}
 use Rattle.infer_more.specs.declared.index.Texts.{Texts}
 use Rattle.infer_more.specs.declared.index.ByName.{ByName}
@@ -44,10 +43,12 @@ same_true (x ∷ xs) (y ∷ ys) h =
     subst (λ z. x ∷ xs ≡ z ∷ ys) first (ap (λ l. x ∷ l) rest)
 
 -- a name that is listed has its row
-listed_name : (P : List ℕ → Type 0) (i : ℕ) (names : List Named) (name : List ℕ) → IsTrue (has_named i names name) → P name → IsNamed P names i
+listed_name : (P : List ℕ → Type 0) (i : ℕ) (names : List Named) (name : List ℕ) → IsTrue (has_named i names name None) → P name → IsNamed P names i
 listed_name P i [] name h p = absurd (cc)
-listed_name P i (e ∷ names) name h p = elim (or_cases (e.row == i && same (name_at e.name) name) _ h) [
-  | inl here ↦ inl (eqb-true e.row i (both_left (e.row == i) _ here), subst P (sym (same_true (name_at e.name) name (both_right (e.row == i) _ here))) p)
+listed_name P i (e ∷ names) name h p = elim (or_cases (e.row == i && (same (name_at e.name) name && same_text e.text None)) _ h) [
+  | inl here ↦
+      let named = both_right (e.row == i) (same (name_at e.name) name && same_text e.text None) here in
+      inl (eqb-true e.row i (both_left (e.row == i) _ here), subst P (sym (same_true (name_at e.name) name (both_left (same (name_at e.name) name) _ named))) p)
   | inr later ↦ inr (listed_name P i names name later p)
 ]
 
@@ -62,49 +63,28 @@ pub listed_in_bucket : {A : Type 0} (Q : List A → Bool) → IsTrue (Q []) → 
 listed_in_bucket Q none bits lists [] h = none
 listed_in_bucket Q none bits lists (x ∷ xs) h = listed_at Q none lists (bits x) h
 
--- the text, if there is one, stands in a tag of which this is the rest
-abbrev OwnText : List ℕ → Option (List ℕ) → Type 0
-OwnText rest None = Unit {0}
-OwnText rest (Some u) = HasInTag u rest
+-- and so has one with a text, if there is one
+abbrev OwnText : (List ℕ → Type 0) → Option (List ℕ) → Type 0
+OwnText P None = Unit {0}
+OwnText P (Some u) = P u
 
-tag_text : (rest : List ℕ) (t : Option Span) (u : Option (List ℕ)) → IsTrue (same_text t u) → OwnText rest u → HasTagText rest t
-tag_text rest None None h p = tt
-tag_text rest None (Some u) h p = absurd (cc)
-tag_text rest (Some t) None h p = absurd (cc)
-tag_text rest (Some t) (Some u) h p = subst (λ own. HasInTag own rest) (sym (same_true (name_at t) u h)) p
+text_has : (P : List ℕ → Type 0) (t : Option Span) (u : Option (List ℕ)) → IsTrue (same_text t u) → OwnText P u → HasText P t
+text_has P None None h p = tt
+text_has P None (Some u) h p = absurd (cc)
+text_has P (Some t) None h p = absurd (cc)
+text_has P (Some t) (Some u) h p = subst P (sym (same_true (name_at t) u h)) p
 
-listed_root : (rest : List ℕ) (i : ℕ) (roots : List Rooted) (name : List ℕ) (u : Option (List ℕ)) → IsTrue (has_rooted i roots name u)
-    → OwnText rest u → IsRootedBy name rest roots i
-listed_root rest i [] name u h p = absurd (cc)
-listed_root rest i (e ∷ roots) name u h p = elim (or_cases (e.row == i && (same (name_at e.name) name && same_text e.text u)) _ h) [
+listed_with : (P : List ℕ → Type 0) (i : ℕ) (names : List Named) (name : List ℕ) (u : Option (List ℕ)) → IsTrue (has_named i names name u)
+    → OwnText P u → IsNamedWith P name names i
+listed_with P i [] name u h p = absurd (cc)
+listed_with P i (e ∷ names) name u h p = elim (or_cases (e.row == i && (same (name_at e.name) name && same_text e.text u)) _ h) [
   | inl here ↦
-      let and_from = both_right (e.row == i) (same (name_at e.name) name && same_text e.text u) here in
-      inl (eqb-true e.row i (both_left (e.row == i) _ here), (same_true (name_at e.name) name (both_left (same (name_at e.name) name) _ and_from), tag_text rest e.text u (both_right (same (name_at e.name) name) _ and_from) p))
-  | inr later ↦ inr (listed_root rest i roots name u later p)
+      let both = both_right (e.row == i) (same (name_at e.name) name && same_text e.text u) here in
+      inl (eqb-true e.row i (both_left (e.row == i) _ here), (same_true (name_at e.name) name (both_left (same (name_at e.name) name) _ both), text_has P e.text u (both_right (same (name_at e.name) name) _ both) p))
+  | inr later ↦ inr (listed_with P i names name u later p)
 ]
 
--- a key with its value
-abbrev OwnValue : List ℕ → Option (List ℕ) → Type 0
-OwnValue rest None = Unit {0}
-OwnValue rest (Some u) = HasValue u rest
-
-key_value : (rest : List ℕ) (t : Option Span) (u : Option (List ℕ)) → IsTrue (same_text t u) → OwnValue rest u → HasKeyValue rest t
-key_value rest None None h p = tt
-key_value rest None (Some u) h p = absurd (cc)
-key_value rest (Some t) None h p = absurd (cc)
-key_value rest (Some t) (Some u) h p = subst (λ own. HasValue own rest) (sym (same_true (name_at t) u h)) p
-
-listed_key : (rest : List ℕ) (i : ℕ) (keys : List Keyed) (key : List ℕ) (u : Option (List ℕ))
-    → IsTrue (list_any (λ e. e.row == i && (same (name_at e.key) key && same_text e.value u)) keys) → OwnValue rest u → IsKeyedBy key rest keys i
-listed_key rest i [] key u h p = absurd (cc)
-listed_key rest i (e ∷ keys) key u h p = elim (or_cases (e.row == i && (same (name_at e.key) key && same_text e.value u)) _ h) [
-  | inl here ↦
-      let both = both_right (e.row == i) (same (name_at e.key) key && same_text e.value u) here in
-      inl (eqb-true e.row i (both_left (e.row == i) _ here), (same_true (name_at e.key) key (both_left (same (name_at e.key) key) _ both), key_value rest e.value u (both_right (same (name_at e.key) key) _ both) p))
-  | inr later ↦ inr (listed_key rest i keys key u later p)
-]
-
--- what is left behind the colon is that of the key
+-- what is left after the colon is that of the key
 first_key_left : (key b : List ℕ) → IsTrue (has_no_quote key) → HasFirstKey key b → (rest : List ℕ) × IsFirstKey key rest b
 first_key_left key b dark (inl (rest, begins)) = (rest, (dark, inl begins))
 first_key_left key b dark (inr (w, e, (rest, begins))) = (rest, (dark, inr (w, e, begins)))
@@ -174,18 +154,18 @@ module _ (by_place : (place : ℕ) (t buf : List ℕ) → IsTrue (stands place t
   in_programs lists (related (program name)) h k = (name, k, listed_name (λ n. n ≡ name) i (bucket_of lists name) name h refl)
   in_programs lists other h k = absurd (cc)
 
-  in_roots : (roots : List (Bor (List Rooted))) (a : Alternative) → IsTrue (is_in_roots i roots a) → Fits a b → IsRooted b roots i
-  in_roots roots (related (root name)) h (rest, element) = (name, rest, element, listed_root rest i (roots_of roots name) name None h tt)
-  in_roots roots (related (root_with name t)) h (rest, element, there) = (name, rest, element, listed_root rest i (roots_of roots name) name (Some t) h there)
+  in_roots : (roots : List (Bor (List Named))) (a : Alternative) → IsTrue (is_in_roots i roots a) → Fits a b → IsRooted b roots i
+  in_roots roots (related (root name)) h (rest, element) = (name, rest, element, listed_with (λ t. HasInTag t rest) i (bucket_of roots name) name None h tt)
+  in_roots roots (related (root_with name t)) h (rest, element, there) = (name, rest, element, listed_with (λ t. HasInTag t rest) i (bucket_of roots name) name (Some t) h there)
   in_roots roots other h k = absurd (cc)
 
-  in_keys : (keys : List Keyed) (a : Alternative) → IsTrue (is_in_keys i keys a) → Fits a b → IsKeyed b keys i
+  in_keys : (keys : List Named) (a : Alternative) → IsTrue (is_in_keys i keys a) → Fits a b → IsKeyed b keys i
   in_keys keys (related (first_key key)) h k =
       let (rest, is) = first_key_left key b (both_left (has_no_quote key) _ h) k in
-      (key, rest, is, listed_key rest i keys key None (both_right (has_no_quote key) _ h) tt)
+      (key, rest, is, listed_with (λ t. HasValue t rest) i keys key None (both_right (has_no_quote key) _ h) tt)
   in_keys keys (related (first_key_with key v)) h k =
       let (rest, is, value) = first_key_value key v b (both_left (has_no_quote key) _ h) k in
-      (key, rest, is, listed_key rest i keys key (Some v) (both_right (has_no_quote key) _ h) value)
+      (key, rest, is, listed_with (λ t. HasValue t rest) i keys key (Some v) (both_right (has_no_quote key) _ h) value)
   in_keys keys other h k = absurd (cc)
 
   in_folders : (folders : List Named) (a : Alternative) → IsTrue (is_in_folders i folders a) → Fits a b → IsNamed (λ folder. IsPackageWith folder b) folders i
@@ -302,18 +282,18 @@ module _ (b : List ℕ) where
   fits_program name p (related (program own)) h = subst (λ n. IsProgram n b) (same_true name own h) p
   fits_program name p other h = absurd (cc)
 
-  in_tag : (rest : List ℕ) (t : Option Span) (u : List ℕ) → IsTrue (same_text t (Some u)) → HasTagText rest t → HasInTag u rest
-  in_tag rest None u h p = absurd (cc)
-  in_tag rest (Some t) u h p = subst (λ own. HasInTag own rest) (same_true (name_at t) u h) p
+  own_text : (P : List ℕ → Type 0) (t : Option Span) (u : List ℕ) → IsTrue (same_text t (Some u)) → HasText P t → P u
+  own_text P None u h p = absurd (cc)
+  own_text P (Some t) u h p = subst P (same_true (name_at t) u h) p
 
   module _ (name rest : List ℕ) (element : IsRootElement name rest b) where
-    fits_root : (own : List ℕ) (t : Option Span) → (own ≡ name) × HasTagText rest t → (a : Alternative) → IsTrue (asks_root own t a) → Fits a b
+    fits_root : (own : List ℕ) (t : Option Span) → (own ≡ name) × HasText (λ u. HasInTag u rest) t → (a : Alternative) → IsTrue (asks_root own t a) → Fits a b
     fits_root own t p (related (root other)) h =
         (rest, subst (λ n. IsRootElement n rest b) (sym p.0 ∙ same_true own other (both_left (same own other) _ h)) element)
     fits_root own t p (related (root_with other u)) h = (
       rest,
       subst (λ n. IsRootElement n rest b) (sym p.0 ∙ same_true own other (both_left (same own other) _ h)) element,
-      in_tag rest t u (both_right (same own other) _ h) p.1,
+      own_text (λ v. HasInTag v rest) t u (both_right (same own other) _ h) p.1,
     )
     fits_root own t p other h = absurd (cc)
 
@@ -325,17 +305,13 @@ module _ (b : List ℕ) where
   with_value key v rest (dark, inl begins) (left, value) = inl (rest, left, begins, value)
   with_value key v rest (dark, inr (w, e, begins)) (left, value) = inr (w, e, (rest, left, begins, value))
 
-  own_value : (rest : List ℕ) (t : Option Span) (u : List ℕ) → IsTrue (same_text t (Some u)) → HasKeyValue rest t → HasValue u rest
-  own_value rest None u h p = absurd (cc)
-  own_value rest (Some t) u h p = subst (λ own. HasValue own rest) (same_true (name_at t) u h) p
-
   module _ (key rest : List ℕ) (is : IsFirstKey key rest b) where
-    fits_key : (own : List ℕ) (t : Option Span) → (own ≡ key) × HasKeyValue rest t → (a : Alternative) → IsTrue (asks_key own t a) → Fits a b
+    fits_key : (own : List ℕ) (t : Option Span) → (own ≡ key) × HasText (λ u. HasValue u rest) t → (a : Alternative) → IsTrue (asks_key own t a) → Fits a b
     fits_key own t p (related (first_key other)) h =
         with_left other rest (subst (λ n. IsFirstKey n rest b) (sym p.0 ∙ same_true own other (both_left (same own other) _ h)) is)
     fits_key own t p (related (first_key_with other u)) h =
         with_value other u rest (subst (λ n. IsFirstKey n rest b) (sym p.0 ∙ same_true own other (both_left (same own other) _ h)) is)
-        (own_value rest t u (both_right (same own other) _ h) p.1)
+        (own_text (λ v. HasValue v rest) t u (both_right (same own other) _ h) p.1)
     fits_key own t p other h = absurd (cc)
 
   fits_class_id : (id : List ℕ) → HasClassId id b → (a : Alternative) → IsTrue (asks_class_id id a) → Fits a b
@@ -363,16 +339,16 @@ module _ (b : List ℕ) where
   second_of_each P Q [] h = refl
   second_of_each P Q (e ∷ xs) h = and_from (Q e) _ (both_right (P e) (Q e) (both_left (P e && Q e) _ h)) (second_of_each P Q xs (both_right (P e && Q e) _ h))
 
-  widens_root : (parent : Option ℕ) (roots : List (Bor (List Rooted))) (i : ℕ) → IsTrue (are_roots_of parent roots) → IsRooted b roots i → WidensAt parent b i
+  widens_root : (parent : Option ℕ) (roots : List (Bor (List Named))) (i : ℕ) → IsTrue (are_roots_of parent roots) → IsRooted b roots i → WidensAt parent b i
   widens_root parent roots i h (name, rest, element, is) =
-      rows_widen rooted_row (λ e. (name_at e.name ≡ name) × HasTagText rest e.text) (λ e. asks_root (name_at e.name) e.text) parent b
-      (λ e p. fits_root name rest element (name_at e.name) e.text p) (roots_of roots name) i
+      rows_widen named_row (λ e. (name_at e.name ≡ name) × HasText (λ t. HasInTag t rest) e.text) (λ e. asks_root (name_at e.name) e.text) parent b
+      (λ e p. fits_root name rest element (name_at e.name) e.text p) (bucket_of roots name) i
       (listed_in_bucket (list_all (λ e. is_row_with parent (asks_root (name_at e.name) e.text) e.row)) refl _ roots name h) is
 
-  widens_key : (keys : List Keyed) (i : ℕ) → IsTrue (are_keyed keys) → IsKeyed b keys i → WidensAt None b i
+  widens_key : (keys : List Named) (i : ℕ) → IsTrue (are_keyed keys) → IsKeyed b keys i → WidensAt None b i
   widens_key keys i h (key, rest, first, is) =
-      rows_widen keyed_row (λ e. (name_at e.key ≡ key) × HasKeyValue rest e.value) (λ e. asks_key (name_at e.key) e.value) None b
-      (λ e p. fits_key key rest first (name_at e.key) e.value p) keys i (both_right (ascends keyed_row keys) _ h) is
+      rows_widen named_row (λ e. (name_at e.name ≡ key) × HasText (λ t. HasValue t rest) e.text) (λ e. asks_key (name_at e.name) e.text) None b
+      (λ e p. fits_key key rest first (name_at e.name) e.text p) keys i (both_right (ascends named_row keys) _ h) is
 
   widens_below : (parent : ℕ) (way : below.Below) (i : ℕ) → IsTrue (is_true_below parent way) → IsFoundBelow way parent b i → WidensAt (Some parent) b i
   widens_below parent Nothing i h is = absurd (is)
@@ -388,7 +364,7 @@ module _ (b : List ℕ) where
       (λ e same. fits_program (name_at e.name) (subst (λ n. IsProgram n b) (sym same) p)) (bucket_of lists.now name) i
       (listed_in_bucket (list_all (λ e. is_row_with (Some parent) (asks_program (name_at e.name)) e.row)) refl _ lists.now name
       (both_right (all_ascend named_row lists.now) _ h)) is
-  widens_below parent (Roots roots) i h is = widens_root (Some parent) roots.now i (both_right (all_ascend rooted_row roots.now) _ h) is
+  widens_below parent (Roots roots) i h is = widens_root (Some parent) roots.now i (both_right (all_ascend named_row roots.now) _ h) is
   widens_below parent (Packages entries folders) i h (inl is) = is.1
   widens_below parent (Packages entries folders) i h (inr is) =
       rows_widen named_row (λ e. IsPackageWith (name_at e.name) b) (λ e. asks_folder (name_at e.name)) (Some parent) b (λ e p. fits_folder (name_at e.name) p) folders.now i
@@ -528,7 +504,7 @@ module _ (by_place : (place : ℕ) (t buf : List ℕ) → IsTrue (stands place t
   all_parentless index names each named b all i = (
     λ is. elim is [
       | inl tried_row ↦ tried_row.1
-      | inr (inl (inl r)) ↦ widens_root b None names.roots.now i (both_right (all_ascend rooted_row names.roots.now) _ named.roots) r
+      | inr (inl (inl r)) ↦ widens_root b None names.roots.now i (both_right (all_ascend named_row names.roots.now) _ named.roots) r
       | inr (inl (inr r)) ↦ widens_key b names.keys.now i named.keys r
       | inr (inr t) ↦ widens_text b index.texts i each.texts t
     ],
@@ -636,7 +612,7 @@ pub none_told : (names : ByName) (b : List ℕ) → Leads → (¬ MayHaveName b)
 none_told names b leads none i (inl (name, rest, element, is)) = none (root_starts b leads name rest element)
 none_told names b leads none i (inr (key, rest, first, is)) = none (key_starts b key rest first)
 
--- the first byte behind white space tells which of them there may be
+-- the first byte after white space tells which of them there may be
 module _ (b : List ℕ) (leads : Leads) where
   root_dark : (name rest : List ℕ) → IsRootElement name rest b → StandsFirst 0x3C b ⊎ StandsFirst 0xEF b
   root_dark name rest element = markup_first b (leads.root name b (rest, element))
@@ -652,14 +628,14 @@ module _ (b : List ℕ) (leads : Leads) where
   ]
 
   module _ (dark : ℕ) (is_dark : ¬ IsBlank dark) (stands_first : StandsFirst dark b) where
-    pub no_root : (roots : List (Bor (List Rooted))) → ¬ (dark ≡ 0x3C) → ¬ (dark ≡ 0xEF) → (i : ℕ) → ¬ IsRooted b roots i
+    pub no_root : (roots : List (Bor (List Named))) → ¬ (dark ≡ 0x3C) → ¬ (dark ≡ 0xEF) → (i : ℕ) → ¬ IsRooted b roots i
     no_root roots other mark i (name, rest, element, is) = elim (root_dark name rest element) [
       | inl first ↦ other (first_same dark 0x3C b is_dark (λ h. grind arith) stands_first first)
       | inr first ↦ mark (first_same dark 0xEF b is_dark (λ h. grind arith) stands_first first)
     ]
 
 module _ (b : List ℕ) (dark : ℕ) (is_dark : ¬ IsBlank dark) (stands_first : StandsFirst dark b) where
-  pub no_key : (keys : List Keyed) → ¬ (dark ≡ 0x7B) → ¬ (dark ≡ 0xEF) → (i : ℕ) → ¬ IsKeyed b keys i
+  pub no_key : (keys : List Named) → ¬ (dark ≡ 0x7B) → ¬ (dark ≡ 0xEF) → (i : ℕ) → ¬ IsKeyed b keys i
   no_key keys other mark i (key, rest, is, others) = elim (key_first key rest b is) [
     | inl first ↦ other (first_same dark 0x7B b is_dark (λ h. grind arith) stands_first first)
     | inr first ↦ mark (first_same dark 0xEF b is_dark (λ h. grind arith) stands_first first)
@@ -682,7 +658,7 @@ told_rooted names b on before after same holds h =
       | inr k ↦ absurd (no_key b 0x3C (λ blank. grind arith) (front_stands 0x3C b lt first) names.keys.now (λ s. omega arith) (λ s. omega arith) i k)
     ]) h
 
--- and behind its first "<" stands an element or another "<"
+-- and after its first "<" stands an element or another "<"
 pub root_may : (b : List ℕ) → Leads → (name rest : List ℕ) → IsRootElement name rest b → MayBeRooted b
 root_may b leads name rest element = elim (leads.root name b (rest, element)) [
   | inl o ↦ inl o

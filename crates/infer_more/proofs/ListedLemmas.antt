@@ -92,10 +92,10 @@ module _ {A B C : Type 0} (f : A → C) (g : B → C) (xs : List A) (ys : List B
       × AreAlike16 (s + 192) × AreAlike16 (s + 208) × AreAlike16 (s + 224) × AreAlike16 (s + 240)
 
   joined : (s : ℕ) → map f (stretch xs s 16) ≡ map g (stretch ys s 16) → map f (drop (s + 16) xs) ≡ map g (drop (s + 16) ys) → map f (drop s xs) ≡ map g (drop s ys)
-  joined s here behind =
+  joined s here after =
       let left = ap (map f) (sym (take-append-drop 16 (drop s xs))) ∙ map-append f (stretch xs s 16) (drop 16 (drop s xs)) in
       let right = ap (map g) (sym (take-append-drop 16 (drop s ys))) ∙ map-append g (stretch ys s 16) (drop 16 (drop s ys)) in
-      let rest = ap (map f) (drop-drop 16 s xs) ∙ (behind ∙ sym (ap (map g) (drop-drop 16 s ys))) in
+      let rest = ap (map f) (drop-drop 16 s xs) ∙ (after ∙ sym (ap (map g) (drop-drop 16 s ys))) in
       left ∙ (ap (λ l. l ++ map f (drop 16 (drop s xs))) here ∙ (ap (λ l. map g (stretch ys s 16) ++ l) rest ∙ sym right))
 
   -- from s on
@@ -103,16 +103,16 @@ module _ {A B C : Type 0} (f : A → C) (g : B → C) (xs : List A) (ys : List B
   AreAlikeFrom s = map f (drop s xs) ≡ map g (drop s ys)
 
   step : (s t : ℕ) → t ≡ s + 16 → AreAlike16 s → AreAlikeFrom t → AreAlikeFrom s
-  step s t next here behind = joined s here (subst AreAlikeFrom next behind)
+  step s t next here after = joined s here (subst AreAlikeFrom next after)
 
-  -- 256 of them, and those behind
+  -- 256 of them, and those after
   pub walked : (s t : ℕ) → t ≡ s + 256 → AreAlike s → AreAlikeFrom t → AreAlikeFrom s
-  walked s t next are behind =
+  walked s t next are after =
       let (a, b, c, d, e, h, i, j, k, l, m, n, o, p, q, r) = are in
       step s (s + 16) refl a (step (s + 16) (s + 32) (omega arith) b (step (s + 32) (s + 48) (omega arith) c (step (s + 48) (s + 64) (omega arith) d
       (step (s + 64) (s + 80) (omega arith) e (step (s + 80) (s + 96) (omega arith) h (step (s + 96) (s + 112) (omega arith) i (step (s + 112) (s + 128) (omega arith) j
       (step (s + 128) (s + 144) (omega arith) k (step (s + 144) (s + 160) (omega arith) l (step (s + 160) (s + 176) (omega arith) m (step (s + 176) (s + 192) (omega arith) n
-      (step (s + 192) (s + 208) (omega arith) o (step (s + 208) (s + 224) (omega arith) p (step (s + 224) (s + 240) (omega arith) q (step (s + 240) t (omega arith) r behind)))))))))))))))
+      (step (s + 192) (s + 208) (omega arith) o (step (s + 208) (s + 224) (omega arith) p (step (s + 224) (s + 240) (omega arith) q (step (s + 240) t (omega arith) r after)))))))))))))))
 
 -- nothing is read where nothing stands
 none_read : {A : Type 0} (xs : List A) (i : ℕ) (d : A) → slice_get xs i ≡ None → d ≡ get_or xs i d

@@ -6,7 +6,7 @@ use Rattle.infer_formats.proofs.JsonLemmas.{begins}
 use Rattle.infer_more.specs.Laws.{OthersAreLost}
 use Rattle.infer_more.proofs.LawLemmas.{are_bytes, text_lost}
 
--- a list without items, and what the symbols behind it stand for
+-- a list without items, and what the symbols after it stand for
 list_stands : {ss : List _} {v : List ℕ} → Stands ss v → Stands (text ∷ ss) (0x5B ∷ 0x5D ∷ v)
 list_stands rest =
     by_rule (byte 0x5B ∷ blanks ∷ items 127 ∷ []) (inl refl) (one (omega arith) (omega arith)

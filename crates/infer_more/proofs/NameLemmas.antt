@@ -23,7 +23,7 @@ name_ascii (x ∷ xs) e =
     let both = and_parts (is_alphanumeric x && nat_le (length xs) 126) (list_all is_name_byte xs) e in
     IsAscii-cons x xs (alphanumeric_ascii x (and_parts (is_alphanumeric x) (nat_le (length xs) 126) both.0).0) (all_ascii xs both.1)
 
--- a text whose parts before and behind its first "/" are ASCII
+-- a text whose parts before and after its first "/" are ASCII
 parted : (xs : List ℕ) → IsAscii (take (slash_place xs) xs) → IsAscii (drop 1 (drop (slash_place xs) xs)) → IsAscii xs
 parted [] a b = IsAscii-nil
 parted (x ∷ xs) a b = elim (cases_Bool (x == 0x2F)) [

@@ -1,4 +1,4 @@
--- Stretches of a long list that are found in few steps: by what is left of the list behind each 64 elements, which is told once
+-- Stretches of a long list that are found in few steps: by what is left of the list after each 64 elements, which is told once
 -- for all of them. The prover drops what stands before a stretch element by element, and anew for each.
 use Rattle.std.proofs.Common.{◌≡◌, ◌+◌, ◌*◌, ◌/◌, ◌%◌, ◌∙◌, ℕ, zero, suc, List, [], ◌∷◌, Option, ap, arith, drop, refl, slice_get, take}
 use Rattle.std.proofs.Math.Path.{fun_ext}
@@ -9,12 +9,12 @@ use Rattle.infer_evidence.specs.Spans.{stretch}
 abbrev pub Stretches : Type 0 → Type 0
 Stretches A = ℕ → ℕ → List A
 
--- a list, and what is left of it behind each 64 elements, so many times
+-- a list, and what is left of it after each 64 elements, so many times
 abbrev rests : {A : Type 0} → ℕ → List A → List (List A)
 rests zero list = []
 rests (suc n) list = list ∷ rests n (drop 64 list)
 
--- what is left behind n times 64 elements, also where these rests end before
+-- what is left after n times 64 elements, also where these rests end before
 abbrev rest_at : {A : Type 0} → List A → List (List A) → ℕ → List A
 rest_at list [] n = drop (64 * n) list
 rest_at list (rest ∷ rests) zero = rest

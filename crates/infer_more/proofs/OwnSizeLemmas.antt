@@ -4,7 +4,7 @@ use Rattle.std.specs.List.{list_all}
 use Rattle.std.proofs.lemmas.Bool.{and_parts, leb-true}
 use Rattle.std.proofs.lemmas.List.{length-drop, length-take}
 use Rattle.infer.specs.Triple.{Triple}
-use Rattle.infer_notation.specs.Words.{behind_blanks}
+use Rattle.infer_notation.specs.Words.{after_blanks}
 use Rattle.infer_more.specs.Laws.{OwnTextsFit, TextsFit}
 use Rattle.infer_more.specs.Line.{Fields, Row, fields_of, is_alphanumeric, is_mime_type, is_name, is_name_byte, is_remark, line_of, row_of, slash_place}
 use Rattle.infer_more.specs.Text.{Answers, IsFirstShown, lines_of, rows_in, with_row}
@@ -40,11 +40,11 @@ row_fits f r is =
     subst (λ (r : Row). Fits r.shows) (sym told.is) (omega arith, omega arith)
 
 line_fits : (line : List ℕ) (r : Row) → line_of line ≡ Some (Some r) → Fits r.shows
-line_fits line r is = chosen (is_remark (behind_blanks line)) refl
+line_fits line r is = chosen (is_remark (after_blanks line)) refl
   where
-    chosen : (b : Bool) → is_remark (behind_blanks line) ≡ b → Fits r.shows
+    chosen : (b : Bool) → is_remark (after_blanks line) ≡ b → Fits r.shows
     chosen true remark = absurd (let none : Some None ≡ Some (Some r) = sym (rw remark refl) ∙ is in cc)
-    chosen false other = row_fits (fields_of (behind_blanks line)) r (row_in line (behind_blanks line) r _ refl other refl is)
+    chosen false other = row_fits (fields_of (after_blanks line)) r (row_in line (after_blanks line) r _ refl other refl is)
 
 module _ (P : Row → Type 0) (t : Triple) where
   -- what a line shows, if the others show what fits
@@ -52,7 +52,7 @@ module _ (P : Row → Type 0) (t : Triple) where
       → Fits t
   in_line line None others is later first = later first
   in_line line (Some r) others is later (inl here) = subst Fits (let shown = here.1 in let same : r.shows ≡ t = cc in same) (line_fits line r is)
-  in_line line (Some r) others is later (inr behind) = later behind.1
+  in_line line (Some r) others is later (inr after) = later after.1
 
   own_fits : (lines : List (List ℕ)) (rows : List Row) → rows_in lines ≡ Some rows → IsFirstShown P rows (Some t) → Fits t
   own_fits [] rows are first = absurd (let none : [] ≡ rows = cc in let shown = subst (λ rs. IsFirstShown P rs (Some t)) (sym none) first in cc)

@@ -1,4 +1,4 @@
--- What a computation says of buffers that a built-in signature refuses: by their first byte, by what stands behind white
+-- What a computation says of buffers that a built-in signature refuses: by their first byte, by what stands after white
 -- space, or since they begin with no frame; and whether they are markup.
 use Rattle.infer_more.proofs.Common.{◌≡◌, ◌⊎◌, ◌↔◌, inl, inr, ℕ, zero, suc, Bool, true, false, not, IsTrue, List, [], ◌∷◌, ◌++◌, get_or, length, map, take, refl, ap, sym, subst, ◌∙◌, codes, arith, if◌then◌else◌, nat_tests, OccursAt, OccursAt-append, BuiltIn, NoneHas, is_white, Accepts, table, Known, proved, refuted, unknown, at_most, each_before, either, needs, negated, proved_if, refuted_if, takes, ByPlace, occurs, not_both, ◌>>◌}
 use Rattle.std.proofs.Common.{◌≤◌, append-nil, le_refl}

@@ -1,8 +1,8 @@
 -- Rows that are ruled out, and that those are all which could widen an answer before the least that does.
-use Rattle.infer_more.proofs.Common.{◌≡◌, ◌↔◌, ◌+◌, ◌<◌, ◌≤◌, ◌==◌, ◌&&◌, ◌∷◌, ◌∙◌, [], inl, inr, ℕ, zero, suc, Bool, true, false, false≢true, IsTrue, List, Option, None, Some, if◌then◌else◌, length, ap, subst, sym, arith, eq-eqb, eqb-true, cases_lt, has_byte, candidate, candidates, is_listed, IsBuffer, IsFirstOf, IsFoundBelow, IsLeast, IsRowOf, IsTried, Named, Rooted, Widens, WidensAt, Bor, further, FURTHER_COUNT}
+use Rattle.infer_more.proofs.Common.{◌≡◌, ◌↔◌, ◌+◌, ◌<◌, ◌≤◌, ◌==◌, ◌&&◌, ◌∷◌, ◌∙◌, [], inl, inr, ℕ, zero, suc, Bool, true, false, false≢true, IsTrue, List, Option, None, Some, if◌then◌else◌, length, ap, subst, sym, arith, eq-eqb, eqb-true, cases_lt, has_byte, candidate, candidates, is_listed, IsBuffer, IsFirstOf, IsFoundBelow, IsLeast, IsRowOf, IsTried, Named, Widens, WidensAt, Bor, further, FURTHER_COUNT}
 use Rattle.std.proofs.Common.{ap₂}
 use Rattle.std.proofs.lemmas.Bool.{or_cases, or_left, or_right}
-use Rattle.infer_more.specs.Index.{FindsBelow, FindsByLead, bucket_at, bucket_by, led_rows, entries_at, picked, rows_in, rows_in_each, rows_of, named_row, rooted_row}
+use Rattle.infer_more.specs.Index.{FindsBelow, FindsByLead, bucket_at, bucket_by, led_rows, entries_at, picked, rows_in, rows_in_each, rows_of, named_row}
 use Rattle.infer_more.specs.Evidence.{IsSameAt}
 use Rattle.infer_more.specs.declared.index.Below as below
 use Rattle.infer_more.specs.declared.index.Below.TheVariants.{ClassIds, Entries, Nothing, Packages, Programs, Roots, Tagged}
@@ -63,7 +63,7 @@ module _ (parent : ℕ) (b : List ℕ) (i : ℕ) where
   of_way (ClassIds entries ids) (inr is) = listed_right (candidates b entries.now) _ i (in_rows named_row _ i ids.now is)
   of_way (Programs entries lists) (inl is) = listed_left _ _ i is.0
   of_way (Programs entries lists) (inr (name, p, is)) = listed_right (candidates b entries.now) _ i (in_buckets named_row _ i _ lists.now name is)
-  of_way (Roots roots) (name, rest, element, is) = in_buckets rooted_row _ i _ roots.now name is
+  of_way (Roots roots) (name, rest, element, is) = in_buckets named_row _ i _ roots.now name is
   of_way (Packages entries folders) (inl is) = listed_left _ _ i is.0
   of_way (Packages entries folders) (inr is) = listed_right (candidates b entries.now) _ i (in_rows named_row _ i folders.now is)
   of_way (Tagged entries tag other tagged) (inl is) = listed_left _ _ i is.0

@@ -44,18 +44,18 @@ pub row_passes : (test : ℕ → Further → Bool) → NoRowFails test → (i : 
 row_passes test none i d lt = subst (λ o. IsTrue (option_map_or (test i) o true)) (slice_get-get_or further i d lt) (each_row test none i)
 
 module _ (test : ℕ → Further → Bool) where
-  passes_behind : (k n : ℕ) (rows : List Further) → failing test n (take k rows) ≡ [] → failing test (n + k) (drop k rows) ≡ [] → failing test n rows ≡ []
-  passes_behind zero n rows here behind = rw add-zero at behind
-  passes_behind (suc k) n [] here behind = refl
-  passes_behind (suc k) n (r ∷ rows) here behind =
+  passes_after : (k n : ℕ) (rows : List Further) → failing test n (take k rows) ≡ [] → failing test (n + k) (drop k rows) ≡ [] → failing test n rows ≡ []
+  passes_after zero n rows here after = rw add-zero at after
+  passes_after (suc k) n [] here after = refl
+  passes_after (suc k) n (r ∷ rows) here after =
       let (first, rest) = first_passes (test n r) n _ here in
       let same : n + suc k ≡ suc n + k = omega arith in
-      let later = passes_behind k (suc n) rows rest (subst (λ m. failing test m (drop k rows) ≡ []) same behind) in
+      let later = passes_after k (suc n) rows rest (subst (λ m. failing test m (drop k rows) ≡ []) same after) in
       rw first later
 
-  -- none of 128 rows from n on fails, and none that stands behind them
+  -- none of 128 rows from n on fails, and none that stands after them
   pub none_from : (n : ℕ) → failing test n (take 128 (drop n further)) ≡ [] → failing test (n + 128) (drop (n + 128) further) ≡ [] → failing test n (drop n further) ≡ []
-  none_from n here behind = passes_behind 128 n (drop n further) here (subst (λ rows. failing test (n + 128) rows ≡ []) (sym (drop-drop 128 n further)) behind)
+  none_from n here after = passes_after 128 n (drop n further) here (subst (λ rows. failing test (n + 128) rows ≡ []) (sym (drop-drop 128 n further)) after)
 
 pub all_pass : (test : Further → Bool) → NoRowFails (λ i. test) → IsTrue (list_all test further)
 all_pass test none = list_all-from_AllPass test further (row_passes (λ i. test) none)

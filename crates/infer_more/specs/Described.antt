@@ -10,7 +10,7 @@ use Rattle.infer_more.specs.Text.{is_line_end, with_row}
 abbrev pub AreBlanks : List ℕ → Type 0
 AreBlanks xs = IsTrue (list_all is_blank xs)
 
--- a word at the front of a text, all the blanks behind it, of which there is one at least, and the rest
+-- a word at the front of a text, all the blanks after it, of which there is one at least, and the rest
 pub record BeginsWithWord (text word rest : List ℕ) : Type 0 where
   pub gap : List ℕ
   pub whole : text ≡ word ++ (gap ++ rest)
@@ -18,7 +18,7 @@ pub record BeginsWithWord (text word rest : List ℕ) : Type 0 where
   pub dark : IsTrue (list_all (λ x. not (is_blank x)) word)
   pub blanks : AreBlanks gap
   pub parted : 0 < length gap
-  pub behind : first_passes is_blank rest ≡ false
+  pub after : first_passes is_blank rest ≡ false
 
 -- "-" stands for no parent, and the extension of a built-in row for that row
 abbrev pub NamesParent : List ℕ → Option (List ℕ) → Type 0

@@ -2,7 +2,7 @@
 use Rattle.std.specs.Prelude.{◌+◌, ◌*◌, ℕ, Bool, not, List, [], ◌∷◌, Option, None, Some, get_or, if◌then◌else◌}
 use Rattle.infer_more.specs.Line.{is_remark}
 use Rattle.infer_more.specs.Text.{lines_of}
-use Rattle.infer_notation.specs.Words.{behind_blanks}
+use Rattle.infer_notation.specs.Words.{after_blanks}
 
 -- the first four bytes of an extension as a number, and 0 for none: equal extensions have the same digest
 abbrev pub digest_of : Option (List ℕ) → ℕ
@@ -11,7 +11,7 @@ digest_of (Some w) = get_or w 0 0 + 0x100 * get_or w 1 0 + 0x1_0000 * get_or w 2
 
 -- the line is neither blank nor a remark
 abbrev pub is_row_line : List ℕ → Bool
-is_row_line line = not (is_remark (behind_blanks line))
+is_row_line line = not (is_remark (after_blanks line))
 
 -- the lines that are neither blank nor remarks
 abbrev pub row_lines : List (List ℕ) → List (List ℕ)

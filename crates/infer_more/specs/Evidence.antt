@@ -3,7 +3,7 @@ use Rattle.std.specs.Prelude.{◌≡◌, ◌↔◌, ◌≤◌, ◌⊎◌, ℕ, I
 use Rattle.infer_deep.specs.Signatures.{MayBecome}
 use Rattle.infer_evidence.specs.Evidence.{AgreesOn}
 use Rattle.infer_evidence.specs.declared.ranges.Evidence.{Evidence}
-use Rattle.infer_formats.specs.Markup.{IsRootOf, TellsRoot}
+use Rattle.infer_formats.specs.Markup.{IsRootOf, DecidesRoot}
 use Rattle.infer_formats.specs.Open.{Stays}
 use Rattle.infer.specs.Buffer.{IsBuffer}
 use Rattle.infer_notation.specs.Alternative.{Accepted, Alternative}
@@ -25,8 +25,8 @@ abbrev pub Decides : Evidence → List ℕ → Option ℕ → Type 0
 Decides e b answer = (c : List ℕ) → IsBuffer c → AgreesOn e b c → IsWider c answer
 
 -- what agrees on the evidence after is what agrees on that before and of which P is known
-abbrev pub Tells : Evidence → Evidence → List ℕ → (List ℕ → Type 0) → Type 0
-Tells before after b P = (c : List ℕ) → IsBuffer c → AgreesOn after b c → AgreesOn before b c × P c
+abbrev pub Proves : Evidence → Evidence → List ℕ → (List ℕ → Type 0) → Type 0
+Proves before after b P = (c : List ℕ) → IsBuffer c → AgreesOn after b c → AgreesOn before b c × P c
 
 -- the signature of further row i accepts c just if it accepts b
 abbrev pub IsAlikeAt : ℕ → List ℕ → List ℕ → Type 0
@@ -42,7 +42,7 @@ IsRowDecided i b = MatchOption (slice_get further i) (Unit {0}) (λ r. IsSignatu
 
 -- the root element that was read is that of b, and the front tells it
 abbrev pub IsRootRead : RootRead → List ℕ → Type 0
-IsRootRead read b = IsRootOf read.root b × IfSome read.front (λ n. (n ≤ length b) × TellsRoot (take n b))
+IsRootRead read b = IsRootOf read.root b × IfSome read.front (λ n. (n ≤ length b) × DecidesRoot (take n b))
 
 -- c has the byte of b at the place, or both end before it
 abbrev pub IsSameAt : ℕ → List ℕ → List ℕ → Type 0

@@ -25,11 +25,9 @@ use Rattle.infer_more.specs.Wider.{WidensAt}
 use Rattle.infer_more.specs.declared.index.Below as below
 use Rattle.infer_more.specs.declared.index.Below.TheVariants.{ClassIds, Entries, Nothing, Packages, Programs, Roots, Tagged}
 use Rattle.infer_more.specs.declared.index.Entry.{Entry}
-use Rattle.infer_more.specs.declared.index.Keyed.{Keyed}
 use Rattle.infer_more.specs.declared.index.ByLead.{ByLead}
 use Rattle.infer_more.specs.declared.index.Named.{Named}
 use Rattle.infer_more.specs.declared.index.Parentless.{Parentless}
-use Rattle.infer_more.specs.declared.index.Rooted.{Rooted}
 use Rattle.infer_more.specs.declared.index.Spot.{Spot}
 use Rattle.infer_more.specs.declared.index.Texts.{Texts}
 use Rattle.infer_more.specs.declared.index.ByName.{ByName}
@@ -124,12 +122,6 @@ name_at span = stretch name_texts span.start span.count
 abbrev pub named_row : Named → ℕ
 named_row e = e.row
 
-abbrev pub rooted_row : Rooted → ℕ
-rooted_row e = e.row
-
-abbrev pub keyed_row : Keyed → ℕ
-keyed_row e = e.row
-
 -- row i is listed with a name that has P
 abbrev pub IsNamed : (List ℕ → Type 0) → List Named → ℕ → Type 0
 IsNamed P names i = IsRowOf named_row (λ e. P (name_at e.name)) names i
@@ -143,12 +135,9 @@ abbrev pub bucket_by : {A : Type 0} → (ℕ → ℕ) → List (Bor (List A)) �
 bucket_by bits buckets [] = []
 bucket_by bits buckets (x ∷ xs) = bucket_at buckets (bits x)
 
--- of names the low five bits tell it, and of roots the five bits above the lowest
+-- by the five bits above the lowest
 abbrev pub bucket_of : List (Bor (List Named)) → List ℕ → List Named
-bucket_of buckets name = bucket_by (λ x. x % 32) buckets name
-
-abbrev pub roots_of : List (Bor (List Rooted)) → List ℕ → List Rooted
-roots_of buckets name = bucket_by (λ x. (x / 2) % 32) buckets name
+bucket_of buckets name = bucket_by (λ x. (x / 2) % 32) buckets name
 
 -- the rows of each bucket ascend
 abbrev pub all_ascend : {A : Type 0} → (A → ℕ) → List (Bor (List A)) → Bool
@@ -158,31 +147,22 @@ all_ascend row buckets = list_all (λ some. ascends row some.now) buckets
 abbrev pub IsOfProgram : List ℕ → List (Bor (List Named)) → ℕ → Type 0
 IsOfProgram b lists i = (name : List ℕ) × IsProgram name b × IsNamed (λ other. other ≡ name) (bucket_of lists name) i
 
--- the text, if there is one, stands in a tag of which this is the rest
-abbrev pub HasTagText : List ℕ → Option Span → Type 0
-HasTagText rest None = Unit {0}
-HasTagText rest (Some t) = HasInTag (name_at t) rest
+-- the text, if there is one, has P
+abbrev pub HasText : (List ℕ → Type 0) → Option Span → Type 0
+HasText P None = Unit {0}
+HasText P (Some t) = P (name_at t)
 
--- row i is listed with the name of that root element and a text in its tag
-abbrev pub IsRootedBy : List ℕ → List ℕ → List Rooted → ℕ → Type 0
-IsRootedBy name rest roots i = IsRowOf rooted_row (λ e. (name_at e.name ≡ name) × HasTagText rest e.text) roots i
+-- row i is listed with that name, and a text that has P if it has one
+abbrev pub IsNamedWith : (List ℕ → Type 0) → List ℕ → List Named → ℕ → Type 0
+IsNamedWith P name names i = IsRowOf named_row (λ e. (name_at e.name ≡ name) × HasText P e.text) names i
 
--- row i is listed with the root element of the buffer
-abbrev pub IsRooted : List ℕ → List (Bor (List Rooted)) → ℕ → Type 0
-IsRooted b buckets i = (name rest : List ℕ) × IsRootElement name rest b × IsRootedBy name rest (roots_of buckets name) i
+-- row i is listed with the root element of the buffer, and what is asked in its tag
+abbrev pub IsRooted : List ℕ → List (Bor (List Named)) → ℕ → Type 0
+IsRooted b buckets i = (name rest : List ℕ) × IsRootElement name rest b × IsNamedWith (λ t. HasInTag t rest) name (bucket_of buckets name) i
 
--- the text, if there is one, is the value behind the colon of a key
-abbrev pub HasKeyValue : List ℕ → Option Span → Type 0
-HasKeyValue rest None = Unit {0}
-HasKeyValue rest (Some t) = HasValue (name_at t) rest
-
--- row i is listed with that key and its value
-abbrev pub IsKeyedBy : List ℕ → List ℕ → List Keyed → ℕ → Type 0
-IsKeyedBy key rest keys i = IsRowOf keyed_row (λ e. (name_at e.key ≡ key) × HasKeyValue rest e.value) keys i
-
--- row i is listed with the first key of the object that begins the buffer
-abbrev pub IsKeyed : List ℕ → List Keyed → ℕ → Type 0
-IsKeyed b keys i = (key rest : List ℕ) × IsFirstKey key rest b × IsKeyedBy key rest keys i
+-- row i is listed with the first key of the object that begins the buffer, and its value
+abbrev pub IsKeyed : List ℕ → List Named → ℕ → Type 0
+IsKeyed b keys i = (key rest : List ℕ) × IsFirstKey key rest b × IsNamedWith (λ t. HasValue t rest) key keys i
 
 -- row i is found by the root element of the buffer, or by its first key
 abbrev pub IsFoundByName : ByName → List ℕ → ℕ → Type 0
@@ -213,7 +193,7 @@ rows_of Nothing b = []
 rows_of (Entries entries) b = candidates b entries.now
 rows_of (ClassIds entries ids) b = candidates b entries.now ++ rows_in named_row ids.now
 rows_of (Programs entries lists) b = candidates b entries.now ++ rows_in_each named_row lists.now
-rows_of (Roots roots) b = rows_in_each rooted_row roots.now
+rows_of (Roots roots) b = rows_in_each named_row roots.now
 rows_of (Packages entries folders) b = candidates b entries.now ++ rows_in named_row folders.now
 rows_of (Tagged entries tag other tagged) b = candidates b entries.now ++ candidates b tagged.now
 
@@ -268,21 +248,15 @@ same [] (y ∷ ys) = false
 same (x ∷ xs) [] = false
 same (x ∷ xs) (y ∷ ys) = x == y && same xs ys
 
--- row i is listed with the name, or with the root
-abbrev pub has_named : ℕ → List Named → List ℕ → Bool
-has_named i names name = list_any (λ e. e.row == i && same (name_at e.name) name) names
-
 abbrev pub same_text : Option Span → Option (List ℕ) → Bool
 same_text None None = true
 same_text None (Some t) = false
 same_text (Some s) None = false
 same_text (Some s) (Some t) = same (name_at s) t
 
-abbrev pub has_rooted : ℕ → List Rooted → List ℕ → Option (List ℕ) → Bool
-has_rooted i roots name t = list_any (λ e. e.row == i && (same (name_at e.name) name && same_text e.text t)) roots
-
-abbrev pub has_keyed : ℕ → List Keyed → List ℕ → Option (List ℕ) → Bool
-has_keyed i keys key value = has_no_quote key && list_any (λ e. e.row == i && (same (name_at e.key) key && same_text e.value value)) keys
+-- row i is listed with the name, and with the text if there is one
+abbrev pub has_named : ℕ → List Named → List ℕ → Option (List ℕ) → Bool
+has_named i names name t = list_any (λ e. e.row == i && (same (name_at e.name) name && same_text e.text t)) names
 
 -- each buffer that fits the alternative has row i among those that the entries try
 abbrev pub is_tried_below : ℕ → List Entry → Alternative → Bool
@@ -290,25 +264,25 @@ is_tried_below i entries a = list_all (λ l. is_covered i l entries) (lines a)
 
 -- or is found row i by a name
 abbrev pub is_in_programs : ℕ → List (Bor (List Named)) → Alternative → Bool
-is_in_programs i lists (related (program name)) = has_named i (bucket_of lists name) name
+is_in_programs i lists (related (program name)) = has_named i (bucket_of lists name) name None
 is_in_programs i lists other = false
 
 abbrev pub is_in_class_ids : ℕ → List Named → Alternative → Bool
-is_in_class_ids i ids (related (class_id id)) = has_named i ids id
+is_in_class_ids i ids (related (class_id id)) = has_named i ids id None
 is_in_class_ids i ids other = false
 
-abbrev pub is_in_roots : ℕ → List (Bor (List Rooted)) → Alternative → Bool
-is_in_roots i buckets (related (root name)) = has_rooted i (roots_of buckets name) name None
-is_in_roots i buckets (related (root_with name t)) = has_rooted i (roots_of buckets name) name (Some t)
+abbrev pub is_in_roots : ℕ → List (Bor (List Named)) → Alternative → Bool
+is_in_roots i buckets (related (root name)) = has_named i (bucket_of buckets name) name None
+is_in_roots i buckets (related (root_with name t)) = has_named i (bucket_of buckets name) name (Some t)
 is_in_roots i buckets other = false
 
-abbrev pub is_in_keys : ℕ → List Keyed → Alternative → Bool
-is_in_keys i keys (related (first_key k)) = has_keyed i keys k None
-is_in_keys i keys (related (first_key_with k v)) = has_keyed i keys k (Some v)
+abbrev pub is_in_keys : ℕ → List Named → Alternative → Bool
+is_in_keys i keys (related (first_key k)) = has_no_quote k && has_named i keys k None
+is_in_keys i keys (related (first_key_with k v)) = has_no_quote k && has_named i keys k (Some v)
 is_in_keys i keys other = false
 
 abbrev pub is_in_folders : ℕ → List Named → Alternative → Bool
-is_in_folders i folders (related (package_with folder)) = has_named i folders folder
+is_in_folders i folders (related (package_with folder)) = has_named i folders folder None
 is_in_folders i folders other = false
 
 -- it asks for one of two tags
@@ -430,7 +404,7 @@ abbrev pub AreClassIds : List Named → Type 0
 AreClassIds ids = All (λ (e : Named). length (name_at e.name) ≡ 16) ids
 
 -- each root is one that the row which is found by it asks for
-abbrev pub are_roots_of : Option ℕ → List (Bor (List Rooted)) → Bool
+abbrev pub are_roots_of : Option ℕ → List (Bor (List Named)) → Bool
 are_roots_of parent buckets = list_all (λ some. list_all (λ e. is_row_with parent (asks_root (name_at e.name) e.text) e.row) some.now) buckets
 
 -- so is each name below that row, and the rows ascend
@@ -440,7 +414,7 @@ is_true_below parent (ClassIds entries ids) =
     ascends named_row ids.now && list_all (λ e. length (name_at e.name) == 16 && is_row_with (Some parent) (asks_class_id (name_at e.name)) e.row) ids.now
 is_true_below parent (Programs entries lists) =
     all_ascend named_row lists.now && list_all (λ names. list_all (λ e. is_row_with (Some parent) (asks_program (name_at e.name)) e.row) names.now) lists.now
-is_true_below parent (Roots roots) = all_ascend rooted_row roots.now && are_roots_of (Some parent) roots.now
+is_true_below parent (Roots roots) = all_ascend named_row roots.now && are_roots_of (Some parent) roots.now
 is_true_below parent (Packages entries folders) =
     ascends named_row folders.now && list_all (λ e. is_application (name_at e.name) && is_row_with (Some parent) (asks_folder (name_at e.name)) e.row) folders.now
 is_true_below parent other = true
@@ -457,11 +431,11 @@ are_texts t =
     && (nat_le t.lines t.json && nat_le t.json t.plain)
 
 -- the rows of roots are such rows, and ascend, and so are those of first keys
-abbrev pub are_rooted : List (Bor (List Rooted)) → Bool
-are_rooted buckets = all_ascend rooted_row buckets && are_roots_of None buckets
+abbrev pub are_rooted : List (Bor (List Named)) → Bool
+are_rooted buckets = all_ascend named_row buckets && are_roots_of None buckets
 
-abbrev pub are_keyed : List Keyed → Bool
-are_keyed keys = ascends keyed_row keys && list_all (λ e. is_row_with None (asks_key (name_at e.key) e.value) e.row) keys
+abbrev pub are_keyed : List Named → Bool
+are_keyed keys = ascends named_row keys && list_all (λ e. is_row_with None (asks_key (name_at e.name) e.text) e.row) keys
 
 -- in this way each further row below that built-in row is found, and none other
 pub record IsWayBelow (parent : ℕ) (way : below.Below) : Type 0 where

@@ -11,7 +11,7 @@ use Rattle.infer_notation.specs.Alternative.{Alternative}
 use Rattle.infer_notation.specs.Grammar.{unread}
 use Rattle.infer_notation.specs.Reasons.{is_of_token}
 use Rattle.infer_notation.specs.Signature.{signature_of}
-use Rattle.infer_notation.specs.Words.{◌>>=◌, behind_blanks, behind_word, is_digit, word}
+use Rattle.infer_notation.specs.Words.{◌>>=◌, after_blanks, after_word, is_digit, word}
 use Rattle.infer_notation.specs.declared.reason.Flaw.{Flaw}
 use Rattle.infer_more.specs.declared.types.line.Fields as declared
 
@@ -86,10 +86,10 @@ fields_listed f = record {
 
 abbrev pub fields_of : List ℕ → Fields
 fields_of t =
-    let second = behind_word t in
-    let third = behind_word second in
-    let fourth = behind_word third in
-    record { extension = word t; mime_type = word second; class = word third; parent = word fourth; signature = behind_word fourth }
+    let second = after_word t in
+    let third = after_word second in
+    let fourth = after_word third in
+    record { extension = word t; mime_type = word second; class = word third; parent = word fourth; signature = after_word fourth }
 
 -- what is wrong with a line without blanks at its front: it is at a place of the line or at its end, and if no token stands
 -- there, at the first place of its signature at which none does
@@ -116,4 +116,4 @@ is_remark (x ∷ xs) = x == 0x23
 
 -- what a line describes: a row, or none if it is a remark or blank. There is no answer if it describes neither
 abbrev pub line_of : List ℕ → Option (Option Row)
-line_of line = let t = behind_blanks line in if is_remark t then Some None else option_map (λ r. Some r) (row_of (fields_of t))
+line_of line = let t = after_blanks line in if is_remark t then Some None else option_map (λ r. Some r) (row_of (fields_of t))

@@ -31,7 +31,7 @@ abbrev pub prolog : Option ℕ → List ℕ
 prolog None = []
 prolog (Some parent) = if parent == XML then codes "<?xml?>" else (if parent == HTML then codes "<!-- -->" else [])
 
--- a short buffer that fits the alternative, as bytes at fixed places with zeros between them. A root element stands behind
+-- a short buffer that fits the alternative, as bytes at fixed places with zeros between them. A root element stands after
 -- the text that is before it
 abbrev pub model : List ℕ → Alternative → fixed.Alternative
 model before (bytes a) = a

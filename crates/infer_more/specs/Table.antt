@@ -1093,7 +1093,7 @@ headlines =
     ∷ row Text (codes "text/x-gimp-curve") (codes "gcurve") None (related (text_first (codes "# GIMP Curves File")) ∷ [])
     ∷ []
 
--- texts by their first words and others behind them: patches and mail
+-- texts by their first words and others after them: patches and mail
 unfoldable pub letters : List Further
 letters =
     row Text (codes "text/x-diff") (codes "diff") None (related (text_first (codes "diff --git ")) ∷ related (text_first_with (codes "diff -") (0x0A ∷ [] ++ codes "+++ ")) ∷ related (text_first_with (codes "diff -") (0x0A ∷ [] ++ codes "< ")) ∷ related (text_first_with_all (codes "--- ") (0x0A ∷ [] ++ codes "+++ ") (0x0A ∷ [] ++ codes "@@ -") []) ∷ related (text_first_with_all (codes "Index: ") (0x0A ∷ [] ++ codes "=======") (0x0A ∷ [] ++ codes "+++ ") []) ∷ related (text_first_with_all (codes "*** ") (0x0A ∷ [] ++ codes "--- ") (0x0A ∷ [] ++ codes "***************") []) ∷ [])
@@ -1151,7 +1151,7 @@ objects =
     ∷ row Image (codes "model/mtl") (codes "mtl") None (related (text_first (codes "newmtl ")) ∷ related (text_first_with (codes "#") (0x0A ∷ [] ++ codes "newmtl ")) ∷ [])
     ∷ []
 
--- rows of bytes behind the front, which no first byte tells
+-- rows of bytes after the front, which no first byte tells
 unfoldable pub inner : List Further
 inner =
     row Image (codes "image/x-pict") (codes "pict") None (at_least 528 (text 522 (0x00 ∷ 0x11 ∷ 0x02 ∷ 0xFF ∷ 0x0C ∷ 0x00 ∷ []) ∷ []) ∷ [])
@@ -1171,7 +1171,7 @@ inner =
     ∷ row Image (codes "image/x-photo-cd") (codes "pcdimg") None (at_least 2055 (text 2048 (codes "PCD_IPI") ∷ []) ∷ [])
     ∷ []
 
--- more rows of bytes behind the front: films, disks and file systems
+-- more rows of bytes after the front: films, disks and file systems
 unfoldable pub deeper : List Further
 deeper =
     row Video (codes "video/x-flic") (codes "fli") None (at_least 16 (byte 4 (any_of (0x11 ∷ 0x12 ∷ [])) ∷ text 5 (0xAF ∷ []) ∷ text 12 (0x08 ∷ 0x00 ∷ []) ∷ text 15 (0x00 ∷ []) ∷ []) ∷ [])
@@ -1195,7 +1195,7 @@ deeper =
     ∷ row App (codes "application/x-linux-kernel") (codes "bzimage") None (at_least 518 (text 510 (0x55 ∷ 0xAA ∷ []) ∷ text 514 (codes "HdrS") ∷ []) ∷ [])
     ∷ []
 
--- more rows of bytes behind the front: programs, data and books
+-- more rows of bytes after the front: programs, data and books
 unfoldable pub farther : List Further
 farther =
     row Archive (codes "application/x-wii-rom") (codes "wbfs") None (at_least 5 (text 0 (codes "WBFS" ++ 0x00 ∷ []) ∷ []) ∷ at_least 28 (text 24 (0x5D ∷ 0x1C ∷ 0x9E ∷ 0xA3 ∷ []) ∷ []) ∷ [])
@@ -1210,7 +1210,7 @@ farther =
     ∷ row Book (codes "application/prs.plucker") (codes "plucker") None (at_least 68 (text 60 (codes "DataPlkr") ∷ []) ∷ [])
     ∷ []
 
--- cartridges and discs of games, and more rows of bytes behind the front
+-- cartridges and discs of games, and more rows of bytes after the front
 unfoldable pub buried : List Further
 buried =
     row App (codes "application/x-gnupg-keybox") (codes "kbx") None (at_least 12 (text 4 (0x01 ∷ []) ∷ text 8 (codes "KBXf") ∷ []) ∷ [])

@@ -11,7 +11,7 @@ use Rattle.infer_more.specs.Wider.{IsWiderAnswer}
 use Rattle.infer_notation.specs.Grammar.{unread}
 use Rattle.infer_notation.specs.Reasons.{is_of_token}
 pub use Rattle.infer_notation.specs.Reasons.{reason_text}
-use Rattle.infer_notation.specs.Words.{◌>>=◌, behind_blanks}
+use Rattle.infer_notation.specs.Words.{◌>>=◌, after_blanks}
 use Rattle.infer_more.specs.Line.{Row, fields_of, line_of}
 use Rattle.infer_more.specs.declared.types.Found.{Found}
 use Rattle.infer_more.specs.declared.types.Mistake.{Mistake}
@@ -49,7 +49,7 @@ mistaken_line (line ∷ lines) = if is_some (line_of line) then mistaken_line li
 
 -- what is left of a line from the first place of its signature on at which no token stands
 abbrev pub unread_of : List ℕ → List ℕ
-unread_of line = unread (fields_of (behind_blanks line)).signature
+unread_of line = unread (fields_of (after_blanks line)).signature
 
 -- the mistake of a text is in its first line that describes neither a row nor none, from its first byte up to its end.
 -- If no token stands at the mistake, that is the first such place.
@@ -65,7 +65,7 @@ abbrev pub rows_left : Option (List ℕ) → Option (List Row)
 rows_left None = Some []
 rows_left (Some text) = rows_of text
 
--- the triple is that of the next row, behind which these are left, and none exactly if there is none
+-- the triple is that of the next row, after which these are left, and none exactly if there is none
 abbrev pub IsNextRow : List Row → Option Triple → Option (List Row) → Type 0
 IsNextRow rows None left = rows ≡ []
 IsNextRow rows (Some t) left = (r : Row) × (more : List Row) × (rows ≡ r ∷ more) × (t ≡ r.shows) × (left ≡ Some more)
@@ -78,7 +78,7 @@ found_shows f = triple f.matcher_type f.mime_type.now f.extension.now
 abbrev pub left_size : Rows → ℕ
 left_size rows = option_map_or (λ text. length text.now + 1) rows.rest 0
 
--- what goes over the rows of a text shows the next one, and is left with those behind it
+-- what goes over the rows of a text shows the next one, and is left with those after it
 abbrev pub NextShown : Rows → Option Found → Rows → Type 0
 NextShown before next after =
     (rows : List Row) → rows_left (option_map (λ text. text.now) before.rest) ≡ Some rows → IsNextRow rows (option_map found_shows next) (rows_left (option_map (λ text. text.now) after.rest))

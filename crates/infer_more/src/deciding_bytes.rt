@@ -4,14 +4,14 @@ ghost use Rattle.infer.specs.Buffer.{IsBuffer};
 ghost use Rattle.infer.specs.First.{IsFirstOf};
 ghost use Rattle.infer.specs.declared.table.rows.TheConstants.{ROW_COUNT};
 ghost use Rattle.infer_evidence.specs.Evidence.{AgreesOn, IsOf};
-ghost use Rattle.infer_formats.specs.Markup.{TellsByRoot, TellsRoot};
+ghost use Rattle.infer_formats.specs.Markup.{DecidesByRoot, DecidesRoot};
 ghost use Rattle.infer_notation.specs.Alternative.{Accepted, Fits};
 ghost use Rattle.infer_more.specs.Index.{IsLeast, all_of, candidate, led_rows, rows_of, tried_at, tried_parentless};
 ghost use Rattle.infer_more.specs.Listed.{alternative_listed, row_listed, signature_listed};
 ghost use Rattle.infer_more.specs.Open.{is_row_sound};
 ghost use Rattle.infer_more.specs.Row.{is_row_closed};
 ghost use Rattle.infer_more.specs.Table.{further};
-ghost use Rattle.infer_more.specs.Evidence.{Decides, HasBytes, HasPiece, IsAlikeAt, IsQuestion, IsRootRead, IsRuledOut, IsSameAt, IsSignatureDecided, IsRowDecided, LacksBytes, Tells};
+ghost use Rattle.infer_more.specs.Evidence.{Decides, HasBytes, HasPiece, IsAlikeAt, IsQuestion, IsRootRead, IsRuledOut, IsSameAt, IsSignatureDecided, IsRowDecided, LacksBytes, Proves};
 ghost use Rattle.infer_more.specs.Wider.{IsWider, IsWidest, Widens, WidensAt};
 ghost use Rattle.infer_more.specs.declared.index.generated.TheConstants.{FURTHER_COUNT};
 ghost use Rattle.infer_more.specs.declared.row_data.Alternative.TheVariants as listed;
@@ -19,7 +19,7 @@ ghost use Rattle.infer_more.specs.declared.row_data.Alternative.TheVariants as l
 use crate::decided::is_stable;
 use crate::index::search::{has_byte, least_widening, may_have_name, span_picked};
 use crate::index::{
-    Below, ByLead, Entry, FURTHER_COUNT, Named, Parentless, Rooted, Spot, all_by_lead, way_below,
+    Below, ByLead, Entry, FURTHER_COUNT, Named, Parentless, Spot, all_by_lead, way_below,
 };
 use crate::more_bytes::may_become_accepted;
 use crate::row_data::{
@@ -30,7 +30,7 @@ use infer::rows::{ROW_COUNT, numbers as law_numbers};
 use infer_evidence::{
     AsPart, Claim, Evidence, MOST_RANGES, Part, Range, Set, accept, fits, refuse, shortest_front,
 };
-use infer_formats::markup::{Root, root_of, tells_root};
+use infer_formats::markup::{Root, decides_root, root_of};
 
 impl AsPart for Piece {
     ghost asks = { HasPiece };
@@ -46,7 +46,7 @@ impl AsPart for Piece {
 }
 
 /// Whether the front decides that the row accepts, or that it does not.
-fn tells(row: &FurtherRow, accepts: bool, front: &[u8]) -> bool
+fn front_decides(row: &FurtherRow, accepts: bool, front: &[u8]) -> bool
     requires closed { IsTrue (is_row_closed (row_listed row.now)) }
     requires sound { IsTrue (is_row_sound (row_listed row.now)) }
     ensures { IsTrue result → IsSignatureDecided (row_listed row.now).signature front.now }
@@ -71,7 +71,7 @@ impl Claim for Acceptance {
     #[tactic(auto, using(crate::proofs::NamedLemmas::row_passes, crate::proofs::TableLemmas::all_sound))]
     fn is_decided_by(&self, front: &[u8]) -> bool {
         match row_at(self.i) {
-            Some(row) => tells(row, self.accepts, front),
+            Some(row) => front_decides(row, self.accepts, front),
             None => true,
         }
     }
@@ -81,10 +81,10 @@ impl Claim for Acceptance {
 struct RootClaim;
 
 impl Claim for RootClaim {
-    ghost decides = { λ s front. TellsRoot front };
+    ghost decides = { λ s front. DecidesRoot front };
 
     fn is_decided_by(&self, front: &[u8]) -> bool {
-        tells_root(front)
+        decides_root(front)
     }
 }
 
@@ -107,7 +107,7 @@ fn read_root<'a>(parent: Option<usize>, buf: &'a [u8]) -> RootRead<'a>
 
 /// The length of that front. Without a parent no row asks for a root element of a buffer that begins otherwise.
 fn root_front(parent: Option<usize>, buf: &[u8]) -> Option<usize>
-    ensures { IfSome result (λ n. (n ≤ length buf.now) × TellsRoot (take n buf.now)) }
+    ensures { IfSome result (λ n. (n ≤ length buf.now) × DecidesRoot (take n buf.now)) }
 {
     if parent.is_none() && !may_have_name(buf) {
         return None;
@@ -117,7 +117,7 @@ fn root_front(parent: Option<usize>, buf: &[u8]) -> Option<usize>
 
 /// Whether a buffer with this root element, or with none, has what the alternative asks. `None` if that does not decide it.
 fn fits_root(alternative: &Alternative, root: &Option<Root<'_>>) -> Option<bool>
-    ensures { IfSome result (TellsByRoot root.now (Fits (alternative_listed alternative.now))) }
+    ensures { IfSome result (DecidesByRoot root.now (Fits (alternative_listed alternative.now))) }
 {
     match alternative {
         Alternative::Related(number) => relation_at(*number).of_root(root),
@@ -127,7 +127,7 @@ fn fits_root(alternative: &Alternative, root: &Option<Root<'_>>) -> Option<bool>
 
 /// Whether it has what one of the alternatives asks.
 fn accepts_root(signature: &[Alternative], root: &Option<Root<'_>>) -> Option<bool>
-    ensures { IfSome result (TellsByRoot root.now (Accepted (signature_listed signature.now))) }
+    ensures { IfSome result (DecidesByRoot root.now (Accepted (signature_listed signature.now))) }
 {
     let mut accepts = false;
     for alternative in signature {
@@ -139,7 +139,7 @@ fn accepts_root(signature: &[Alternative], root: &Option<Root<'_>>) -> Option<bo
 /// Asks for the front, of that length, which decides whether the row accepts, and for the whole buffer if there is none.
 fn ask_front(front: Option<usize>, told: &Acceptance, buf: &[u8], evidence: &mut Evidence)
     requires { IfSome front (λ n. (n ≤ length buf.now) × IsRowDecided told.now.i (take n buf.now)) }
-    ensures tells { Tells evidence.old evidence.new buf.now (IsAlikeAt told.now.i buf.now) }
+    ensures proves { Proves evidence.old evidence.new buf.now (IsAlikeAt told.now.i buf.now) }
     ensures inside { IsOf evidence.old buf.now → IsOf evidence.new buf.now }
 {
     match front {
@@ -162,7 +162,7 @@ fn is_whole(buf: &[u8], evidence: &Evidence) -> bool
 }
 
 /// Whether the bytes at the front that are asked for already decide that the row does not accept the buffer.
-fn is_told_refused(told: &Acceptance, buf: &[u8], evidence: &Evidence) -> bool
+fn refused_already(told: &Acceptance, buf: &[u8], evidence: &Evidence) -> bool
     ensures { IsTrue result → (c : List ℕ) → IsBuffer c → AgreesOn evidence.now buf.now c
         → IsAlikeAt told.now.i buf.now c }
 {
@@ -217,7 +217,7 @@ fn lacks_bytes(signature: &[Alternative], buf: &[u8]) -> bool
 /// Asks for that by which the buffer lacks the bytes of an alternative.
 fn refuse_bytes(alternative: &Alternative, i: usize, buf: &[u8], evidence: &mut Evidence)
     requires { LacksBytes buf.now alternative.now }
-    ensures tells { Tells evidence.old evidence.new buf.now (λ c. LacksBytes c alternative.now) }
+    ensures proves { Proves evidence.old evidence.new buf.now (λ c. LacksBytes c alternative.now) }
     ensures inside { IsOf evidence.old buf.now → IsOf evidence.new buf.now }
 {
     if let Alternative::Bytes(bytes) = alternative {
@@ -228,7 +228,7 @@ fn refuse_bytes(alternative: &Alternative, i: usize, buf: &[u8], evidence: &mut 
 /// Asks for that by which it lacks the bytes of each.
 fn refuse_all(signature: &[Alternative], i: usize, buf: &[u8], evidence: &mut Evidence)
     requires { All (LacksBytes buf.now) signature.now }
-    ensures tells { Tells evidence.old evidence.new buf.now
+    ensures proves { Proves evidence.old evidence.new buf.now
         (λ c. All (LacksBytes c) signature.now) }
     ensures inside { IsOf evidence.old buf.now → IsOf evidence.new buf.now }
 {
@@ -250,7 +250,7 @@ fn weigh_row(
     requires closed { IsTrue (is_row_closed (row_listed row.now)) }
     requires listed { slice_get further i ≡ Some (row_listed row.now) }
     ensures answer { IsTrue result ↔ Accepted (row_listed row.now).signature buf.now }
-    ensures tells { Tells evidence.old evidence.new buf.now (IsAlikeAt i buf.now) }
+    ensures proves { Proves evidence.old evidence.new buf.now (IsAlikeAt i buf.now) }
     ensures inside { IsOf evidence.old buf.now → IsOf evidence.new buf.now }
 {
     infer_sig::laws::by_place();
@@ -269,7 +269,7 @@ fn weigh_row(
     }
     let accepts = signature::accepts(signature, buf);
     let told = Acceptance { i, accepts };
-    if !is_told_refused(&told, buf, evidence) {
+    if !refused_already(&told, buf, evidence) {
         ask_front(shortest_front(&told, buf), &told, buf, evidence);
     }
     accepts
@@ -294,7 +294,7 @@ fn weigh_at(
 ) -> bool
     requires { IsRootRead read.now buf.now }
     ensures answer { IsTrue result ↔ WidensAt parent buf.now i }
-    ensures tells { Tells evidence.old evidence.new buf.now
+    ensures proves { Proves evidence.old evidence.new buf.now
         (λ c. WidensAt parent c i ↔ WidensAt parent buf.now i) }
     ensures inside { IsOf evidence.old buf.now → IsOf evidence.new buf.now }
 {
@@ -306,7 +306,7 @@ fn weigh_at(
 
 /// Asks for the byte at the place, which decides this row, and for the length if there is none.
 fn ask_byte(place: usize, row: Option<usize>, buf: &[u8], evidence: &mut Evidence)
-    ensures tells { Tells evidence.old evidence.new buf.now (IsSameAt place buf.now) }
+    ensures proves { Proves evidence.old evidence.new buf.now (IsSameAt place buf.now) }
     ensures inside { IsOf evidence.old buf.now → IsOf evidence.new buf.now }
 {
     if place >= buf.len() {
@@ -332,7 +332,7 @@ struct Question<'a> {
 /// Asks for what decides that further row `i` does not widen the answer, if it stands before the one that does.
 fn rule_out(i: usize, asked: &Question<'_>, evidence: &mut Evidence)
     requires { IsQuestion asked.now }
-    ensures tells { Tells evidence.old evidence.new asked.now.buf.now
+    ensures proves { Proves evidence.old evidence.new asked.now.buf.now
         (IsRuledOut asked.now (i ∷ [])) }
     ensures inside { IsOf evidence.old asked.now.buf.now → IsOf evidence.new asked.now.buf.now }
 {
@@ -349,7 +349,7 @@ trait Ruled {
     /// Asks for what decides that the row does not widen the answer, if it stands before the one that does.
     fn rule_out(&self, asked: &Question<'_>, evidence: &mut Evidence)
         requires { IsQuestion asked.now }
-        ensures tells { Tells evidence.old evidence.new asked.now.buf.now
+        ensures proves { Proves evidence.old evidence.new asked.now.buf.now
             (λ c. IsRuledOut asked.now (rows self.now c) c) }
         ensures inside { IsOf evidence.old asked.now.buf.now
             → IsOf evidence.new asked.now.buf.now };
@@ -380,18 +380,10 @@ impl Ruled for Named {
     }
 }
 
-impl Ruled for Rooted {
-    ghost rows = { λ e c. e.row ∷ [] };
-
-    fn rule_out(&self, asked: &Question<'_>, evidence: &mut Evidence) {
-        rule_out(usize::from(self.row), asked, evidence);
-    }
-}
-
 /// Asks for what decides that none of these rows widens the answer, of those that stand before the one that does.
 fn rule_out_each<R: Ruled>(list: &[R], asked: &Question<'_>, evidence: &mut Evidence)
     requires { IsQuestion asked.now }
-    ensures tells { Tells evidence.old evidence.new asked.now.buf.now
+    ensures proves { Proves evidence.old evidence.new asked.now.buf.now
         (λ c. IsRuledOut asked.now (all_of (λ e. R.rows e c) list.now) c) }
     ensures inside { IsOf evidence.old asked.now.buf.now → IsOf evidence.new asked.now.buf.now }
 {
@@ -403,7 +395,7 @@ fn rule_out_each<R: Ruled>(list: &[R], asked: &Question<'_>, evidence: &mut Evid
 /// The same of each list.
 fn rule_out_lists<R: Ruled>(lists: &[&[R]], asked: &Question<'_>, evidence: &mut Evidence)
     requires { IsQuestion asked.now }
-    ensures tells { Tells evidence.old evidence.new asked.now.buf.now
+    ensures proves { Proves evidence.old evidence.new asked.now.buf.now
         (λ c. IsRuledOut asked.now (all_of (λ list. all_of (λ e. R.rows e c) list.now) lists.now)
         c) }
     ensures inside { IsOf evidence.old asked.now.buf.now → IsOf evidence.new asked.now.buf.now }
@@ -416,7 +408,7 @@ fn rule_out_lists<R: Ruled>(lists: &[&[R]], asked: &Question<'_>, evidence: &mut
 /// The same of the rows of this way.
 fn rule_out_way(way: &Below, asked: &Question<'_>, evidence: &mut Evidence)
     requires { IsQuestion asked.now }
-    ensures tells { Tells evidence.old evidence.new asked.now.buf.now
+    ensures proves { Proves evidence.old evidence.new asked.now.buf.now
         (λ c. IsRuledOut asked.now (rows_of way.now c) c) }
     ensures inside { IsOf evidence.old asked.now.buf.now → IsOf evidence.new asked.now.buf.now }
 {
@@ -442,7 +434,7 @@ fn rule_out_way(way: &Below, asked: &Question<'_>, evidence: &mut Evidence)
 /// The same of the rows that the buffer's own byte picks at the spot, for which it asks.
 fn rule_out_picked(index: &Parentless, spot: &Spot, asked: &Question<'_>, evidence: &mut Evidence)
     requires { IsQuestion asked.now }
-    ensures tells { Tells evidence.old evidence.new asked.now.buf.now
+    ensures proves { Proves evidence.old evidence.new asked.now.buf.now
         (λ c. IsRuledOut asked.now (tried_at index.now c spot.now) c) }
     ensures inside { IsOf evidence.old asked.now.buf.now → IsOf evidence.new asked.now.buf.now }
 {
@@ -455,7 +447,7 @@ fn rule_out_picked(index: &Parentless, spot: &Spot, asked: &Question<'_>, eviden
 /// The same of those that are picked at each spot.
 fn rule_out_spotted(index: &Parentless, asked: &Question<'_>, evidence: &mut Evidence)
     requires { IsQuestion asked.now }
-    ensures tells { Tells evidence.old evidence.new asked.now.buf.now
+    ensures proves { Proves evidence.old evidence.new asked.now.buf.now
         (λ c. IsRuledOut asked.now (tried_parentless index.now c) c) }
     ensures inside { IsOf evidence.old asked.now.buf.now → IsOf evidence.new asked.now.buf.now }
 {
@@ -467,7 +459,7 @@ fn rule_out_spotted(index: &Parentless, asked: &Question<'_>, evidence: &mut Evi
 /// The same of the rows without a parent.
 fn rule_out_by_lead(by_lead: &ByLead, asked: &Question<'_>, evidence: &mut Evidence)
     requires { IsQuestion asked.now }
-    ensures tells { Tells evidence.old evidence.new asked.now.buf.now
+    ensures proves { Proves evidence.old evidence.new asked.now.buf.now
         (λ c. IsRuledOut asked.now (led_rows by_lead.now c) c) }
     ensures inside { IsOf evidence.old asked.now.buf.now → IsOf evidence.new asked.now.buf.now }
 {
@@ -482,7 +474,7 @@ fn rule_out_by_lead(by_lead: &ByLead, asked: &Question<'_>, evidence: &mut Evide
 /// The same of all rows.
 fn rule_out_all(asked: &Question<'_>, evidence: &mut Evidence)
     requires { IsQuestion asked.now }
-    ensures tells { Tells evidence.old evidence.new asked.now.buf.now
+    ensures proves { Proves evidence.old evidence.new asked.now.buf.now
         (λ c. IsLeast (WidensAt asked.now.parent c) asked.now.least asked.now.least) }
     ensures inside { IsOf evidence.old asked.now.buf.now → IsOf evidence.new asked.now.buf.now }
 {
@@ -496,7 +488,7 @@ fn rule_out_all(asked: &Question<'_>, evidence: &mut Evidence)
 fn widen(parent: Option<usize>, buf: &[u8], evidence: &mut Evidence) -> Option<usize>
     ensures first { IsFirstOf (Widens parent buf.now) further result }
     ensures bound { IfSome result (λ i. i < FURTHER_COUNT) }
-    ensures tells { Tells evidence.old evidence.new buf.now
+    ensures proves { Proves evidence.old evidence.new buf.now
         (λ c. IsFirstOf (Widens parent c) further result) }
     ensures inside { IsOf evidence.old buf.now → IsOf evidence.new buf.now }
 {

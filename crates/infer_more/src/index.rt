@@ -14,24 +14,12 @@ pub(crate) struct Entry {
     pub byte: u8,
 }
 
-/// A row, by its number among the further rows, that is found by a name, which may be a class id.
+/// A row, by its number among the further rows, that is found by a name: that of a program, of a folder or of a root element, a
+/// class id or the first key of an object. A root or a key may need one more text: in its tag, or as its value.
 pub(crate) struct Named {
     pub row: u16,
     pub name: Span,
-}
-
-/// A row that is found by the name of a root element, and by a text in its tag if there is one.
-pub(crate) struct Rooted {
-    pub row: u16,
-    pub name: Span,
     pub text: Option<Span>,
-}
-
-/// A row that is found by the first key of an object, and by its value if there is one.
-pub(crate) struct Keyed {
-    pub row: u16,
-    pub key: Span,
-    pub value: Option<Span>,
 }
 
 /// How the rows below a built-in row are found.
@@ -42,10 +30,10 @@ pub(crate) enum Below {
     Entries(&'static [Entry]),
     /// By trying some, and by the class id of a compound file.
     ClassIds(&'static [Entry], &'static [Named]),
-    /// By trying some, and by the program of a script. The names stand in buckets, by the low five bits of their first byte.
+    /// By trying some, and by the program of a script. The names stand in buckets, by five bits of their first byte.
     Programs(&'static [Entry], &'static [&'static [Named]]),
-    /// By the root element. The names stand in buckets, by five bits of their first byte.
-    Roots(&'static [&'static [Rooted]]),
+    /// By the root element. The names stand in buckets, too.
+    Roots(&'static [&'static [Named]]),
     /// By trying some, and by the folder of an application in a package.
     Packages(&'static [Entry], &'static [Named]),
     /// By trying some, and others only if the first directory of a TIFF file has one of two tags, for which it is read once.
@@ -87,8 +75,8 @@ pub(crate) struct ByLead {
 /// The rows without a parent that are found by the root of markup or by the first key of an object, which is looked for once
 /// for all of them. A static of its own, as the check of one takes time quadratic in the lists inside it.
 pub(crate) struct ByName {
-    pub roots: &'static [&'static [Rooted]],
-    pub keys: &'static [Keyed],
+    pub roots: &'static [&'static [Named]],
+    pub keys: &'static [Named],
 }
 
 macro_rules! picked {
@@ -108,23 +96,8 @@ macro_rules! entries {
 }
 
 macro_rules! named {
-    ($($name:literal $length:literal $row:literal),*) => {
-        &[$(Named {
-            row: $row,
-            name: span!($name $length),
-        }),*]
-    };
-}
-
-macro_rules! buckets {
-    ($(($($name:literal $length:literal $row:literal),*))*) => {
-        &[$(named![$($name $length $row),*]),*]
-    };
-}
-
-macro_rules! rooted {
     ($($name:literal $length:literal ($($text:literal $long:literal)?) $row:literal),*) => {
-        &[$(Rooted {
+        &[$(Named {
             row: $row,
             name: span!($name $length),
             text: text!($($text $long)?),
@@ -132,19 +105,9 @@ macro_rules! rooted {
     };
 }
 
-macro_rules! roots {
+macro_rules! buckets {
     ($(($($name:literal $length:literal ($($text:literal $long:literal)?) $row:literal),*))*) => {
-        &[$(rooted![$($name $length ($($text $long)?) $row),*]),*]
-    };
-}
-
-macro_rules! keyed {
-    ($($key:literal $length:literal ($($value:literal $long:literal)?) $row:literal),*) => {
-        &[$(Keyed {
-            row: $row,
-            key: span!($key $length),
-            value: text!($($value $long)?),
-        }),*]
+        &[$(named![$($name $length ($($text $long)?) $row),*]),*]
     };
 }
 

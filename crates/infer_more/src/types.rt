@@ -46,7 +46,7 @@ pub struct Types<'a> {
     entries: Entries<'a>,
     ghost described: { IsTrue (is_some (rows_of text.now)) },
     ghost known: { row_lines (lines_of text.now)
-        ≡ map (λ e. e.line.now) (take entries.count entries.items) ++ row_lines (left_lines (option_map (λ left. left.now) entries.behind)) },
+        ≡ map (λ e. e.line.now) (take entries.count entries.items) ++ row_lines (left_lines (option_map (λ left. left.now) entries.after)) },
 }
 
 impl<'a> Found<'a> {
@@ -116,7 +116,7 @@ impl<'a> Types<'a> {
     {
         match self.entries.find(extension, buf) {
             Some(found) => Some(found),
-            None => find_left(self.entries.behind, extension, buf),
+            None => find_left(self.entries.after, extension, buf),
         }
     }
 }
@@ -152,8 +152,8 @@ impl<'a> Rows<'a> {
             (λ found. left_size self.new < left_size self.old) }
     {
         while let Some(text) = self.rest {
-            let (line, behind) = next_line(text);
-            self.rest = behind;
+            let (line, after) = next_line(text);
+            self.rest = after;
             if let Some(found) = row_shown(line) {
                 return Some(found);
             }
@@ -221,11 +221,11 @@ fn find_line(text: &[u8], extension: Option<&[u8]>, buf: &[u8]) -> Option<usize>
     let mut rest = text;
     let mut number = 1;
     loop {
-        let (line, behind) = next_line(rest);
+        let (line, after) = next_line(rest);
         if answer_of(line, extension, buf).is_some() {
             return Some(number);
         }
-        match behind {
+        match after {
             Some(more) => rest = more,
             None => return None,
         }
@@ -293,11 +293,11 @@ fn find<'a>(text: &'a [u8], extension: Option<&[u8]>, buf: &[u8]) -> Option<Foun
 {
     let mut rest = text;
     loop {
-        let (line, behind) = next_line(rest);
+        let (line, after) = next_line(rest);
         if let Some(found) = answer_of(line, extension, buf) {
             return Some(found);
         }
-        match behind {
+        match after {
             Some(more) => rest = more,
             None => return None,
         }
@@ -312,11 +312,11 @@ pub fn check(text: &[u8]) -> Result<(), Mistake>
     let mut rest = text;
     let mut number = 1;
     loop {
-        let (line, behind) = next_line(rest);
+        let (line, after) = next_line(rest);
         if let Err(flaw) = check_line(line) {
             return Err(placed(line, number, flaw));
         }
-        match behind {
+        match after {
             Some(more) => rest = more,
             None => return Ok(()),
         }

@@ -33,7 +33,7 @@ wrong_from starts limit i [] = []
 wrong_from starts limit i (k ∷ keys) =
     if is_placed starts limit i k && is_right starts i k keys then wrong_from starts limit (i + 1) keys else k.text ∷ wrong_from starts limit (i + 1) keys
 
--- the first of them is none of these, nor are those behind
+-- the first of them is none of these, nor are those after
 first_right : (starts : List ℕ) (limit i : ℕ) (k : Key) (keys : List Key) → wrong_from starts limit i (k ∷ keys) ≡ []
     → IsTrue (is_placed starts limit i k) × IsTrue (is_right starts i k keys) × (wrong_from starts limit (i + 1) keys ≡ [])
 first_right starts limit i k keys e = elim (cases_Bool (is_placed starts limit i k && is_right starts i k keys)) [
@@ -58,35 +58,35 @@ module _ (starts : List ℕ) (limit : ℕ) (p : Key → Bool) (a b : ℕ) (has :
     | inr off ↦ off
   ]
 
-  -- finds none behind the slot
+  -- finds none after the slot
   found_before : (i : ℕ) (keys : List Key) → wrong_from starts limit i keys ≡ [] → find p keys ≡ find p (take (b - i) keys)
   found_before i [] e = ap (find p) (sym (take-nil (b - i)))
   found_before i (k ∷ keys) e =
       let (at, once, later) = first_right starts limit i k keys e in
-      let behind = found_before (i + 1) keys later in elim (cases_lt i b) [
+      let after = found_before (i + 1) keys later in elim (cases_lt i b) [
         | inl before ↦ (
             let more : b - i ≡ suc (b - (i + 1)) = omega arith in rw more (elim (cases_Bool (p k)) [
               | inl on ↦ rw on refl
-              | inr off ↦ rw off behind
+              | inr off ↦ rw off after
             ]))
         | inr past ↦ (
             let none : b - i ≡ 0 = omega arith in
             let still : b - (i + 1) ≡ 0 = omega arith in
             let out : p k ≡ false = fails i k at (λ both. absurd (omega arith)) in
-            rw none (rw out (rw still at behind)))
+            rw none (rw out (rw still at after)))
       ]
 
   any_before : (i : ℕ) (keys : List Key) → wrong_from starts limit i keys ≡ [] → list_any p keys ≡ list_any p (take (b - i) keys)
   any_before i [] e = ap (list_any p) (sym (take-nil (b - i)))
   any_before i (k ∷ keys) e =
       let (at, once, later) = first_right starts limit i k keys e in
-      let behind = any_before (i + 1) keys later in elim (cases_lt i b) [
-        | inl before ↦ (let more : b - i ≡ suc (b - (i + 1)) = omega arith in rw more (ap (λ r. p k || r) behind))
+      let after = any_before (i + 1) keys later in elim (cases_lt i b) [
+        | inl before ↦ (let more : b - i ≡ suc (b - (i + 1)) = omega arith in rw more (ap (λ r. p k || r) after))
         | inr past ↦ (
             let none : b - i ≡ 0 = omega arith in
             let still : b - (i + 1) ≡ 0 = omega arith in
             let out : p k ≡ false = fails i k at (λ both. absurd (omega arith)) in
-            rw none (rw out (rw still at behind)))
+            rw none (rw out (rw still at after)))
       ]
 
   -- nor before it

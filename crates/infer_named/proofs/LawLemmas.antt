@@ -18,7 +18,7 @@ use Rattle.infer_named.specs.Asks.{admits}
 use Rattle.infer_named.specs.Join.{Answer, answer, fits, is_among, join, joined_with, joined_without, of_bytes, of_name, reading_of, reading_without, takes}
 use Rattle.infer_named.specs.Key.{Key, Reading}
 use Rattle.infer_named.specs.Bytes.{HasZero, IsKind, lead_of, shown, unmarked, without_white}
-use Rattle.infer_named.specs.Laws.{AnswersLast, AnswersLastByKind, ChangesOnce, DecidedAnswersLast, KindsLast, LeadStays, LeadsLast, LiesStayVisible, NothingIsInvented, OnlyTheKeyCounts, OnlyThreeCount, SilenceIsExact, TheBytesWin, has_no_lead, has_no_leads, is_silent, tells_bytes}
+use Rattle.infer_named.specs.Laws.{AnswersLast, AnswersLastByKind, ChangesOnce, DecidedAnswersLast, KindsLast, LeadStays, LeadsLast, LiesStayVisible, NothingIsInvented, OnlyTheKeyCounts, OnlyThreeCount, SilenceIsExact, TheBytesWin, has_no_lead, has_no_leads, is_silent, takes_bytes}
 use Rattle.infer_named.specs.Named.{key_of}
 use Rattle.infer_named.specs.declared.bytes.Kind.{Kind}
 use Rattle.infer_named.specs.declared.bytes.Kind.TheVariants.{Binary, Empty, Marked, Text}
@@ -37,12 +37,12 @@ abbrev by_sets : Bool → Bool → Reading → Triple → Answer
 by_sets agrees begins r t =
     if agrees then answer Agree (Some (of_bytes t)) else (if begins then answer NameRefines (Some (of_name r.named)) else answer BytesRefine (Some (of_bytes t)))
 
-theirs_by : (a b : Bool) (r : Reading) (t : Triple) → IsTrue (tells_bytes (by_sets a b r t).standing) → (by_sets a b r t).told ≡ Some (of_bytes t)
+theirs_by : (a b : Bool) (r : Reading) (t : Triple) → IsTrue (takes_bytes (by_sets a b r t).standing) → (by_sets a b r t).told ≡ Some (of_bytes t)
 theirs_by true b r t h = refl
 theirs_by false true r t h = absurd (cc)
 theirs_by false false r t h = refl
 
-theirs_with : (l : Bool) (t : Triple) (o : Option Reading) → IsTrue (tells_bytes (joined_with l t o).standing) → (joined_with l t o).told ≡ Some (of_bytes t)
+theirs_with : (l : Bool) (t : Triple) (o : Option Reading) → IsTrue (takes_bytes (joined_with l t o).standing) → (joined_with l t o).told ≡ Some (of_bytes t)
 theirs_with l t (Some r) h = theirs_by (is_among t r.agrees) (is_among t r.begins) r t h
 theirs_with true t None h = refl
 theirs_with false t None h = refl
@@ -62,7 +62,7 @@ refined_with false t None e = absurd (cc)
 abbrev alone_with : (l : Bool) (o : Option Reading) → Answer
 alone_with l o = if l then answer Nothing None else joined_without o
 
-theirs_alone : (l : Bool) (o : Option Reading) → IsTrue (tells_bytes (alone_with l o).standing) → (alone_with l o).told ≡ None
+theirs_alone : (l : Bool) (o : Option Reading) → IsTrue (takes_bytes (alone_with l o).standing) → (alone_with l o).told ≡ None
 theirs_alone true o h = absurd (cc)
 theirs_alone false (Some r) h = absurd (cc)
 theirs_alone false None h = refl
@@ -72,7 +72,7 @@ not_refined_alone true o e = absurd (cc)
 not_refined_alone false (Some r) e = absurd (cc)
 not_refined_alone false None e = absurd (cc)
 
-theirs : (k : Option Key) (t : Option Triple) (kind : Kind) (lead : List ℕ) → IsTrue (tells_bytes (join k t kind lead).standing)
+theirs : (k : Option Key) (t : Option Triple) (kind : Kind) (lead : List ℕ) → IsTrue (takes_bytes (join k t kind lead).standing)
     → (join k t kind lead).told ≡ option_map of_bytes t
 theirs None (Some t) kind lead h = refl
 theirs None None kind lead h = absurd (cc)

@@ -26,7 +26,7 @@ some_passes p (x ∷ xs) h = elim (cases_Bool (p x)) [
   | inr off ↦ (let later : IsTrue (list_any p xs) = rw off at h in some_passes p xs later)
 ]
 
--- the first reading that passes is found, whatever stands behind it
+-- the first reading that passes is found, whatever stands after it
 first_found : (p : Reading → Bool) (before : List Reading) (r : Reading) (rest : List Reading) → IsTrue (is_first p before r)
     → find p (before ++ (r ∷ rest)) ≡ Some r
 first_found p [] r rest h = let on : p r ≡ true = (and_parts (p r) (not (list_any p [])) h).0 in rw on refl

@@ -57,13 +57,13 @@ all_named (t ∷ rows) (number ∷ numbers) none = elim (cases_Bool (is_taken t 
   | inr off ↦ absurd (let left = rw off at none in cc)
 ]
 
--- the rows of a part, and those of the last, behind which no row stands
+-- the rows of a part, and those of the last, after which no row stands
 pub named_part : (rows : List Triple) (start count : ℕ) (numbers : List ℕ) → unnamed (take count (drop start rows)) numbers ≡ []
     → All IsNamed (drop (start + count) rows) → All IsNamed (drop start rows)
-named_part rows start count numbers none behind =
+named_part rows start count numbers none after =
     subst (All IsNamed) (take-append-drop count (drop start rows))
     (All-append IsNamed (take count (drop start rows)) (drop count (drop start rows)) (all_named (take count (drop start rows)) numbers none)
-    (subst (All IsNamed) (sym (drop-drop count start rows)) behind))
+    (subst (All IsNamed) (sym (drop-drop count start rows)) after))
 
 pub named_last : (rows : List Triple) (start count : ℕ) (numbers : List ℕ) → drop (start + count) rows ≡ [] → unnamed (take count (drop start rows)) numbers ≡ []
     → All IsNamed (drop start rows)

@@ -15,7 +15,7 @@ use Rattle.infer_named.proofs.SameLemmas.{nowhere_of}
 use Rattle.infer_named.proofs.TableLemmas.{all_right}
 use Rattle.infer_named.specs.Key.{Key}
 use Rattle.infer_named.specs.Laws.{EachKeyIsReached, are_told, edge_of, has_form, has_name, is_key_right, is_unversioned, last_below, last_dot, name_of, has_most, is_key_byte, shows_extension, shows_key, wrong_keys}
-use Rattle.infer_named.specs.Names.{IsBase, IsExtensionKey, IsKey, IsStemKey, behind, copies, copy_length, ends_in, entry, extension_at, is_key, is_version, is_version_byte, same_part, small, stem_of, up_to}
+use Rattle.infer_named.specs.Names.{IsBase, IsExtensionKey, IsKey, IsStemKey, past, copies, copy_length, ends_in, entry, extension_at, is_key, is_version, is_version_byte, same_part, small, stem_of, up_to}
 use Rattle.infer_named.specs.Table.{keys}
 use Rattle.infer_named.specs.declared.table.Part.{Part}
 use Rattle.infer_named.specs.declared.table.Part.TheVariants.{Extension, Whole}
@@ -104,7 +104,7 @@ is_flip k other e =
     and_from (same_part other.part k.part) (bytes_eq other.text k.text) (same_flip k.part other.part part)
     ((bytes_eq-Decides other.text k.text).1 (sym ((bytes_eq-Decides k.text other.text).0 text)))
 
--- what of the first key is known, and of those behind it
+-- what of the first key is known, and of those after it
 first_key : (k : Key) (rows : List Key) → wrong_keys (k ∷ rows) ≡ []
     → IsTrue (has_name k.part k.text) × IsTrue (not (list_any (is_key k.part k.text) rows)) × (wrong_keys rows ≡ [])
 first_key k rows e = elim (cases_Bool (is_key_right k && not (list_any (is_key k.part k.text) rows))) [
@@ -117,8 +117,8 @@ first_key k rows e = elim (cases_Bool (is_key_right k && not (list_any (is_key k
 abbrev IsSelfIn : List Key → Key → Type 0
 IsSelfIn rows k = find (is_key k.part k.text) rows ≡ Some k
 
-self_behind : (k : Key) (rows : List Key) → IsTrue (not (list_any (is_key k.part k.text) rows)) → All (IsSelfIn rows) rows → All (IsSelfIn (k ∷ rows)) rows
-self_behind k rows once all j d lt =
+self_after : (k : Key) (rows : List Key) → IsTrue (not (list_any (is_key k.part k.text) rows)) → All (IsSelfIn rows) rows → All (IsSelfIn (k ∷ rows)) rows
+self_after k rows once all j d lt =
     let other = slice_index_or rows j d in
     elim (cases_Bool (is_key other.part other.text k)) [
       | inl on ↦ (let some : list_any (is_key k.part k.text) rows ≡ true = list_any_at (is_key k.part k.text) rows j d lt (is_flip other k on) in
@@ -130,7 +130,7 @@ all_self : (rows : List Key) → wrong_keys rows ≡ [] → All (IsSelfIn rows) 
 all_self [] e = All-nil (IsSelfIn [])
 all_self (k ∷ rows) e =
     let (named, once, later) = first_key k rows e in
-    All-cons (IsSelfIn (k ∷ rows)) k rows (rw (is_self k) refl) (self_behind k rows once (all_self rows later))
+    All-cons (IsSelfIn (k ∷ rows)) k rows (rw (is_self k) refl) (self_after k rows once (all_self rows later))
 
 all_named : (rows : List Key) → wrong_keys rows ≡ [] → All (λ k. IsTrue (has_name k.part k.text)) rows
 all_named [] e = All-nil (λ k. IsTrue (has_name k.part k.text))
@@ -151,14 +151,14 @@ module _ (text : List ℕ) (k : Key) (found : find (is_key Extension text) keys 
   abbrev stem : List ℕ
   stem = name_of Extension text
 
-  entry_behind : (dot : ℕ) → IsTrue (bytes_eq (drop (dot + 1) stem) text) → entry keys Extension (drop (dot + 1) stem) ≡ Some k
-  entry_behind dot h =
+  entry_after : (dot : ℕ) → IsTrue (bytes_eq (drop (dot + 1) stem) text) → entry keys Extension (drop (dot + 1) stem) ≡ Some k
+  entry_after dot h =
       ap (entry keys Extension) ((bytes_eq-Decides (drop (dot + 1) stem) text).0 h) ∙ (ap (λ t. find (is_key Extension t) keys) same ∙ found)
 
   shown : (second last : Option ℕ) → IsTrue (option_map_or (λ dot. bytes_eq (drop (dot + 1) stem) text) (option_or second last) false)
       → Some k ≡ option_or (extension_at keys stem second) (extension_at keys stem last)
-  shown (Some dot) last h = ap (λ e. option_or e (extension_at keys stem last)) (sym (entry_behind dot h))
-  shown None (Some dot) h = sym (entry_behind dot h)
+  shown (Some dot) last h = ap (λ e. option_or e (extension_at keys stem last)) (sym (entry_after dot h))
+  shown None (Some dot) h = sym (entry_after dot h)
   shown None None h = absurd (cc)
 
   not_whole : entry keys Whole stem ≡ None
@@ -176,7 +176,7 @@ module _ (text : List ℕ) (k : Key) (found : find (is_key Extension text) keys 
         versioned = false;
         last = last;
         second = second;
-        is_versioned = (edge_of stem, below_last (λ x. not (is_version_byte x)) stem 0 (length stem), no_version (is_version (behind stem (edge_of stem)) && ends_in (up_to stem (edge_of stem)) (codes ".so")) unversioned);
+        is_versioned = (edge_of stem, below_last (λ x. not (is_version_byte x)) stem 0 (length stem), no_version (is_version (past stem (edge_of stem)) && ends_in (up_to stem (edge_of stem)) (codes ".so")) unversioned);
         is_last = below_last (is_byte 0x2E) stem 1 (length stem);
         is_second = below_last (is_byte 0x2E) stem 1 (unwrap_or last 0);
         is = shown second last is;

@@ -14,7 +14,7 @@ use Rattle.memchr.specs.Find.{IsFirst, IsFirstByte, IsLast, IsLastByte, Nowhere,
 use Rattle.infer_named.proofs.CopyLemmas.{last_is}
 use Rattle.infer_named.specs.Key.{Key}
 use Rattle.infer_named.specs.Laws.{CaseChangesNoKey, CopiesChangeNoKey, FoldersChangeNoKey}
-use Rattle.infer_named.specs.Names.{IsBase, IsDottedKey, IsExtensionKey, IsKey, IsLastDot, IsMakerKey, IsStemKey, are_parts, behind, copies, copy_length, ends_in, entry, extension_at, is_digit, is_key, is_version, is_version_byte, maker_before, makers, small, stem_of, up_to}
+use Rattle.infer_named.specs.Names.{IsBase, IsDottedKey, IsExtensionKey, IsKey, IsLastDot, IsMakerKey, IsStemKey, are_parts, past, copies, copy_length, ends_in, entry, extension_at, is_digit, is_key, is_version, is_version_byte, maker_before, makers, small, stem_of, up_to}
 use Rattle.infer_named.specs.declared.table.Part.{Part}
 use Rattle.infer_named.specs.declared.table.Part.TheVariants.{Extension, Whole}
 
@@ -113,9 +113,9 @@ module _ (a b : List ℕ) (same : small a ≡ small b) where
   same_take : (n : ℕ) → small (take n a) ≡ small (take n b)
   same_take n = sym (take-map to_ascii_lowercase n a) ∙ (ap (take n) same ∙ take-map to_ascii_lowercase n b)
 
-  same_behind : (place : Option ℕ) → small (behind a place) ≡ small (behind b place)
-  same_behind None = same
-  same_behind (Some place) = same_drop (place + 1)
+  same_after : (place : Option ℕ) → small (past a place) ≡ small (past b place)
+  same_after None = same
+  same_after (Some place) = same_drop (place + 1)
 
   same_up_to : (place : Option ℕ) → small (up_to a place) ≡ small (up_to b place)
   same_up_to None = refl
@@ -173,8 +173,8 @@ module _ (table : List Key) where
       let long = as_long a b same in
       let places : place ≡ other = same_last a b same test steady_edge 0 (length a) (omega arith) place other edge (subst (λ n. IsLast (Passes test b) 0 n other) (sym long) its_edge) in
       let versioned : f.versioned ≡ g.versioned
-      = is ∙ (ap₂ (λ v so. v && so) (same_version (behind a place) (behind b place) (same_behind a b same place)) (same_end (up_to a place) (up_to b place) (same_up_to a b same place) (codes ".so"))
-      ∙ (ap (λ p. is_version (behind b p) && ends_in (up_to b p) (codes ".so")) places ∙ sym its)) in
+      = is ∙ (ap₂ (λ v so. v && so) (same_version (past a place) (past b place) (same_after a b same place)) (same_end (up_to a place) (up_to b place) (same_up_to a b same place) (codes ".so"))
+      ∙ (ap (λ p. is_version (past b p) && ends_in (up_to b p) (codes ".so")) places ∙ sym its)) in
       let dots = same_last a b same (is_byte 0x2E) (steady_byte 0x2E (omega arith)) 1 in
       let last : f.last ≡ g.last = dots (length a) (omega arith) f.last g.last f.is_last (subst (λ n. IsLastDot b n g.last) (sym long) g.is_last) in
       let second : f.second ≡ g.second
@@ -223,7 +223,7 @@ same_base name other same x y (slash, last, is) (place, its_last, its) =
     let long = as_long name other same in
     let one : slash ≡ place = same_last name other same (is_byte2 0x2F 0x5C) steady_slash 0 (length name) (omega arith) slash place last
     (subst (λ n. IsLast (Passes (is_byte2 0x2F 0x5C) other) 0 n place) (sym long) its_last) in
-    ap small is ∙ (same_behind name other same slash ∙ (ap (λ p. small (behind other p)) one ∙ sym (ap small its)))
+    ap small is ∙ (same_after name other same slash ∙ (ap (λ p. small (past other p)) one ∙ sym (ap small its)))
 
 pub case_same : CaseChangesNoKey
 case_same table name other k l same here there =
@@ -236,7 +236,7 @@ nowhere_of test text h k low lt on =
     let some : list_any test text ≡ true = list_any_at test text k 0 lt on in
     absurd (let wrong : IsTrue (not true) = subst (λ b. IsTrue (not b)) some h in cc)
 
--- a name behind a front
+-- a name after a front
 module _ (test : ℕ → Bool) (front name : List ℕ) where
   long : length (front ++ name) ≡ length front + length name
   long = length-append front name
@@ -266,7 +266,7 @@ module _ (test : ℕ → Bool) (front name : List ℕ) where
         | inr late ↦ none (l - length front) (omega arith) (omega (arith, long)) (in_name l late on)
       ])
 
-  -- behind a front that ends in such a byte the same stands behind the last of them
+  -- after a front that ends in such a byte the same stands after the last of them
   module _ (some : 0 < length front) (ends : test (get_or front (length front - 1) 0) ≡ true) where
     abbrev last_in_both : Option ℕ → ℕ
     last_in_both None = length front - 1
@@ -291,18 +291,18 @@ module _ (test : ℕ → Bool) (front name : List ℕ) where
           from_name p on,
         )
 
-    behind_both : (r : Option ℕ) → behind name r ≡ behind (front ++ name) (Some (last_in_both r))
-    behind_both None =
+    after_both : (r : Option ℕ) → past name r ≡ past (front ++ name) (Some (last_in_both r))
+    after_both None =
         let whole : length front - 1 + 1 ≡ length front = omega arith in
         sym (ap (λ n. drop n (front ++ name)) whole ∙ drop-append_seam front name)
-    behind_both (Some p) =
+    after_both (Some p) =
         let sum : length front + p + 1 ≡ length front + (p + 1) = omega arith in
         sym (ap (λ n. drop n (front ++ name)) sum ∙ drop-append-add front name (p + 1))
 
-    one_behind : (r s : Option ℕ) → IsLastByte test name r → IsLastByte test (front ++ name) s → behind name r ≡ behind (front ++ name) s
-    one_behind r s here there =
+    one_after : (r s : Option ℕ) → IsLastByte test name r → IsLastByte test (front ++ name) s → past name r ≡ past (front ++ name) s
+    one_after r s here there =
         let P = Passes test (front ++ name) in
-        behind_both r ∙ ap (behind (front ++ name)) (one_last P P 0 (length (front ++ name)) (λ k low lt on. on) (λ k low lt on. on) (Some (last_in_both r)) s (is_last_in_both r here) there)
+        after_both r ∙ ap (past (front ++ name)) (one_last P P 0 (length (front ++ name)) (λ k low lt on. on) (λ k low lt on. on) (Some (last_in_both r)) s (is_last_in_both r here) there)
 
 -- a folder is a front without 00 that ends in a slash
 module _ (folder : List ℕ) (slash : ℕ) (slashed : IsTrue (is_byte2 0x2F 0x5C slash)) where
@@ -332,7 +332,7 @@ folder_same table folder name slash k l slashed clear here there =
     let some : 0 < length front = omega (arith, front_long folder slash slashed) in
     let ends = front_ends folder slash slashed in
     same_name table name (front ++ name)
-    (λ x y (place, last, is) (other, its_last, its). ap (λ base. small (stem_of base)) (is ∙ (one_behind (is_byte2 0x2F 0x5C) front name some ends place other last its_last ∙ sym its))) k l
+    (λ x y (place, last, is) (other, its_last, its). ap (λ base. small (stem_of base)) (is ∙ (one_after (is_byte2 0x2F 0x5C) front name some ends place other last its_last ∙ sym its))) k l
     (some_alike (is_byte 0) front name (front_clear folder slash slashed clear)) here (subst (λ n. IsKey table n l) (sym (append_assoc folder (slash ∷ []) name)) there)
 
 -- a name before an ending without such bytes
@@ -364,9 +364,9 @@ module _ (test : ℕ → Bool) (name ending : List ℕ) (clear : Nowhere (Passes
       one_last (Passes test name) (Passes test (name ++ ending)) 0 (length name) (λ k low lt on. from_front test name ending k lt on) (λ k low lt on. in_front test name ending k lt on)
       r s here (shorter_last s there)
 
-behind_ending : (name ending : List ℕ) (place : Option ℕ) → IsLastByte (is_byte2 0x2F 0x5C) name place → behind (name ++ ending) place ≡ behind name place ++ ending
-behind_ending name ending None none = refl
-behind_ending name ending (Some p) (there, on) = let high : p < length name = there.high in drop-append-le (p + 1) name ending (omega arith)
+after_ending : (name ending : List ℕ) (place : Option ℕ) → IsLastByte (is_byte2 0x2F 0x5C) name place → past (name ++ ending) place ≡ past name place ++ ending
+after_ending name ending None none = refl
+after_ending name ending (Some p) (there, on) = let high : p < length name = there.high in drop-append-le (p + 1) name ending (omega arith)
 
 -- what holds of each ending of a copy
 by_copies : (P : List ℕ → Type 0) → P (codes "~") → P (codes ".bak") → P (codes ".orig") → P (codes ".old")
@@ -433,9 +433,9 @@ copy_same table name base ending k l copy is_base some none here there =
     let P = Passes (is_byte2 0x2F 0x5C) name in
     same_name table name (name ++ ending) (λ x y (place, last, is) (other, its_last, its).
     let (slash, slash_last, whole) = is_base in
-    let own : x ≡ base = is ∙ (ap (behind name) (one_last P P 0 (length name) (λ k low lt on. on) (λ k low lt on. on) place slash last slash_last) ∙ sym whole) in
+    let own : x ≡ base = is ∙ (ap (past name) (one_last P P 0 (length name) (λ k low lt on. on) (λ k low lt on. on) place slash last slash_last) ∙ sym whole) in
     let more : y ≡ base ++ ending
-    = its ∙ (ap (behind (name ++ ending)) (sym (kept_last (is_byte2 0x2F 0x5C) name ending slashes place other last its_last))
-    ∙ (behind_ending name ending place last ∙ ap (λ b. b ++ ending) (sym is ∙ own))) in
+    = its ∙ (ap (past (name ++ ending)) (sym (kept_last (is_byte2 0x2F 0x5C) name ending slashes place other last its_last))
+    ∙ (after_ending name ending place last ∙ ap (λ b. b ++ ending) (sym is ∙ own))) in
     ap small (ap stem_of own ∙ (own_stem base none ∙ (sym (copied_stem base (some_bytes base some) ending copy) ∙ sym (ap stem_of more))))) k l
     (λ r s first its. ap is_some (kept_first (is_byte 0) name ending (nowhere_of (is_byte 0) ending zeros) r s first its)) here there

@@ -53,7 +53,7 @@ told_agreed r t e = agreed (is_among t r.agrees) (is_among t r.begins) (is_among
 pub told_others : (r : Reading) (t : Triple) → standing_in t r ≢ Some NameRefines → standing_in t r ≢ Some Agree → told_by r t ≡ answer BytesRefine (Some (of_bytes t))
 told_others r t n e = others (is_among t r.agrees) (is_among t r.begins) (is_among t r.finer) r t n e
 
--- the reading at a place is found, or what stands behind it is looked at
+-- the reading at a place is found, or what stands after it is looked at
 module _ {A B : Type 0} (f : A → B) (p : B → Bool) (xs : List A) (i : ℕ) (d : A) (lt : i < length xs) where
   pub found_here : p (f (get_or xs i d)) ≡ true → find p (map f (drop i xs)) ≡ Some (f (get_or xs i d))
   found_here on = at_drop_more (λ l. find p (map f l)) xs i d lt ∙ rw on refl

@@ -1,4 +1,4 @@
--- A version behind ".so": parts of digits, each behind a dot, behind the last "o" of a stem.
+-- A version after ".so": parts of digits, each after a dot, after the last "o" of a stem.
 use Rattle.std.proofs.Common.{◌≡◌, ◌+◌, ◌-◌, ◌<◌, ◌∙◌, ◌==◌, ◌&&◌, ◌||◌, ℕ, zero, suc, Bool, true, false, List, Option, None, Some, ap, arith, [], ◌∷◌, codes, drop, get_or, inl, inr, length, not, refl, subst, sym, take}
 use Rattle.std.proofs.lemmas.Bool.{and_parts, cases_Bool, cases_lt, eqb-true, false_from_ne_true}
 use Rattle.std.proofs.lemmas.List.{drop_all, get_or-drop, get_or-take, length-drop, length-take-le}
@@ -13,7 +13,7 @@ use Rattle.infer_named.specs.Parts.{are_parts_from}
 
 -- ---- parts of digits
 
--- whether a byte is a digit, or a dot behind one
+-- whether a byte is a digit, or a dot after one
 abbrev is_passed : ℕ → ℕ → Bool
 is_passed before x = is_digit x || (x == 0x2E && is_digit before)
 
@@ -22,17 +22,17 @@ one_part before x rest = elim (cases_Bool (is_digit x)) [
   | inl on ↦ rw on refl
   | inr off ↦ elim (cases_Bool (x == 0x2E)) [
     | inl dot ↦ elim (cases_Bool (is_digit before)) [
-      | inl behind ↦ rw off (rw dot (rw behind refl))
+      | inl follows ↦ rw off (rw dot (rw follows refl))
       | inr first ↦ rw off (rw dot (rw first refl))
     ]
     | inr other ↦ elim (cases_Bool (is_digit before)) [
-      | inl behind ↦ rw off (rw other (rw behind refl))
+      | inl follows ↦ rw off (rw other (rw follows refl))
       | inr first ↦ rw off (rw other (rw first refl))
     ]
   ]
 ]
 
--- what stands from a place on are parts if the byte there is passed, and what stands behind it are
+-- what stands from a place on are parts if the byte there is passed, and what stands after it are
 step : (text : List ℕ) (from : ℕ) → 0 < from → from < length text
     → are_parts_from text from ≡ (is_passed (get_or text (from - 1) 0) (get_or text from 0) && are_parts_from text (from + 1))
 step text from some lt =
@@ -60,7 +60,7 @@ parts_ended text end all same before =
     ap (are_parts (not (is_digit (get_or text (end - 1) 0)))) rest ∙ ended (is_digit (get_or text (end - 1) 0)) in
     ap (λ i. all && is_digit (get_or text (i - 1) 0)) (sym same) ∙ ap (λ d. all && d) (sym last) ∙ before
 
--- behind a dot a digit is due
+-- after a dot a digit is due
 pub version_by_parts : (text : List ℕ) → 0 < length text → get_or text 0 0 ≡ 0x2E → is_version text ≡ are_parts_from text 1
 version_by_parts [] some dot = absurd (omega arith)
 version_by_parts (x ∷ rest) some dot = rw dot refl
@@ -155,15 +155,15 @@ module _ (stem : List ℕ) where
                 subst (λ q. (ends_in (take (end + 1) stem) (codes ".so") && is_version (drop (end + 1) stem)) ≡ (is_version (drop (q + 1) stem) && ends_in (take (q + 1) stem) (codes ".so"))) (sym same)
                     (swapped (ends_in (take (end + 1) stem) (codes ".so")) (is_version (drop (end + 1) stem))),
               ))
-          | inl behind ↦ (
-              let unlike : is_version (drop (end + 1) stem) ≡ false = false_from_ne_true _ (λ v. no_version p behind last.high other v) in
+          | inl follows ↦ (
+              let unlike : is_version (drop (end + 1) stem) ≡ false = false_from_ne_true _ (λ v. no_version p follows last.high other v) in
               let unended : ends_in (take (p + 1) stem) (codes ".so") ≡ false = false_from_ne_true _ (λ e. there.after p (omega arith) last.high (ends_letter p last.high e)) in
               (Some p, (last, other), rw unlike (rw unended (swapped (ends_in (take (end + 1) stem) (codes ".so")) false ∙ swapped false (is_version (drop (p + 1) stem))))))
         ]
       ]
         where
           no_version : (p : ℕ) → end < p → p < length stem → is_other (get_or stem p 0) ≡ true → is_version (drop (end + 1) stem) ≡ true → ⊥
-          no_version p behind high other v =
+          no_version p follows high other v =
               let place = p - (end + 1) in
               let long : length (drop (end + 1) stem) ≡ length stem - (end + 1) = length-drop (end + 1) stem in
               let at : end + 1 + place ≡ p = omega arith in

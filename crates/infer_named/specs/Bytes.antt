@@ -47,7 +47,7 @@ unmarked b =
     if starts_with nat_eq b (0xEF ∷ 0xBB ∷ 0xBF ∷ []) then drop 3 b
     else (if starts_with nat_eq b (0xFF ∷ 0xFE ∷ []) || starts_with nat_eq b (0xFE ∷ 0xFF ∷ []) then shown true (drop 2 b) else b)
 
--- the first two bytes behind a byte order mark and white space, or fewer if there are no more
+-- the first two bytes after a byte order mark and white space, or fewer if there are no more
 abbrev pub lead_of : List ℕ → List ℕ
 lead_of b = take 2 (without_white (unmarked b))
 

@@ -14,7 +14,7 @@ use Rattle.infer_named.specs.Bytes.{IsKind, lead_of}
 use Rattle.infer_named.specs.Join.{answer, fits, is_among, join, of_bytes, of_name, reading_of, reading_without, takes, told_by}
 use Rattle.infer_named.specs.Key.{Key, Reading}
 use Rattle.infer_named.specs.Nameless.{nameless}
-use Rattle.infer_named.specs.Names.{IsBase, IsKey, behind, copies, copy_length, ends_in, is_key, is_version, is_version_byte, small, up_to}
+use Rattle.infer_named.specs.Names.{IsBase, IsKey, past, copies, copy_length, ends_in, is_key, is_version, is_version_byte, small, up_to}
 use Rattle.infer_named.specs.Table.{keys}
 use Rattle.infer_named.specs.Named.{IsNamed, answer_of, key_of}
 use Rattle.infer_named.specs.declared.bytes.Kind.{Kind}
@@ -26,19 +26,19 @@ use Rattle.infer_named.specs.declared.join.Standing.{Standing}
 use Rattle.infer_named.specs.declared.join.Standing.TheVariants.{Agree, BytesAlone, BytesRefine, Contradicts, NameAlone, NameRefines, Nothing}
 
 -- the standing is one with which the type of the bytes is told
-abbrev pub tells_bytes : Standing → Bool
-tells_bytes Agree = true
-tells_bytes NameRefines = false
-tells_bytes BytesRefine = true
-tells_bytes BytesAlone = true
-tells_bytes NameAlone = false
-tells_bytes Contradicts = true
-tells_bytes Nothing = false
+abbrev pub takes_bytes : Standing → Bool
+takes_bytes Agree = true
+takes_bytes NameRefines = false
+takes_bytes BytesRefine = true
+takes_bytes BytesAlone = true
+takes_bytes NameAlone = false
+takes_bytes Contradicts = true
+takes_bytes Nothing = false
 
 -- The bytes win. Where the standing is one of these, the type of the bytes is told, and none if they have none. And where a
 -- name refines, the bytes have a type as which a file of the told one may begin, by the first reading that fits and takes it.
 pub record BytesWin (k : Option Key) (t : Option Triple) (kind : Kind) (lead : List ℕ) : Type 0 where
-  pub theirs : IsTrue (tells_bytes (join k t kind lead).standing) → (join k t kind lead).told ≡ option_map of_bytes t
+  pub theirs : IsTrue (takes_bytes (join k t kind lead).standing) → (join k t kind lead).told ≡ option_map of_bytes t
   pub refined : (join k t kind lead).standing ≡ NameRefines → (key : Key) × (r : Reading) × (x : Triple) × (k ≡ Some key) × (t ≡ Some x)
       × (reading_of key.readings x lead ≡ Some r) × IsTrue (is_among x r.begins) × ((join k t kind lead).told ≡ Some (of_name r.named))
 
@@ -96,7 +96,7 @@ FoldersChangeNoKey =
     (table : List Key) (folder name : List ℕ) (slash : ℕ) (k l : Option Key) → IsTrue (is_byte2 0x2F 0x5C slash) → IsTrue (not (list_any (is_byte 0) folder))
     → IsKey table name k → IsKey table (folder ++ (slash ∷ name)) l → k ≡ l
 
--- Nor is the ending of a copy, behind a base that has a byte and is no copy itself.
+-- Nor is the ending of a copy, after a base that has a byte and is no copy itself.
 abbrev pub CopiesChangeNoKey : Type 0
 CopiesChangeNoKey =
     (table : List Key) (name base ending : List ℕ) (k l : Option Key) → IsTrue (list_any (bytes_eq ending) copies)
@@ -213,14 +213,14 @@ edge_of stem = last_below (λ x. not (is_version_byte x)) stem 0 (length stem)
 
 -- the stem is no library with versions, and its extension that is looked for first is the text
 abbrev pub is_unversioned : List ℕ → Bool
-is_unversioned stem = not (is_version (behind stem (edge_of stem)) && ends_in (up_to stem (edge_of stem)) (codes ".so"))
+is_unversioned stem = not (is_version (past stem (edge_of stem)) && ends_in (up_to stem (edge_of stem)) (codes ".so"))
 
 abbrev pub shows_extension : List ℕ → List ℕ → Bool
 shows_extension stem text =
     let last = last_dot stem (length stem) in
     is_unversioned stem && option_map_or (λ dot. bytes_eq (drop (dot + 1) stem) text) (option_or (last_dot stem (unwrap_or last 0)) last) false
 
--- a name with that key: a whole name itself, and an extension behind a dot and so many letters that no whole name is as long
+-- a name with that key: a whole name itself, and an extension after a dot and so many letters that no whole name is as long
 abbrev pub name_of : Part → List ℕ → List ℕ
 name_of Whole text = text
 name_of Extension text = codes "aaaaaaaaaaaaaaaaaaaaaaaaaaa." ++ text
@@ -245,7 +245,7 @@ has_form k =
 abbrev pub is_key_right : Key → Bool
 is_key_right k = has_form k && (has_name k.part k.text && are_told k)
 
--- the texts of the keys that are not so, or that stand once more behind
+-- the texts of the keys that are not so, or that stand once more after
 abbrev pub wrong_keys : List Key → List (List ℕ)
 wrong_keys [] = []
 wrong_keys (k ∷ keys) = if is_key_right k && not (list_any (is_key k.part k.text) keys) then wrong_keys keys else k.text ∷ wrong_keys keys

@@ -15,7 +15,7 @@ use Rattle.infer_named.specs.declared.table.generated.keys.TheConstants.{READING
 use Rattle.infer_named.specs.declared.table.generated.sets.TheConstants.{RANGES, ROWS}
 use Rattle.infer_named.specs.declared.table.generated.texts.TheConstants.{KEY_TEXTS, MIME_TYPES, ROW_TEXTS}
 
--- the texts of the keys, of the types and of the rows, each text behind the other
+-- the texts of the keys, of the types and of the rows, each text after the other
 unfoldable pub key_texts : List ℕ
 key_texts = KEY_TEXTS.now
 

@@ -13,18 +13,18 @@ use Rattle.infer_named.specs.declared.table.Part.TheVariants.{Extension, Whole}
 abbrev pub small : List ℕ → List ℕ
 small bytes = map to_ascii_lowercase bytes
 
--- what stands up to a place, and what behind it: without one nothing, and all
+-- what stands up to a place, and what after it: without one nothing, and all
 abbrev pub up_to : List ℕ → Option ℕ → List ℕ
 up_to bytes None = []
 up_to bytes (Some place) = take (place + 1) bytes
 
-abbrev pub behind : List ℕ → Option ℕ → List ℕ
-behind bytes None = bytes
-behind bytes (Some place) = drop (place + 1) bytes
+abbrev pub past : List ℕ → Option ℕ → List ℕ
+past bytes None = bytes
+past bytes (Some place) = drop (place + 1) bytes
 
--- the base of a name is what stands behind its last / or \
+-- the base of a name is what stands after its last / or \
 abbrev pub IsBase : List ℕ → List ℕ → Type 0
-IsBase name base = (slash : Option ℕ) × IsLastByte (is_byte2 0x2F 0x5C) name slash × (base ≡ behind name slash)
+IsBase name base = (slash : Option ℕ) × IsLastByte (is_byte2 0x2F 0x5C) name slash × (base ≡ past name slash)
 
 -- the text ends in this ending, whose letters are small, and something stands before it
 abbrev pub ends_in : List ℕ → List ℕ → Bool
@@ -49,21 +49,21 @@ is_digit x = nat_le 0x30 x && nat_le x 0x39
 abbrev pub is_version_byte : ℕ → Bool
 is_version_byte x = is_digit x || x == 0x2E
 
--- digits and dots, each dot with a digit behind it; where one is due, a digit stands first
+-- digits and dots, each dot with a digit after it; where one is due, a digit stands first
 abbrev pub are_parts : Bool → List ℕ → Bool
 are_parts due [] = not due
 are_parts due (x ∷ rest) = if is_digit x then are_parts false rest else (not due && x == 0x2E && are_parts true rest)
 
--- parts of digits only, each behind a dot, as ".6" and ".1.10"
+-- parts of digits only, each after a dot, as ".6" and ".1.10"
 abbrev pub is_version : List ℕ → Bool
 is_version [] = false
 is_version (x ∷ rest) = x == 0x2E && are_parts true rest
 
--- whether the digits and dots at the end of the stem are such parts, and ".so" stands before them behind something
+-- whether the digits and dots at the end of the stem are such parts, and ".so" stands before them after something
 abbrev pub IsVersioned : List ℕ → Bool → Type 0
 IsVersioned stem versioned =
     (place : Option ℕ) × IsLastByte (λ x. not (is_version_byte x)) stem place
-    × (versioned ≡ (is_version (behind stem place) && ends_in (up_to stem place) (codes ".so")))
+    × (versioned ≡ (is_version (past stem place) && ends_in (up_to stem place) (codes ".so")))
 
 -- the last dot of the stem before a place, but for one that is its first byte
 abbrev pub IsLastDot : List ℕ → ℕ → Option ℕ → Type 0
@@ -89,13 +89,13 @@ module _ (keys : List Key) where
   abbrev pub entry : Part → List ℕ → Option Key
   entry part text = find (is_key part (small text)) keys
 
-  -- the extension behind a dot, if there is one
+  -- the extension after a dot, if there is one
   abbrev pub extension_at : List ℕ → Option ℕ → Option Key
   extension_at stem None = None
   extension_at stem (Some dot) = entry Extension (drop (dot + 1) stem)
 
-  -- the extension of the stem: `so` alone if it is versioned; and else what stands behind the last dot but one, or else
-  -- behind the last
+  -- the extension of the stem: `so` alone if it is versioned; and else what stands after the last dot but one, or else
+  -- after the last
   pub record IsExtensionKey (stem : List ℕ) (found : Option Key) : Type 0 where
     pub versioned : Bool
     pub last : Option ℕ

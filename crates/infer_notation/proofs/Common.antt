@@ -41,7 +41,7 @@ pub use Rattle.infer_notation.specs.Signature.{begins_relation, described}
 unfoldable pub use Rattle.infer_notation.specs.Tokens.{token_at}
 pub use Rattle.infer_notation.specs.Tokens.{bare, bare_at, is_separator, is_of, separator, quoted, quoted_at, set_at}
 pub use Rattle.infer_notation.specs.Tokens.{token_listed}
-pub use Rattle.infer_notation.specs.Words.{◌>>=◌, behind_blanks, byte_of, byte_with, bytes_behind, bytes_of}
+pub use Rattle.infer_notation.specs.Words.{◌>>=◌, after_blanks, byte_of, byte_with, bytes_after, bytes_of}
 pub use Rattle.infer_notation.specs.Words.{first_passes, found_by, hex_joined, hex_seen, is_blank, number_of}
 pub use Rattle.infer_notation.specs.declared.fixed.Cursor.{Cursor}
 pub use Rattle.infer_notation.specs.declared.fixed.Effect.TheVariants.{Has}

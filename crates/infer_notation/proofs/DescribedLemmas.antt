@@ -1,5 +1,5 @@
 -- What is read of a text is what it describes.
-use Rattle.infer_notation.proofs.Common.{◌≡◌, ◌+◌, ◌<◌, ◌≤◌, ◌&&◌, ◌||◌, ◌==◌, ◌⊎◌, ℕ, Bool, true, false, List, [], ◌∷◌, ◌++◌, Option, None, Some, codes, drop, length, map, nat_le, nat_lt, option_map, inl, inr, refl, sym, ap, subst, ◌∙◌, arith, All, list_all, onto_first, slice_split, cases_Bool, eqb-true, le-leb, leb-true, lt-leb, lt-ltb, ltb-true, append-nil, length-map, All-cons, All-nil, slice_split-cons_no, slice_split_at, slice_split_none, cond_some, bytes_eq-Decides, Alternative, BeginsWith, IsMadeOf, by_word, blank, empty, next, begins_by, bytes_in, each_of, is_or, item_of, items_in, items_of, extra_entry, named_in, names, programs_of, related, relations_in, relations_of, same_token, short_groups, Rest, alternatives_of, rest_of, Derives, opened, signature, tokens_of, begins_relation, described, signature_of, bare, is_of, separator, quoted, ◌>>=◌, behind_blanks, byte_of, byte_with, number_of, Bare, Takes, Nothing, Program, not, or_cases, and_parts}
+use Rattle.infer_notation.proofs.Common.{◌≡◌, ◌+◌, ◌<◌, ◌≤◌, ◌&&◌, ◌||◌, ◌==◌, ◌⊎◌, ℕ, Bool, true, false, List, [], ◌∷◌, ◌++◌, Option, None, Some, codes, drop, length, map, nat_le, nat_lt, option_map, inl, inr, refl, sym, ap, subst, ◌∙◌, arith, All, list_all, onto_first, slice_split, cases_Bool, eqb-true, le-leb, leb-true, lt-leb, lt-ltb, ltb-true, append-nil, length-map, All-cons, All-nil, slice_split-cons_no, slice_split_at, slice_split_none, cond_some, bytes_eq-Decides, Alternative, BeginsWith, IsMadeOf, by_word, blank, empty, next, begins_by, bytes_in, each_of, is_or, item_of, items_in, items_of, extra_entry, named_in, names, programs_of, related, relations_in, relations_of, same_token, short_groups, Rest, alternatives_of, rest_of, Derives, opened, signature, tokens_of, begins_relation, described, signature_of, bare, is_of, separator, quoted, ◌>>=◌, after_blanks, byte_of, byte_with, number_of, Bare, Takes, Nothing, Program, not, or_cases, and_parts}
 use Rattle.std.proofs.Common.{◌*◌}
 use Rattle.std.specs.Int.{is_in_range}
 use Rattle.std.proofs.lemmas.List.{append_assoc}
@@ -8,8 +8,8 @@ use Rattle.std.proofs.Math.Bool.{and-false}
 use Rattle.std.proofs.lemmas.Bool.{eq-eqb, not-true}
 use Rattle.infer_formats.specs.Relation.{Relation, class_id, directory_tag, directory_tag_and_make, first_entry_ends_in, first_entry_has_extra, first_entry_is, first_key, first_key_with, header, of_text, program, relation_listed, root, root_with, text_first, text_first_with, text_first_with_all}
 use Rattle.infer_formats.specs.declared.relation.Relation as relations
-use Rattle.infer_notation.specs.Described.{AreBytes, Asks, AsksEach, AsksFor, Describes, IsGroup, IsName, IsNameIn, IsParted, IsShort, NamesRelation, WriteEach, Writes, a_key, a_later_header, a_text, a_name, a_program, a_beginning, a_relation, a_tag, a_tag_and_make, a_text_behind, a_text_within, a_value, an_element, an_end, an_extra, an_id, last, nothing, one_text, other, programs, three_texts_behind, two_texts_behind}
-use Rattle.infer_notation.specs.Relations.{alone, beginning_of, behind_tag, beginning_with, beginning_with_all, beginning_with_two, directory_of, ending_entry, entry_of, extra_field, header_of, id_of, key_of, named_entry, number_at, or_else, short_number, tag_of, text_of, program_of, root_of}
+use Rattle.infer_notation.specs.Described.{AreBytes, Asks, AsksEach, AsksFor, Describes, IsGroup, IsName, IsNameIn, IsParted, IsShort, NamesRelation, WriteEach, Writes, a_key, a_later_header, a_text, a_name, a_program, a_beginning, a_relation, a_tag, a_tag_and_make, a_text_after, a_text_within, a_value, an_element, an_end, an_extra, an_id, last, nothing, one_text, other, programs, three_texts_after, two_texts_after}
+use Rattle.infer_notation.specs.Relations.{alone, beginning_of, after_tag, beginning_with, beginning_with_all, beginning_with_two, directory_of, ending_entry, entry_of, extra_field, header_of, id_of, key_of, named_entry, number_at, or_else, short_number, tag_of, text_of, program_of, root_of}
 use Rattle.infer_notation.specs.Tokens.{Token, is_word, set}
 use Rattle.infer_notation.specs.Words.{is_digit}
 use Rattle.infer_notation.proofs.GrammarLemmas as grammar
@@ -115,7 +115,7 @@ takes_none takes = false
 abbrev are_apart : List Token × Takes → List Token × Takes → Bool
 are_apart m n = differ n.0 m.0 || (takes_none n.1 && nat_lt (length n.0) (length m.0))
 
--- so each of the names is of those behind it
+-- so each of the names is of those after it
 abbrev all_apart : List (List Token × Takes) → Bool
 all_apart [] = true
 all_apart (m ∷ ns) = list_all (are_apart m) ns && all_apart ns
@@ -137,7 +137,7 @@ begins_itself : (ts rest : List Token) → (begins_by (ts ++ rest) ts ≡ true) 
 begins_itself [] rest = (refl, refl)
 begins_itself (t ∷ ts) rest = let later = begins_itself ts rest in (rw (same_itself t, later.0) refl, later.1)
 
--- what takes nothing has no token behind its name
+-- what takes nothing has no token after its name
 taken_none : (takes : Takes) (rest : List Token) (bs : List Alternative) → AsksFor takes rest bs → takes_none takes ≡ true → rest ≡ []
 taken_none (Nothing r) rest bs (a_relation _ _ s (nothing _)) is = refl
 taken_none takes rest bs asks is = absurd cc
@@ -192,20 +192,20 @@ tag_and_make_so (w ∷ x ∷ y ∷ z ∷ []) ts make n e writes =
     (a_tag_and_make w x y z h l ts make is-high is-low writes)
 tag_and_make_so w ts make n e writes = absurd cc
 
-behind_tag_so : (w : List ℕ) (n : ℕ) → tag_of w ≡ Some n → (ts : List Token) (a : Relation) → behind_tag n ts ≡ Some a → Asks Tag (bare w ∷ ts) a
-behind_tag_so w n is [] a e = let same : directory_tag n ≡ a = cc in subst (Asks Tag (bare w ∷ [])) same (tag_so w n is)
-behind_tag_so w n is (t ∷ u ∷ ts) a e =
+after_tag_so : (w : List ℕ) (n : ℕ) → tag_of w ≡ Some n → (ts : List Token) (a : Relation) → after_tag n ts ≡ Some a → Asks Tag (bare w ∷ ts) a
+after_tag_so w n is [] a e = let same : directory_tag n ≡ a = cc in subst (Asks Tag (bare w ∷ [])) same (tag_so w n is)
+after_tag_so w n is (t ∷ u ∷ ts) a e =
     let (so, some) = cond_given (is_word (codes "and") t && is_word (codes "make") u) (option_map (directory_tag_and_make n) (text_in ts)) a e in
     let (make, made, same) = map_some (directory_tag_and_make n) (text_in ts) a some in
     let words = and_parts (is_word (codes "and") t) (is_word (codes "make") u) so in
     subst (λ v. Asks Tag (bare w ∷ v ∷ u ∷ ts) a) (sym (word_is (codes "and") t words.0))
     (subst (λ v. Asks Tag (bare w ∷ bare (codes "and") ∷ v ∷ ts) a) (sym (word_is (codes "make") u words.1))
     (subst (Asks Tag (bare w ∷ bare (codes "and") ∷ bare (codes "make") ∷ ts)) same (tag_and_make_so w ts make n is (writes_so ts make made))))
-behind_tag_so w n is ts a e = absurd cc
+after_tag_so w n is ts a e = absurd cc
 
 directory_so : (ts : List Token) (a : Relation) → directory_of ts ≡ Some a → Asks Tag ts a
 directory_so (bare w ∷ ts) a e =
-    let (n, is, some) = bind_some (tag_of w) _ a e in behind_tag_so w n is ts a some
+    let (n, is, some) = bind_some (tag_of w) _ a e in after_tag_so w n is ts a some
 directory_so ts a e = absurd cc
 
 text_so : (which : OfText) (ts : List Token) (a : Relation) → text_of which ts ≡ Some a → Asks (OneText which) ts a
@@ -295,30 +295,30 @@ root_so (bare n ∷ t ∷ quoted s ∷ []) a e =
     subst (λ u. Asks Root (bare n ∷ u ∷ quoted s ∷ []) a) (sym (word_is (codes "with") t both.0)) (subst (Asks Root (bare n ∷ bare (codes "with") ∷ quoted s ∷ [])) both.1 (a_text_within n s))
 root_so ts a e = absurd cc
 
--- the texts behind those that were read, and the relation with all
-record Begun (behind : Option (List Token)) (before : List (List ℕ)) (a : Relation) : Type 0 where
+-- the texts after those that were read, and the relation with all
+record Begun (after : Option (List Token)) (before : List (List ℕ)) (a : Relation) : Type 0 where
   others : List (List ℕ)
-  left : AreLeft behind others
+  left : AreLeft after others
   asks : (ts : List Token) → WriteEach ts (before ++ others) → Asks Begins ts a
 
-all_so : (t u v : List ℕ) (behind : Option (List Token)) (a : Relation) → beginning_with_all t u v behind ≡ Some a → Begun behind (t ∷ u ∷ v ∷ []) a
+all_so : (t u v : List ℕ) (after : Option (List Token)) (a : Relation) → beginning_with_all t u v after ≡ Some a → Begun after (t ∷ u ∷ v ∷ []) a
 all_so t u v None a e =
     let same : text_first_with_all t u v [] ≡ a = cc in
-    record { others = []; left = refl; asks = λ ts each. subst (Asks Begins ts) same (two_texts_behind ts t u v each) }
+    record { others = []; left = refl; asks = λ ts each. subst (Asks Begins ts) same (two_texts_after ts t u v each) }
 all_so t u v (Some us) a e =
     let (w, is, same) = map_some (λ w. text_first_with_all t u v w) (text_in us) a e in
-    record { others = w ∷ []; left = one_text us w (writes_so us w is); asks = λ ts each. subst (Asks Begins ts) same (three_texts_behind ts t u v w each) }
+    record { others = w ∷ []; left = one_text us w (writes_so us w is); asks = λ ts each. subst (Asks Begins ts) same (three_texts_after ts t u v w each) }
 
-two_so : (t u : List ℕ) (behind : Option (List Token)) (a : Relation) → beginning_with_two t u behind ≡ Some a → Begun behind (t ∷ u ∷ []) a
+two_so : (t u : List ℕ) (after : Option (List Token)) (a : Relation) → beginning_with_two t u after ≡ Some a → Begun after (t ∷ u ∷ []) a
 two_so t u None a e =
     let same : text_first_with t u ≡ a = cc in
-    record { others = []; left = refl; asks = λ ts each. subst (Asks Begins ts) same (a_text_behind ts t u each) }
+    record { others = []; left = refl; asks = λ ts each. subst (Asks Begins ts) same (a_text_after ts t u each) }
 two_so t u (Some us) a e =
     let (p, is, some) = bind_some (text_before (codes "has") us) (λ p. beginning_with_all t u p.0 p.1) a e in
     let more = all_so t u p.0 p.1 a some in
     record { others = p.0 ∷ more.others; left = each_so us p.0 p.1 is more.others more.left; asks = more.asks }
 
-first_so : (t : List ℕ) (behind : Option (List Token)) (a : Relation) → beginning_with t behind ≡ Some a → Begun behind (t ∷ []) a
+first_so : (t : List ℕ) (after : Option (List Token)) (a : Relation) → beginning_with t after ≡ Some a → Begun after (t ∷ []) a
 first_so t None a e =
     let same : text_first t ≡ a = cc in
     record { others = []; left = refl; asks = λ ts each. subst (Asks Begins ts) same (a_beginning ts t each) }
@@ -358,8 +358,8 @@ number_so front us t a writes e = absurd cc
 header_so : (ts : List Token) (a : Relation) → header_of ts ≡ Some a → Asks Header ts a
 header_so ts a e =
     let (p, is, some) = bind_some (text_before (codes "with") ts) (λ p. p.1 >>= number_at p.0) a e in
-    let (us, behind, found) = bind_some p.1 (number_at p.0) a some in
-    let b = before_so (codes "with") ts p.0 (Some us) (is ∙ ap (λ (o : Option (List Token)). Some (p.0, o)) behind) in
+    let (us, after, found) = bind_some p.1 (number_at p.0) a some in
+    let b = before_so (codes "with") ts p.0 (Some us) (is ∙ ap (λ (o : Option (List Token)). Some (p.0, o)) after) in
     subst (λ vs. Asks Header vs a) (sym b.cut) (number_so b.front us p.0 a b.writes found)
 
 key_so : (ts : List Token) (a : Relation) → key_of ts ≡ Some a → Asks FirstKey ts a
@@ -384,14 +384,14 @@ asked_so Header ts a e = header_so ts a e
 abbrev one_of : Relation → List Alternative
 one_of r = related r ∷ []
 
--- each text that is read leaves those behind it
+-- each text that is read leaves those after it
 first_read : (ts : List Token) (t : List ℕ) → WriteEach ts (t ∷ []) → beginning_of ts ≡ Some (text_first t)
 first_read ts t each =
     let (o, is, left) = each_first ts t [] each in
     rw is (ap (beginning_with t) (none_left o left))
 
 second_read : (ts : List Token) (t u : List ℕ) (others : List (List ℕ)) → WriteEach ts (t ∷ u ∷ others)
-    → (behind : Option (List Token)) × (beginning_of ts ≡ beginning_with_two t u behind) × AreLeft behind others
+    → (after : Option (List Token)) × (beginning_of ts ≡ beginning_with_two t u after) × AreLeft after others
 second_read ts t u others each =
     let (o, is, left) = each_first ts t (u ∷ others) each in
     let (us, more, later) = more_left o u others left in
@@ -399,7 +399,7 @@ second_read ts t u others each =
     (p, rw is (ap (beginning_with t) more ∙ rw are refl), rest)
 
 third_read : (ts : List Token) (t u v : List ℕ) (others : List (List ℕ)) → WriteEach ts (t ∷ u ∷ v ∷ others)
-    → (behind : Option (List Token)) × (beginning_of ts ≡ beginning_with_all t u v behind) × AreLeft behind others
+    → (after : Option (List Token)) × (beginning_of ts ≡ beginning_with_all t u v after) × AreLeft after others
 third_read ts t u v others each =
     let (o, is, left) = second_read ts t u (v ∷ others) each in
     let (us, more, later) = more_left o v others left in
@@ -418,11 +418,11 @@ asks_so takes ts a (a_tag_and_make w x y z high low us make is-high is-low write
 asks_so takes ts a (an_extra v w x y is-x is-y) = rw (is-x, is-y) refl
 asks_so takes ts a (an_id ws id long bytes) = rw (length-map ws bare ∙ long, so_words ws id bytes) refl
 asks_so takes ts a (a_beginning _ t each) = ap (option_map one_of) (first_read ts t each)
-asks_so takes ts a (a_text_behind _ t u each) =
+asks_so takes ts a (a_text_after _ t u each) =
     let (o, is, left) = second_read ts t u [] each in ap (option_map one_of) (is ∙ ap (beginning_with_two t u) (none_left o left))
-asks_so takes ts a (two_texts_behind _ t u v each) =
+asks_so takes ts a (two_texts_after _ t u v each) =
     let (o, is, left) = third_read ts t u v [] each in ap (option_map one_of) (is ∙ ap (beginning_with_all t u v) (none_left o left))
-asks_so takes ts a (three_texts_behind _ t u v w each) = ap (option_map one_of) (fourth_read ts t u v w each)
+asks_so takes ts a (three_texts_after _ t u v w each) = ap (option_map one_of) (fourth_read ts t u v w each)
 asks_so takes ts a (a_later_header front t v w x l h f writes is-l is-h is-f) =
     rw (read_before (codes "with") refl front (bare v ∷ bare (codes "to") ∷ bare w ∷ bare (codes "at") ∷ bare x ∷ []) t writes, so_short v l is-l, so_short w h is-h, so_short x f is-f) refl
 asks_so takes ts a asks = refl
@@ -524,7 +524,7 @@ so_relation text bs is =
     named (firsts, others, asks, each, same) = takes_so is.takes is.name is.first firsts asks is.named
 
 -- a relation's name begins with a letter, and fixed bytes with a number
-begins_so : (text rest : List ℕ) (t : Token) (w : List ℕ) → BeginsWith text t rest → t ≡ bare w → (behind_blanks text ≡ w ++ rest) × (0 < length w)
+begins_so : (text rest : List ℕ) (t : Token) (w : List ℕ) → BeginsWith text t rest → t ≡ bare w → (after_blanks text ≡ w ++ rest) × (0 < length w)
 begins_so text rest t w (by_word [] _ some all ends) e = absurd (omega arith)
 begins_so text rest t w (by_word (x ∷ xs) _ some all ends) e =
     let same : x ∷ xs ≡ w = cc in
@@ -532,10 +532,10 @@ begins_so text rest t w (by_word (x ∷ xs) _ some all ends) e =
     (rw dark (ap (λ u. u ++ rest) same), subst (λ u. 0 < length u) same some)
 begins_so text rest t w begins e = absurd cc
 
-first_word : (text : List ℕ) (ts : List Token) (w : List ℕ) (us : List Token) → IsMadeOf text ts → ts ≡ bare w ∷ us → (rest : List ℕ) × (behind_blanks text ≡ w ++ rest) × (0 < length w)
+first_word : (text : List ℕ) (ts : List Token) (w : List ℕ) (us : List Token) → IsMadeOf text ts → ts ≡ bare w ∷ us → (rest : List ℕ) × (after_blanks text ≡ w ++ rest) × (0 < length w)
 first_word text ts w us empty e = absurd cc
-first_word text ts w us (blank x behind vs is made) e =
-    let (rest, same, some) = first_word behind vs w us made e in (rest, rw is same, some)
+first_word text ts w us (blank x after vs is made) e =
+    let (rest, same, some) = first_word after vs w us made e in (rest, rw is same, some)
 first_word text ts w us (next _ rest t vs begins made) e =
     let same : t ≡ bare w = cc in let front = begins_so text rest t w begins same in (rest, front.0, front.1)
 
@@ -548,7 +548,7 @@ number_first : (w rest : List ℕ) (n : ℕ) → number_of w ≡ Some n → begi
 number_first [] rest n e = absurd cc
 number_first (x ∷ xs) rest n e = digit_alone x (cond_given (is_digit x) _ n e).0
 
-fixed_first : (text : List ℕ) (ts : List Token) (r : Rest) → IsMadeOf text ts → Derives signature ts r → begins_relation (behind_blanks text) ≡ false
+fixed_first : (text : List ℕ) (ts : List Token) (r : Rest) → IsMadeOf text ts → Derives signature ts r → begins_relation (after_blanks text) ≡ false
 fixed_first text ts r made (opened w n us s is derived) =
     let (rest, same, some) = first_word text ts w (separator 0x3A ∷ us) made refl in ap begins_relation same ∙ number_first w rest n is
 
@@ -558,7 +558,7 @@ opens_letter ((bare w ∷ ts), takes) = begins_relation w
 opens_letter n = false
 
 module _ (text : List ℕ) (us : List Token) (takes : Takes) where
-  letter_here : (name : List Token) → IsMadeOf text (name ++ us) → opens_letter (name, takes) ≡ true → begins_relation (behind_blanks text) ≡ true
+  letter_here : (name : List Token) → IsMadeOf text (name ++ us) → opens_letter (name, takes) ≡ true → begins_relation (after_blanks text) ≡ true
   letter_here (bare (x ∷ w) ∷ vs) made is =
       let (rest, same, some) = first_word text (bare (x ∷ w) ∷ (vs ++ us)) (x ∷ w) (vs ++ us) made refl in
       ap begins_relation same ∙ is
@@ -569,7 +569,7 @@ module _ (text : List ℕ) (us : List Token) (takes : Takes) where
   letter_in (n ∷ ns) name all (inr later) = letter_in ns name (and_parts (opens_letter n) _ all).1 later
   letter_in [] name all none = absurd none
 
-  letter_first : (name : List Token) → IsMadeOf text (name ++ us) → IsName takes name → begins_relation (behind_blanks text) ≡ true
+  letter_first : (name : List Token) → IsMadeOf text (name ++ us) → IsName takes name → begins_relation (after_blanks text) ≡ true
   letter_first name made is = letter_here name made (letter_in names name refl is)
 
 tokens_whole : (ts g : List Token) (gs : List (List Token)) → IsParted ts (g ∷ gs) → (us : List Token) × (ts ≡ g ++ us)
@@ -578,7 +578,7 @@ tokens_whole ts g gs (other _ us _ group parted) = (bare (codes "or") ∷ us, re
 
 pub is_described : (text : List ℕ) (bs : List Alternative) → signature_of text ≡ Some bs → Describes text bs
 unfolding signature_of
-is_described text bs e = elim (cases_Bool (begins_relation (behind_blanks text))) [
+is_described text bs e = elim (cases_Bool (begins_relation (after_blanks text))) [
   | inl is ↦ inr (relation_so text bs (rw is at e))
   | inr not ↦
       let (ys, are, same) = map_some (map described) (alternatives_of text) bs (rw not at e) in

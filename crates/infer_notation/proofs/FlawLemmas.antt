@@ -6,7 +6,7 @@ use Rattle.infer_notation.specs.Grammar.{unread, unread_at}
 use Rattle.infer_notation.specs.Relations.{left_length}
 use Rattle.infer_notation.specs.Tokens.{Token, token_at}
 use Rattle.infer_notation.specs.declared.reason.Flaw.{Flaw}
-use Rattle.infer_notation.specs.Words.{behind_blanks, is_blank}
+use Rattle.infer_notation.specs.Words.{after_blanks, is_blank}
 use Rattle.infer_notation.proofs.ReadLemmas as read
 
 -- bytes of a token that was read count no more
@@ -14,10 +14,10 @@ past_read : (n : ℕ) (xs : List ℕ) → unread_at n xs ≡ unread_at 0 (drop n
 past_read = read.past_read unread_at (λ n. refl) (λ n x xs. refl)
 
 -- nor do blanks
-pub past_blanks : (xs : List ℕ) → unread (behind_blanks xs) ≡ unread xs
+pub past_blanks : (xs : List ℕ) → unread (after_blanks xs) ≡ unread xs
 past_blanks = read.past_blanks unread (λ x xs is. rw is refl)
 
--- behind a token, what is left unread is the same
+-- after a token, what is left unread is the same
 pub past_token : (front : List ℕ) (t : Token) (n : ℕ) → 0 < length front → is_blank (get_or front 0 0) ≡ false → Some (t, n) ≡ token_at front
     → unread front ≡ unread (drop n (drop 1 front))
 past_token [] t n some dark is = absurd (omega arith)
@@ -29,15 +29,15 @@ no_token [] some dark is = absurd (omega arith)
 no_token (x ∷ xs) some dark is = rw (dark, sym is) refl
 
 -- what is wrong with what is left of a text is wrong with the text
-pub flaw_behind : (text rest : List ℕ) (flaw : Flaw) → length rest ≤ length text → unread text ≡ unread rest → IsFlawOf rest flaw → IsFlawOf text flaw
-flaw_behind text rest flaw fits same is = record {
+pub flaw_after : (text rest : List ℕ) (flaw : Flaw) → length rest ≤ length text → unread text ≡ unread rest → IsFlawOf rest flaw → IsFlawOf text flaw
+flaw_after text rest flaw fits same is = record {
   inside = (let inside = is.inside in omega arith);
   first = λ token. is.first token ∙ ap length (sym same);
 }
 
--- what stands behind the next alternative of a relation
-pub behind_next : (text more : List ℕ) (behind : Option (Bor (List ℕ))) → unread text ≡ unread more → length more ≤ length text
-    → IfSome behind (λ t. unread more ≡ unread t.now) → left_length (option_map (λ t. t.now) behind) ≤ length more
-    → IfSome behind (λ t. (unread text ≡ unread t.now) × (length t.now ≤ length text))
-behind_next text more None same fits read less = tt
-behind_next text more (Some t) same fits read less = (same ∙ read, omega arith)
+-- what stands after the next alternative of a relation
+pub after_next : (text more : List ℕ) (after : Option (Bor (List ℕ))) → unread text ≡ unread more → length more ≤ length text
+    → IfSome after (λ t. unread more ≡ unread t.now) → left_length (option_map (λ t. t.now) after) ≤ length more
+    → IfSome after (λ t. (unread text ≡ unread t.now) × (length t.now ≤ length text))
+after_next text more None same fits read less = tt
+after_next text more (Some t) same fits read less = (same ∙ read, omega arith)

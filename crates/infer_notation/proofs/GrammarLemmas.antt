@@ -158,7 +158,7 @@ Means Or n p ts r = Closed r × Derives others ts r
 means_or : (ts : List Token) (b : Rest) → Closed b × Derives signature ts b → Closed b × Derives others (bare (codes "or") ∷ ts) b
 means_or ts b (closed, d) = (closed, subst (Derives others (bare (codes "or") ∷ ts)) (sym closed) (other ts b.alternatives (subst (Derives signature ts) closed d)))
 
--- by a step, and what the tokens behind it are
+-- by a step, and what the tokens after it are
 means_step : (w : Wanted) (n p : ℕ) (t : Token) (d : Cursor) (e : Effect) → Steps w n p t d e → (ts : List Token) (b : Rest) → Means d.wanted d.least d.place ts b
     → Means w n p (t ∷ ts) (joined e b)
 means_step w n p t d e (counted _ _ v m is) ts b (us, same, derived) =
@@ -195,9 +195,9 @@ unfolding step
 means [] c r e = means_end c.wanted c.least c.place r e
 means (t ∷ ts) c r e =
     let (s, is, some) = bind_some (step_at c.wanted c.least c.place t) (λ s. option_map (joined s.1) (parse s.0 ts)) r e in
-    let (b, behind, same) = map_some (joined s.1) (parse s.0 ts) r some in
+    let (b, after, same) = map_some (joined s.1) (parse s.0 ts) r some in
     subst (Means c.wanted c.least c.place (t ∷ ts)) same
-    (means_step c.wanted c.least c.place t s.0 s.1 (steps_so c.wanted c.least c.place t s is) ts b (means ts s.0 b behind))
+    (means_step c.wanted c.least c.place t s.0 s.1 (steps_so c.wanted c.least c.place t s is) ts b (means ts s.0 b after))
 
 pub is_derived : (t : List ℕ) (ys : List Asked) → fixed.alternatives_of t ≡ Some ys → IsSignature t ys
 is_derived t ys e =

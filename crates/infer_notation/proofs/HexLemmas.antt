@@ -1,5 +1,5 @@
 -- Bytes in hexadecimal digits, read one after the other.
-use Rattle.infer_notation.proofs.Common.{◌≡◌, ◌+◌, ◌&&◌, ◌||◌, ◌==◌, ℕ, suc, Bool, true, false, List, [], ◌∷◌, Option, None, Some, length, drop, option_map, nat_eq, refl, sym, ap, ◌∙◌, arith, list_any, starts_with, allows, any_of, nat_tests, bytes_behind, bytes_of, byte_with, first_passes, hex_joined, hex_seen, is_blank, Hex}
+use Rattle.infer_notation.proofs.Common.{◌≡◌, ◌+◌, ◌&&◌, ◌||◌, ◌==◌, ℕ, suc, Bool, true, false, List, [], ◌∷◌, Option, None, Some, length, drop, option_map, nat_eq, refl, sym, ap, ◌∙◌, arith, list_any, starts_with, allows, any_of, nat_tests, bytes_after, bytes_of, byte_with, first_passes, hex_joined, hex_seen, is_blank, Hex}
 use Rattle.std.proofs.Math.Bool.{and-true, and_assoc, or-false, or_assoc}
 
 starts_next : (b : ℕ) (left xs : List ℕ) → starts_with nat_eq left (b ∷ xs) ≡ (first_passes (λ x. b == x) left && starts_with nat_eq (drop 1 left) xs)
@@ -25,7 +25,7 @@ joined_next read left buf b xs n s h is-n is-s is-h =
 
 -- what is given in the end, from here on
 abbrev pub gives : Hex → List ℕ → List ℕ → Option ℕ → List ℕ → Option Hex
-gives read left buf first text = option_map (hex_joined read left buf) (bytes_behind first text)
+gives read left buf first text = option_map (hex_joined read left buf) (bytes_after first text)
 
 pub gives_start : (buf text : List ℕ) → gives (record { count = 0; stands = true; has = false }) buf buf None text ≡ option_map (hex_seen buf) (bytes_of text)
 gives_start buf text = starts buf (bytes_of text)
@@ -40,16 +40,16 @@ gives_blank read left buf x xs h = rw h refl
 pub gives_first : (read : Hex) (left buf : List ℕ) (x : ℕ) (xs : List ℕ) → is_blank x ≡ false → gives read left buf None (x ∷ xs) ≡ gives read left buf (Some x) xs
 gives_first read left buf x xs h = rw h refl
 
-map_byte : (read more : Hex) (left behind buf : List ℕ) (b : ℕ) (r : Option (List ℕ))
-    → ((zs : List ℕ) → hex_joined more behind buf zs ≡ hex_joined read left buf (b ∷ zs))
-    → option_map (hex_joined read left buf) (option_map (λ bytes. b ∷ bytes) r) ≡ option_map (hex_joined more behind buf) r
-map_byte read more left behind buf b None h = refl
-map_byte read more left behind buf b (Some xs) h = ap (λ (r : Hex). Some r) (sym (h xs))
+map_byte : (read more : Hex) (left after buf : List ℕ) (b : ℕ) (r : Option (List ℕ))
+    → ((zs : List ℕ) → hex_joined more after buf zs ≡ hex_joined read left buf (b ∷ zs))
+    → option_map (hex_joined read left buf) (option_map (λ bytes. b ∷ bytes) r) ≡ option_map (hex_joined more after buf) r
+map_byte read more left after buf b None h = refl
+map_byte read more left after buf b (Some xs) h = ap (λ (r : Hex). Some r) (sym (h xs))
 
-pub gives_byte : (read more : Hex) (left behind buf : List ℕ) (x y b : ℕ) (xs : List ℕ) → byte_with x y ≡ Some b
-    → ((zs : List ℕ) → hex_joined more behind buf zs ≡ hex_joined read left buf (b ∷ zs))
-    → gives read left buf (Some x) (y ∷ xs) ≡ gives more behind buf None xs
-gives_byte read more left behind buf x y b xs is h = rw is (map_byte read more left behind buf b (bytes_behind None xs) h)
+pub gives_byte : (read more : Hex) (left after buf : List ℕ) (x y b : ℕ) (xs : List ℕ) → byte_with x y ≡ Some b
+    → ((zs : List ℕ) → hex_joined more after buf zs ≡ hex_joined read left buf (b ∷ zs))
+    → gives read left buf (Some x) (y ∷ xs) ≡ gives more after buf None xs
+gives_byte read more left after buf x y b xs is h = rw is (map_byte read more left after buf b (bytes_after None xs) h)
 
 abbrev hex : ℕ → Bool → Bool → Hex
 hex count stands has = record { count = count; stands = stands; has = has }

@@ -1,5 +1,5 @@
 -- What is known of the buffers that fit what was read of a signature.
-use Rattle.infer_notation.proofs.Common.{◌≡◌, ◌+◌, ◌<◌, ◌≤◌, ◌==◌, ◌&&◌, ◌||◌, ℕ, Bool, true, false, codes, cond, List, [], ◌∷◌, Option, None, Some, IsTrue, drop, length, get_or, map, nat_eq, nat_le, nat_lt, option_map, inl, inr, refl, sym, ap, subst, ◌∙◌, arith, list_any, starts_with, at_drop_all, and_parts, false≢true, or_cases, bytes_eq, Part, allows, any_of, between, byte, has_part, stands, text, Accepted, Alternative, Asked, Effect, accepts, alternatives_of, asks_binary, effect_seen, given, has_data, more_read, opens, part, piece, range_of, rest_at, rest_seen, set_part, start, state, state_taken, step, step_seen, within, word_part, IsKnown, IsLed, IsRead, is_found, described, bare, separator, quoted, token_at, ◌>>=◌, bytes_behind, bytes_of, byte_with, first_passes, is_blank, behind_blanks, Cursor, Has, At, Binary, Byte, Length, More}
+use Rattle.infer_notation.proofs.Common.{◌≡◌, ◌+◌, ◌<◌, ◌≤◌, ◌==◌, ◌&&◌, ◌||◌, ℕ, Bool, true, false, codes, cond, List, [], ◌∷◌, Option, None, Some, IsTrue, drop, length, get_or, map, nat_eq, nat_le, nat_lt, option_map, inl, inr, refl, sym, ap, subst, ◌∙◌, arith, list_any, starts_with, at_drop_all, and_parts, false≢true, or_cases, bytes_eq, Part, allows, any_of, between, byte, has_part, stands, text, Accepted, Alternative, Asked, Effect, accepts, alternatives_of, asks_binary, effect_seen, given, has_data, more_read, opens, part, piece, range_of, rest_at, rest_seen, set_part, start, state, state_taken, step, step_seen, within, word_part, IsKnown, IsLed, IsRead, is_found, described, bare, separator, quoted, token_at, ◌>>=◌, bytes_after, bytes_of, byte_with, first_passes, is_blank, after_blanks, Cursor, Has, At, Binary, Byte, Length, More}
 use Rattle.std.proofs.Common.{IfSome}
 use Rattle.infer_sig.specs.Signature.{Bytes}
 use Rattle.infer_notation.specs.Fixed as fixed
@@ -164,15 +164,15 @@ bytes_lead least place x w d e b is range first seen =
     let front = first xs are in
     text_leads b place x front.0 (subst (λ ys. IsTrue (has_part b (text place ys))) front.1 (within_has least place (length xs) (text place xs) d e b some seen))
 
-pub half_found : (x : ℕ) (xs ys : List ℕ) → is_blank x ≡ false → bytes_behind None (x ∷ ys) ≡ Some xs → bytes_behind (Some x) ys ≡ Some xs
-half_found x xs ys dark e = sym (let past : bytes_behind None (x ∷ ys) ≡ bytes_behind (Some x) ys = rw dark refl in past) ∙ e
+pub half_found : (x : ℕ) (xs ys : List ℕ) → is_blank x ≡ false → bytes_after None (x ∷ ys) ≡ Some xs → bytes_after (Some x) ys ≡ Some xs
+half_found x xs ys dark e = sym (let past : bytes_after None (x ∷ ys) ≡ bytes_after (Some x) ys = rw dark refl in past) ∙ e
 
 -- the first byte that a word writes
 pub first_written : (x y z : ℕ) (w : List ℕ) → is_blank x ≡ false → byte_with x y ≡ Some z → (xs : List ℕ) → bytes_of (x ∷ y ∷ w) ≡ Some xs → (more : List ℕ) × (xs ≡ z ∷ more)
 first_written x y z w dark is xs are =
-    let past : bytes_behind (Some x) (y ∷ w) ≡ Some xs = half_found x xs (y ∷ w) dark are in
-    let (more, rest, same) = map_some (λ bytes. z ∷ bytes) (bytes_behind None w) xs
-    (subst (λ o. (o >>= λ b. option_map (λ bytes. b ∷ bytes) (bytes_behind None w)) ≡ Some xs) is past) in
+    let past : bytes_after (Some x) (y ∷ w) ≡ Some xs = half_found x xs (y ∷ w) dark are in
+    let (more, rest, same) = map_some (λ bytes. z ∷ bytes) (bytes_after None w) xs
+    (subst (λ o. (o >>= λ b. option_map (λ bytes. b ∷ bytes) (bytes_after None w)) ≡ Some xs) is past) in
     (more, sym same)
 
 pub first_of : (w : List ℕ) (r : Option ℕ) → 2 ≤ length w → is_blank (get_or w 0 0) ≡ false → r ≡ byte_with (get_or w 0 0) (get_or w 1 0)
@@ -194,11 +194,11 @@ set_has least place digits d e b is seen =
 
 -- a byte that is written by two digits
 pub byte_found : (found : Option (List ℕ)) (x y b : ℕ) (more xs ys : List ℕ) → byte_with x y ≡ Some b → ((z : ℕ) → IsTrue (is_found found z || z == b) → IsTrue (allows (any_of more) z))
-    → bytes_behind (Some x) (y ∷ ys) ≡ Some xs
-    → (zs : List ℕ) × (bytes_behind None ys ≡ Some zs) × ((z : ℕ) → IsTrue (is_found found z || allows (any_of xs) z) → IsTrue (is_found (Some more) z || allows (any_of zs) z))
+    → bytes_after (Some x) (y ∷ ys) ≡ Some xs
+    → (zs : List ℕ) × (bytes_after None ys ≡ Some zs) × ((z : ℕ) → IsTrue (is_found found z || allows (any_of xs) z) → IsTrue (is_found (Some more) z || allows (any_of zs) z))
 byte_found found x y b more xs ys is all are =
-    let (zs, rest, same) = map_some (λ bytes. b ∷ bytes) (bytes_behind None ys) xs
-    (subst (λ o. (o >>= λ b. option_map (λ bytes. b ∷ bytes) (bytes_behind None ys)) ≡ Some xs) is are) in
+    let (zs, rest, same) = map_some (λ bytes. b ∷ bytes) (bytes_after None ys) xs
+    (subst (λ o. (o >>= λ b. option_map (λ bytes. b ∷ bytes) (bytes_after None ys)) ≡ Some xs) is are) in
     (zs, rest, λ z e. joined (is_found found z) (z == b) (allows (any_of zs) z) (allows (any_of more) z) (all z) (subst (λ l. IsTrue (is_found found z || allows (any_of l) z)) (sym same) e))
   where
     joined : (p q r m : Bool) → ((p || q) ≡ true → m ≡ true) → (p || (q || r)) ≡ true → (m || r) ≡ true
@@ -206,21 +206,21 @@ byte_found found x y b more xs ys is all are =
     joined false true r m f e = or_left _ _ (f refl)
     joined false false r m f e = or_right m r e
 
-pub blank_found : (x : ℕ) (xs ys : List ℕ) → is_blank x ≡ true → bytes_behind None (x ∷ ys) ≡ Some xs → bytes_behind None ys ≡ Some xs
-blank_found x xs ys blank e = sym (let past : bytes_behind None (x ∷ ys) ≡ bytes_behind None ys = rw blank refl in past) ∙ e
+pub blank_found : (x : ℕ) (xs ys : List ℕ) → is_blank x ≡ true → bytes_after None (x ∷ ys) ≡ Some xs → bytes_after None ys ≡ Some xs
+blank_found x xs ys blank e = sym (let past : bytes_after None (x ∷ ys) ≡ bytes_after None ys = rw blank refl in past) ∙ e
 
 -- no digit is left
-none_left : (first : Option ℕ) (ys : List ℕ) → bytes_behind first [] ≡ Some ys → ys ≡ []
+none_left : (first : Option ℕ) (ys : List ℕ) → bytes_after first [] ≡ Some ys → ys ≡ []
 none_left None ys e = cc
 none_left (Some x) ys e = absurd cc
 
 pub all_found : (found : Option (List ℕ)) (first : Option ℕ) (text : List ℕ) (i : ℕ) → length text ≤ i
-    → ((xs : List ℕ) → bytes_of text ≡ Some xs → (ys : List ℕ) × (bytes_behind first (drop i text) ≡ Some ys) × ((x : ℕ) → IsTrue (allows (any_of xs) x) → IsTrue (is_found found x || allows (any_of ys) x)))
+    → ((xs : List ℕ) → bytes_of text ≡ Some xs → (ys : List ℕ) × (bytes_after first (drop i text) ≡ Some ys) × ((x : ℕ) → IsTrue (allows (any_of xs) x) → IsTrue (is_found found x || allows (any_of ys) x)))
     → IfSome found (λ bytes. (xs : List ℕ) → bytes_of text ≡ Some xs → (x : ℕ) → IsTrue (allows (any_of xs) x) → IsTrue (allows (any_of bytes) x))
 all_found None first xs i all h = tt
 all_found (Some bytes) first digits i all h = λ xs e x has.
     let left = h xs e in
-    let none = none_left first left.0 (sym (at_drop_all (bytes_behind first) digits i all) ∙ left.1) in
+    let none = none_left first left.0 (sym (at_drop_all (bytes_after first) digits i all) ∙ left.1) in
     elim (or_cases (allows (any_of bytes) x) (allows (any_of []) x) (subst (λ ys. IsTrue (allows (any_of bytes) x || allows (any_of ys) x)) none (left.2 x has))) [
       | inl here ↦ here
       | inr there ↦ absurd (false≢true there)
@@ -228,16 +228,16 @@ all_found (Some bytes) first digits i all h = λ xs e x has.
 
 -- ---- what was read
 
-pub read_start : (r : Reading) (whole : List ℕ) → r.cursor ≡ start → r.any ≡ known.Never → r.last ≡ known.Never → IsRead r whole (behind_blanks whole)
+pub read_start : (r : Reading) (whole : List ℕ) → r.cursor ≡ start → r.any ≡ known.Never → r.last ≡ known.Never → IsRead r whole (after_blanks whole)
 read_start r whole is any last = record {
   any = λ b. false;
   last = λ b. false;
   is_any = subst (λ k. IsKnown k (λ b. false)) (sym any) (λ b. refl);
   is_last = subst (λ k. IsKnown k (λ b. false)) (sym last) (λ b. refl);
-  same = λ b. ap (λ c. given b (state c false false) 0 (behind_blanks whole)) is ∙ given_start b whole;
+  same = λ b. ap (λ c. given b (state c false false) 0 (after_blanks whole)) is ∙ given_start b whole;
 }
 
-pub read_blanks : (r : Reading) (whole xs : List ℕ) → IsRead r whole xs → IsRead r whole (behind_blanks xs)
+pub read_blanks : (r : Reading) (whole xs : List ℕ) → IsRead r whole xs → IsRead r whole (after_blanks xs)
 read_blanks r whole xs h = record {
   any = h.any;
   last = h.last;

@@ -86,15 +86,15 @@ bare_read x xs =
           let some = ltb-true 0 n is in
           let le = prefix_len-le-length (is_of Bare) (x ∷ xs) in
           rw is (subst (λ u. BeginsWith u (bare (take n (x ∷ xs))) (drop (n - 1) xs)) (take-append-drop n (x ∷ xs))
-          (subst (λ u. BeginsWith (take n (x ∷ xs) ++ u) (bare (take n (x ∷ xs))) (drop (n - 1) xs)) (sym (behind n some))
+          (subst (λ u. BeginsWith (take n (x ∷ xs) ++ u) (bare (take n (x ∷ xs))) (drop (n - 1) xs)) (sym (after n some))
           (by_word (take n (x ∷ xs)) (drop (n - 1) xs) (let long = length-take-le n (x ∷ xs) le in omega arith) (fronts_pass (is_of Bare) (x ∷ xs))
-          (subst (λ u. first_passes (is_of Bare) u ≡ false) (behind n some) (next_fails (is_of Bare) (x ∷ xs))))))
+          (subst (λ u. first_passes (is_of Bare) u ≡ false) (after n some) (next_fails (is_of Bare) (x ∷ xs))))))
       | inr not ↦ rw not tt
     ]
   where
-    behind : (n : ℕ) → 0 < n → drop n (x ∷ xs) ≡ drop (n - 1) xs
-    behind zero lt = absurd (omega arith)
-    behind (suc n) lt = ap (λ k. drop k xs) (let e : n ≡ suc n - 1 = omega arith in e)
+    after : (n : ℕ) → 0 < n → drop n (x ∷ xs) ≡ drop (n - 1) xs
+    after zero lt = absurd (omega arith)
+    after (suc n) lt = ap (λ k. drop k xs) (let e : n ≡ suc n - 1 = omega arith in e)
 
 bare_from : (x : ℕ) (xs : List ℕ) → (x == 0x22) ≡ false → (x == 0x7B) ≡ false → is_separator x ≡ false → token_from x xs ≡ bare_at (x ∷ xs)
 bare_from x xs quoteless braceless plain =
@@ -115,7 +115,7 @@ token_read x xs = elim (cases_Bool (x == 0x22)) [
   ]
 ]
 
--- of what stands behind some bytes of a token
+-- of what stands after some bytes of a token
 first_read : (x : ℕ) (xs : List ℕ) (ts : List Token) (more : (n : ℕ) (us : List Token) → tokens_at n xs ≡ Some us → IsMadeOf (drop n xs) us) (o : Option (Token × ℕ)) → Read x xs o
     → (o >>= λ t. option_map (λ us. t.0 ∷ us) (tokens_at t.1 xs)) ≡ Some ts → IsMadeOf (x ∷ xs) ts
 first_read x xs ts more None read e = absurd cc
@@ -141,10 +141,10 @@ is_made text ts e = read_so zero text ts e
 one_read : (x : ℕ) (xs rest : List ℕ) (t : Token) (n : ℕ) (ts : List Token) → is_blank x ≡ false → token_from x xs ≡ Some (t, n) → drop n xs ≡ rest
     → tokens_at zero rest ≡ Some ts → tokens_at zero (x ∷ xs) ≡ Some (t ∷ ts)
 unfolding token_at
-one_read x xs rest t n ts dark is behind e =
+one_read x xs rest t n ts dark is after e =
     ap (λ b. cond b (tokens_at zero xs) (token_at (x ∷ xs) >>= λ u. option_map (λ us. u.0 ∷ us) (tokens_at u.1 xs))) dark
     ∙ ap (λ o. o >>= λ u. option_map (λ us. u.0 ∷ us) (tokens_at u.1 xs)) is
-    ∙ ap (option_map (λ us. t ∷ us)) (past_read n xs ∙ ap (tokens_at zero) behind ∙ e)
+    ∙ ap (option_map (λ us. t ∷ us)) (past_read n xs ∙ ap (tokens_at zero) after ∙ e)
 
 -- bytes, a byte that ends them, and what follows it
 module _ (p : ℕ → Bool) (xs rest : List ℕ) (y : ℕ) (all : IsTrue (list_all p xs)) (ends : p y ≡ false) where

@@ -64,7 +64,7 @@ token_other x xs t n nor is = chosen (x == 0x22) (x == 0x7B) (is_separator x) is
 
 -- ---- what follows
 
--- no further alternative, if there is none behind the token at the front
+-- no further alternative, if there is none after the token at the front
 next_others : (c : Cursor) (x : ℕ) (xs : List ℕ) (r : Rest) → (x == 0x6F) ≡ false → (c.wanted ≡ Length → ⊥)
     → ((d : Cursor) (m : ℕ) → (d.wanted ≡ Length → ⊥) → (q : Rest) → rest_at d m xs ≡ Some q → q.alternatives ≡ []) → rest_at c zero (x ∷ xs) ≡ Some r → r.alternatives ≡ []
 unfolding step

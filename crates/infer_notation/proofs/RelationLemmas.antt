@@ -1,5 +1,5 @@
 -- Relations, token by token.
-use Rattle.infer_notation.proofs.Common.{◌≡◌, ◌+◌, ◌<◌, ◌≤◌, ◌&&◌, ℕ, true, false, List, [], ◌∷◌, ◌++◌, Option, None, Some, length, drop, take, map, nat_le, nat_lt, option_map, refl, sym, ap, ◌∙◌, get_or, subst, arith, All, slice_split, onto_first, le-leb, lt-leb, lt-ltb, append-nil, drop_all, drop_more, length-map, All-cons, All-nil, slice_split-cons_no, slice_split_at, slice_split_none, tokens_at, tokens_of, begins_by, group_listed, groups_of, is_or, left_groups, name_listed, named_in, same_token, short_groups, token_at, token_listed, Takes, ◌>>=◌, behind_blanks, is_blank}
+use Rattle.infer_notation.proofs.Common.{◌≡◌, ◌+◌, ◌<◌, ◌≤◌, ◌&&◌, ℕ, true, false, List, [], ◌∷◌, ◌++◌, Option, None, Some, length, drop, take, map, nat_le, nat_lt, option_map, refl, sym, ap, ◌∙◌, get_or, subst, arith, All, slice_split, onto_first, le-leb, lt-leb, lt-ltb, append-nil, drop_all, drop_more, length-map, All-cons, All-nil, slice_split-cons_no, slice_split_at, slice_split_none, tokens_at, tokens_of, begins_by, group_listed, groups_of, is_or, left_groups, name_listed, named_in, same_token, short_groups, token_at, token_listed, Takes, ◌>>=◌, after_blanks, is_blank}
 use Rattle.std.proofs.Common.{Result, Ok, Err, IfOk, set, append_assoc, length-take}
 use denote.Ref.{Bor}
 use Rattle.std.proofs.Math.Bool.{and-false}
@@ -17,20 +17,20 @@ pub past_read : (n : ℕ) (xs : List ℕ) → tokens_at n xs ≡ tokens_at 0 (dr
 past_read = read.past_read tokens_at (λ n. refl) (λ n x xs. refl)
 
 -- nor do blanks
-past_blanks : (xs : List ℕ) → tokens_at 0 (behind_blanks xs) ≡ tokens_at 0 xs
+past_blanks : (xs : List ℕ) → tokens_at 0 (after_blanks xs) ≡ tokens_at 0 xs
 past_blanks = read.past_blanks (tokens_at 0) (λ x xs is. rw is refl)
 
-pub no_token : (text front : List ℕ) → front ≡ behind_blanks text → length front ≡ 0 → tokens_of text ≡ Some []
+pub no_token : (text front : List ℕ) → front ≡ after_blanks text → length front ≡ 0 → tokens_of text ≡ Some []
 no_token text [] e none = sym (past_blanks text) ∙ ap (tokens_at 0) (sym e)
 no_token text (x ∷ xs) e none = absurd (omega arith)
 
-pub next_token : (text front : List ℕ) (t : Token) (n : ℕ) → front ≡ behind_blanks text → 0 < length front → is_blank (get_or front 0 0) ≡ false → Some (t, n) ≡ token_at front
+pub next_token : (text front : List ℕ) (t : Token) (n : ℕ) → front ≡ after_blanks text → 0 < length front → is_blank (get_or front 0 0) ≡ false → Some (t, n) ≡ token_at front
     → tokens_of text ≡ option_map (λ ts. t ∷ ts) (tokens_of (drop n (drop 1 front)))
 next_token text [] t n e some dark is = absurd (omega arith)
 next_token text (x ∷ xs) t n e some dark is =
     sym (past_blanks text) ∙ ap (tokens_at 0) (sym e) ∙ rw (dark, sym is) (ap (option_map (λ ts. t ∷ ts)) (past_read n xs))
 
-pub bad_token : (text front : List ℕ) → front ≡ behind_blanks text → 0 < length front → is_blank (get_or front 0 0) ≡ false → None ≡ token_at front → tokens_of text ≡ None
+pub bad_token : (text front : List ℕ) → front ≡ after_blanks text → 0 < length front → is_blank (get_or front 0 0) ≡ false → None ≡ token_at front → tokens_of text ≡ None
 bad_token text [] e some dark is = absurd (omega arith)
 bad_token text (x ∷ xs) e some dark is = sym (past_blanks text) ∙ ap (tokens_at 0) (sym e) ∙ rw (dark, sym is) refl
 
@@ -44,7 +44,7 @@ begins_not (t ∷ ts) (n ∷ ns) less = ap (λ b. same_token t n && b) (begins_n
 
 -- ---- groups
 
--- the tokens up to an "or", behind which there are others
+-- the tokens up to an "or", after which there are others
 module _ (pre : List Token) (front : All (λ t. is_or t ≡ false) pre) where
   short_front : (gs : List (List Token)) → 0 < length pre → length pre ≤ 24 → short_groups (pre ∷ gs) ≡ option_map (λ hs. pre ∷ hs) (short_groups gs)
   short_front gs some few = rw (lt-ltb 0 (length pre) some, le-leb (length pre) 24 few) refl
@@ -61,19 +61,19 @@ module _ (pre : List Token) (front : All (λ t. is_or t ≡ false) pre) where
         ap (λ o. o >>= λ ts. short_groups (slice_split is_or ts)) (whole ∙ ap (option_map (λ ts. pre ++ ts)) none)
         ∙ ap short_groups split_last ∙ short_front [] some few
 
-    pub group_or : (behind : List ℕ) (t : Token) → tokens_of rest ≡ option_map (λ ts. t ∷ ts) (tokens_of behind) → is_or t ≡ true → 0 < length pre → length pre ≤ 24
-        → groups_of text ≡ option_map (λ gs. pre ∷ gs) (groups_of behind)
-    group_or behind t next is some few =
-        ap (λ o. o >>= λ ts. short_groups (slice_split is_or ts)) (whole ∙ ap (option_map (λ ts. pre ++ ts)) next) ∙ on_rest (tokens_of behind)
+    pub group_or : (after : List ℕ) (t : Token) → tokens_of rest ≡ option_map (λ ts. t ∷ ts) (tokens_of after) → is_or t ≡ true → 0 < length pre → length pre ≤ 24
+        → groups_of text ≡ option_map (λ gs. pre ∷ gs) (groups_of after)
+    group_or after t next is some few =
+        ap (λ o. o >>= λ ts. short_groups (slice_split is_or ts)) (whole ∙ ap (option_map (λ ts. pre ++ ts)) next) ∙ on_rest (tokens_of after)
       where
         on_rest : (o : Option (List Token)) → (option_map (λ ts. pre ++ ts) (option_map (λ ts. t ∷ ts) o) >>= λ ts. short_groups (slice_split is_or ts))
             ≡ option_map (λ gs. pre ∷ gs) (o >>= λ ts. short_groups (slice_split is_or ts))
         on_rest None = refl
         on_rest (Some r) = ap short_groups (split_or t r is) ∙ short_front (slice_split is_or r) some few
 
-    pub group_more : (behind : List ℕ) (t : Token) → tokens_of rest ≡ option_map (λ ts. t ∷ ts) (tokens_of behind)
-        → tokens_of text ≡ option_map (λ ts. (pre ++ t ∷ []) ++ ts) (tokens_of behind)
-    group_more behind t next = whole ∙ ap (option_map (λ ts. pre ++ ts)) next ∙ on_rest (tokens_of behind)
+    pub group_more : (after : List ℕ) (t : Token) → tokens_of rest ≡ option_map (λ ts. t ∷ ts) (tokens_of after)
+        → tokens_of text ≡ option_map (λ ts. (pre ++ t ∷ []) ++ ts) (tokens_of after)
+    group_more after t next = whole ∙ ap (option_map (λ ts. pre ++ ts)) next ∙ on_rest (tokens_of after)
       where
         on_rest : (o : Option (List Token)) → option_map (λ ts. pre ++ ts) (option_map (λ ts. t ∷ ts) o) ≡ option_map (λ ts. (pre ++ t ∷ []) ++ ts) o
         on_rest None = refl
@@ -103,10 +103,10 @@ long_front (p ∷ pre) t r front other =
       long = let l = k.long in omega arith;
     }
 
-pub group_long : (pre : List Token) (text rest behind : List ℕ) (t : Token) → All (λ t. is_or t ≡ false) pre → tokens_of text ≡ option_map (λ ts. pre ++ ts) (tokens_of rest)
-    → tokens_of rest ≡ option_map (λ ts. t ∷ ts) (tokens_of behind) → is_or t ≡ false → length pre ≡ 24 → groups_of text ≡ None
-group_long pre text rest behind t front whole next other long =
-    ap (λ o. o >>= λ ts. short_groups (slice_split is_or ts)) (whole ∙ ap (option_map (λ ts. pre ++ ts)) next) ∙ on_rest (tokens_of behind)
+pub group_long : (pre : List Token) (text rest after : List ℕ) (t : Token) → All (λ t. is_or t ≡ false) pre → tokens_of text ≡ option_map (λ ts. pre ++ ts) (tokens_of rest)
+    → tokens_of rest ≡ option_map (λ ts. t ∷ ts) (tokens_of after) → is_or t ≡ false → length pre ≡ 24 → groups_of text ≡ None
+group_long pre text rest after t front whole next other long =
+    ap (λ o. o >>= λ ts. short_groups (slice_split is_or ts)) (whole ∙ ap (option_map (λ ts. pre ++ ts)) next) ∙ on_rest (tokens_of after)
   where
     on_rest : (o : Option (List Token)) → (option_map (λ ts. pre ++ ts) (option_map (λ ts. t ∷ ts) o) >>= λ ts. short_groups (slice_split is_or ts)) ≡ None
     on_rest None = refl
@@ -166,29 +166,29 @@ module _ (g : Group) (text rest : List ℕ) (room : length g.tokens ≡ 24) (few
   pub found_last : tokens_of rest ≡ Some [] → (x : Result Read Flaw) → IfOk x (Ends None) → IfOk x Gives
   found_last none = if_ok None (λ some. let n = listed_len g room few in group_last (group_listed g) front text rest whole none (omega arith) (omega arith))
 
-  pub found_or : (behind : Bor (List ℕ)) (t : Token) → tokens_of rest ≡ option_map (λ ts. t ∷ ts) (tokens_of behind.now) → is_or t ≡ true → (x : Result Read Flaw) → IfOk x (Ends (Some behind)) → IfOk x Gives
-  found_or behind t next is = if_ok (Some behind) (λ some. let n = listed_len g room few in group_or (group_listed g) front text rest whole behind.now t next is (omega arith) (omega arith))
+  pub found_or : (after : Bor (List ℕ)) (t : Token) → tokens_of rest ≡ option_map (λ ts. t ∷ ts) (tokens_of after.now) → is_or t ≡ true → (x : Result Read Flaw) → IfOk x (Ends (Some after)) → IfOk x Gives
+  found_or after t next is = if_ok (Some after) (λ some. let n = listed_len g room few in group_or (group_listed g) front text rest whole after.now t next is (omega arith) (omega arith))
 
 -- and a token more
 more_listed : (g : Group) (t : declared.Token) → g.count < length g.tokens
     → map token_listed (take (g.count + 1) (set g.tokens g.count t)) ≡ group_listed g ++ token_listed t ∷ []
 more_listed g t less = ap (map token_listed) (take-set_at g.tokens g.count (g.count + 1) t refl less) ∙ map-append token_listed (take g.count g.tokens) (t ∷ [])
 
-pub group_next : (g : Group) (text rest behind : List ℕ) (t : declared.Token) → length g.tokens ≡ 24 → g.count < 24 → All (λ t. is_or t ≡ false) (group_listed g)
-    → tokens_of text ≡ option_map (λ ts. group_listed g ++ ts) (tokens_of rest) → tokens_of rest ≡ option_map (λ ts. token_listed t ∷ ts) (tokens_of behind)
-    → is_or (token_listed t) ≡ false → length behind ≤ length text → record {
+pub group_next : (g : Group) (text rest after : List ℕ) (t : declared.Token) → length g.tokens ≡ 24 → g.count < 24 → All (λ t. is_or t ≡ false) (group_listed g)
+    → tokens_of text ≡ option_map (λ ts. group_listed g ++ ts) (tokens_of rest) → tokens_of rest ≡ option_map (λ ts. token_listed t ∷ ts) (tokens_of after)
+    → is_or (token_listed t) ≡ false → length after ≤ length text → record {
       room : length (set g.tokens g.count t) ≡ 24;
       few : g.count + 1 ≤ 24;
       front : All (λ t. is_or t ≡ false) (map token_listed (take (g.count + 1) (set g.tokens g.count t)));
-      whole : tokens_of text ≡ option_map (λ ts. map token_listed (take (g.count + 1) (set g.tokens g.count t)) ++ ts) (tokens_of behind);
-      fits : length behind ≤ length text;
+      whole : tokens_of text ≡ option_map (λ ts. map token_listed (take (g.count + 1) (set g.tokens g.count t)) ++ ts) (tokens_of after);
+      fits : length after ≤ length text;
     }
-group_next g text rest behind t room less front whole next other fits =
+group_next g text rest after t room less front whole next other fits =
     let more = more_listed g t (omega arith) in
     record {
       room = length-set g.tokens g.count t ∙ room;
       few = omega arith;
       front = subst (All (λ t. is_or t ≡ false)) (sym more) (All-append (λ t. is_or t ≡ false) (group_listed g) (token_listed t ∷ []) front (All-cons (λ t. is_or t ≡ false) (token_listed t) [] other (All-nil (λ t. is_or t ≡ false))));
-      whole = group_more (group_listed g) front text rest whole behind (token_listed t) next ∙ ap (λ (pre : List Token). option_map (λ ts. pre ++ ts) (tokens_of behind)) (sym more);
+      whole = group_more (group_listed g) front text rest whole after (token_listed t) next ∙ ap (λ (pre : List Token). option_map (λ ts. pre ++ ts) (tokens_of after)) (sym more);
       fits = fits;
     }

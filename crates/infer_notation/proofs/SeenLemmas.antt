@@ -127,7 +127,7 @@ module _ (ts : List declared.Token) (i : ℕ) (t : declared.Token) (inside : i <
       on_first None e = refl
       on_first (Some r) e = absurd cc
 
--- and none behind the last
+-- and none after the last
 pub programs_last : (ts : List declared.Token) (i : ℕ) (b : List ℕ) (any : Bool) → length ts ≤ i → AreLeft any (drop i ts) b (Some any)
 programs_last ts i b any past = subst (λ us. AreLeft any us b (Some any)) (sym (drop_all i ts past)) ([], refl, (λ t. inl t, λ h. elim h [ inl t ↦ t | inr none ↦ absurd none ]))
 

@@ -1,5 +1,5 @@
 -- A signature that is read token by token.
-use Rattle.infer_notation.proofs.Common.{◌≡◌, ◌⊎◌, ◌+◌, ◌&&◌, ◌||◌, ℕ, suc, Bool, true, false, not, List, [], ◌∷◌, Option, None, Some, length, drop, option_map, nat_le, inl, inr, refl, sym, ap, ◌∙◌, ◌<◌, arith, get_or, list_all, has_part, Effect, Rest, accepts, alternatives_of, asks_binary, effect_seen, given, has_data, joined, opens, part, rest_at, rest_of, rest_seen, state_taken, step, step_seen, start, state, token_at, behind_blanks, is_blank, Cursor, Wanted, More, Or, State}
+use Rattle.infer_notation.proofs.Common.{◌≡◌, ◌⊎◌, ◌+◌, ◌&&◌, ◌||◌, ℕ, suc, Bool, true, false, not, List, [], ◌∷◌, Option, None, Some, length, drop, option_map, nat_le, inl, inr, refl, sym, ap, ◌∙◌, ◌<◌, arith, get_or, list_all, has_part, Effect, Rest, accepts, alternatives_of, asks_binary, effect_seen, given, has_data, joined, opens, part, rest_at, rest_of, rest_seen, state_taken, step, step_seen, start, state, token_at, after_blanks, is_blank, Cursor, Wanted, More, Or, State}
 use Rattle.infer_notation.specs.Fixed.{nothing, ended}
 use Rattle.infer_notation.specs.Tokens.{Token}
 use Rattle.infer_notation.specs.declared.fixed.Effect as declared
@@ -12,7 +12,7 @@ pub past_read : (c : Cursor) (n : ℕ) (xs : List ℕ) → rest_at c n xs ≡ re
 past_read c = read.past_read (rest_at c) (λ n. refl) (λ n x xs. refl)
 
 -- nor do blanks
-pub past_blanks : (c : Cursor) (xs : List ℕ) → rest_at c 0 (behind_blanks xs) ≡ rest_at c 0 xs
+pub past_blanks : (c : Cursor) (xs : List ℕ) → rest_at c 0 (after_blanks xs) ≡ rest_at c 0 xs
 past_blanks c = read.past_blanks (rest_at c 0) (λ x xs is. rw is refl)
 
 pub past_token : (c d : Cursor) (x : ℕ) (xs : List ℕ) (t : Token) (n : ℕ) (e : Effect) → is_blank x ≡ false → token_at (x ∷ xs) ≡ Some (t, n) → step c t ≡ Some (d, e)
@@ -57,7 +57,7 @@ step_was buf d f (Some (d', e)) is =
     let same : (d, f) ≡ (d', effect_seen buf e) = cc in
     (e, ap (λ (k : Cursor). Some (k, e)) (sym (ap (λ (p : Cursor × declared.Effect). p.0) same)), sym (ap (λ (p : Cursor × declared.Effect). p.1) same))
 
--- what is given behind the token at the front
+-- what is given after the token at the front
 pub given_next : (buf : List ℕ) (s : State) (d : Cursor) (xs : List ℕ) (t : Token) (n : ℕ) (f : declared.Effect) → 0 < length xs → is_blank (get_or xs 0 0) ≡ false
     → Some (t, n) ≡ token_at xs → Some (d, f) ≡ option_map (step_seen buf) (step s.cursor t)
     → given buf s 0 xs ≡ given buf (state_taken s d f) 0 (drop (1 + n) xs)
@@ -88,13 +88,13 @@ pub given_ended : (buf : List ℕ) (s : State) (w : Wanted) → s.cursor.wanted 
 given_ended buf s w is ends = ap (λ w. option_map (rest_seen buf s.any s.last) (ended w)) is ∙ ap (option_map (rest_seen buf s.any s.last)) ends ∙ ap (λ (b : Bool). Some b) (no_more buf s.any s.last)
 
 -- a signature that begins here
-pub given_start : (buf xs : List ℕ) → given buf (state start false false) 0 (behind_blanks xs) ≡ option_map (λ alternatives. accepts alternatives buf) (alternatives_of xs)
+pub given_start : (buf xs : List ℕ) → given buf (state start false false) 0 (after_blanks xs) ≡ option_map (λ alternatives. accepts alternatives buf) (alternatives_of xs)
 given_start buf xs = ap (option_map (rest_seen buf false false)) (past_blanks start xs) ∙ whole (rest_at start 0 xs)
   where
     whole : (r : Option Rest) → option_map (rest_seen buf false false) r ≡ option_map (λ alternatives. accepts alternatives buf) (option_map (λ rest. rest.alternatives) r)
     whole None = refl
     whole (Some r) = refl
 
--- blanks behind a token
-pub given_blanks : (buf : List ℕ) (s : State) (xs : List ℕ) → given buf s 0 (behind_blanks xs) ≡ given buf s 0 xs
+-- blanks after a token
+pub given_blanks : (buf : List ℕ) (s : State) (xs : List ℕ) → given buf s 0 (after_blanks xs) ≡ given buf s 0 xs
 given_blanks buf s xs = ap (option_map (rest_seen buf s.any s.last)) (past_blanks s.cursor xs)

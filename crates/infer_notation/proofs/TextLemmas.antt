@@ -1,12 +1,12 @@
 -- Texts that tokens write, token by token.
-use Rattle.infer_notation.proofs.Common.{◌≡◌, ◌<◌, ◌≤◌, ℕ, true, false, List, [], ◌∷◌, ◌++◌, Option, None, Some, codes, length, nat_le, option_map, inl, inr, refl, sym, ap, subst, ◌∙◌, arith, All, cases_Bool, le-leb, append-nil, All-cons, All-nil, cond_some, drop, drop_more, get_or, map, token_listed, bytes_eq-Decides, bare, separator, quoted, ◌>>=◌, byte_with, bytes_behind, bytes_of, is_blank}
+use Rattle.infer_notation.proofs.Common.{◌≡◌, ◌<◌, ◌≤◌, ℕ, true, false, List, [], ◌∷◌, ◌++◌, Option, None, Some, codes, length, nat_le, option_map, inl, inr, refl, sym, ap, subst, ◌∙◌, arith, All, cases_Bool, le-leb, append-nil, All-cons, All-nil, cond_some, drop, drop_more, get_or, map, token_listed, bytes_eq-Decides, bare, separator, quoted, ◌>>=◌, byte_with, bytes_after, bytes_of, is_blank}
 use Rattle.std.proofs.Common.{◌+◌, append_assoc}
 use Rattle.std.proofs.lemmas.Bool.{leb-false, leb-true, lt-leb}
 use Rattle.std.proofs.lemmas.List.{length-append}
 use Rattle.std.proofs.lemmas.List.Elements.{All-head, All-tail}
 use Rattle.std.specs.Str.{bytes_eq}
 use Rattle.infer_notation.specs.Described.{Joins, WriteEach, Writes, between_quotes, bytes_piece, in_pieces, no_piece, one_text, quoted_piece, texts}
-use Rattle.infer_notation.specs.Texts.{behind, in_room, parted_at, piece_of, pieces_of, text_before, text_in}
+use Rattle.infer_notation.specs.Texts.{added, in_room, parted_at, piece_of, pieces_of, text_before, text_in}
 use Rattle.infer_notation.specs.Tokens.{Token, is_word, set}
 use Rattle.infer_formats.specs.declared.token.Token as declared
 use Rattle.infer_notation.proofs.OptionLemmas.{bind_some, map_some}
@@ -65,12 +65,12 @@ pub so_writes : (ts : List Token) (text : List ℕ) → Writes ts text → text_
 so_writes _ _ (between_quotes text) = refl
 so_writes _ _ (in_pieces ts text some joins few) = pieces_read text few ts some joins
 
--- ---- tokens before a word, and behind it
+-- ---- tokens before a word, and after it
 
 abbrev Others : List ℕ → List Token → Type 0
 Others w ts = All (λ t. is_word w t ≡ false) ts
 
--- what stands before the word, and what behind it
+-- what stands before the word, and what after it
 abbrev pub IsCut : List ℕ → List Token → List Token → Option (List Token) → Type 0
 IsCut w ts g None = ts ≡ g
 IsCut w ts g (Some us) = ts ≡ g ++ (bare w ∷ us)
@@ -120,19 +120,19 @@ module _ (w : List ℕ) (none : bytes_of w ≡ None) where
   read_before ts us text writes = rw (cut_at w ts us (others_so ts text writes), so_writes ts text writes) refl
 
 -- a text that was read before a word
-pub record Before (w : List ℕ) (ts : List Token) (text : List ℕ) (behind : Option (List Token)) : Type 0 where
+pub record Before (w : List ℕ) (ts : List Token) (text : List ℕ) (added : Option (List Token)) : Type 0 where
   pub front : List Token
   pub writes : Writes front text
-  pub cut : IsCut w ts front behind
+  pub cut : IsCut w ts front added
 
-pub before_so : (w : List ℕ) (ts : List Token) (text : List ℕ) (behind : Option (List Token)) → text_before w ts ≡ Some (text, behind) → Before w ts text behind
-before_so w ts text behind e =
-    let (t, is, same) = map_some (λ (t : List ℕ). (t, (parted_at w ts).1)) (text_in (parted_at w ts).0) (text, behind) e in
+pub before_so : (w : List ℕ) (ts : List Token) (text : List ℕ) (added : Option (List Token)) → text_before w ts ≡ Some (text, added) → Before w ts text added
+before_so w ts text added e =
+    let (t, is, same) = map_some (λ (t : List ℕ). (t, (parted_at w ts).1)) (text_in (parted_at w ts).0) (text, added) e in
     let is_text : t ≡ text = ap (λ (p : List ℕ × Option (List Token)). p.0) same in
-    let is_behind : (parted_at w ts).1 ≡ behind = ap (λ (p : List ℕ × Option (List Token)). p.1) same in record {
+    let is_after : (parted_at w ts).1 ≡ added = ap (λ (p : List ℕ × Option (List Token)). p.1) same in record {
       front = (parted_at w ts).0;
       writes = subst (Writes (parted_at w ts).0) is_text (writes_so (parted_at w ts).0 t is);
-      cut = subst (IsCut w ts (parted_at w ts).0) is_behind (cut_so w ts);
+      cut = subst (IsCut w ts (parted_at w ts).0) is_after (cut_so w ts);
     }
 
 -- ---- texts with words "has" between
@@ -142,8 +142,8 @@ abbrev pub AreLeft : Option (List Token) → List (List ℕ) → Type 0
 AreLeft None others = others ≡ []
 AreLeft (Some us) others = WriteEach us others
 
-pub each_so : (ts : List Token) (text : List ℕ) (behind : Option (List Token)) → text_before (codes "has") ts ≡ Some (text, behind)
-    → (others : List (List ℕ)) → AreLeft behind others → WriteEach ts (text ∷ others)
+pub each_so : (ts : List Token) (text : List ℕ) (added : Option (List Token)) → text_before (codes "has") ts ≡ Some (text, added)
+    → (others : List (List ℕ)) → AreLeft added others → WriteEach ts (text ∷ others)
 each_so ts text None e others left =
     let b = before_so (codes "has") ts text None e in
     subst (λ us. WriteEach us (text ∷ others)) (sym b.cut) (subst (λ us. WriteEach b.front (text ∷ us)) (sym left) (one_text b.front text b.writes))
@@ -151,9 +151,9 @@ each_so ts text (Some us) e others left =
     let b = before_so (codes "has") ts text (Some us) e in
     subst (λ vs. WriteEach vs (text ∷ others)) (sym b.cut) (texts b.front us text others b.writes left)
 
--- the first of them, and those behind it
+-- the first of them, and those after it
 pub each_first : (ts : List Token) (text : List ℕ) (others : List (List ℕ)) → WriteEach ts (text ∷ others)
-    → (behind : Option (List Token)) × (text_before (codes "has") ts ≡ Some (text, behind)) × AreLeft behind others
+    → (added : Option (List Token)) × (text_before (codes "has") ts ≡ Some (text, added)) × AreLeft added others
 each_first _ _ _ (one_text ts text writes) = (None, read_last (codes "has") refl ts text writes, refl)
 each_first _ _ _ (texts ts us text others writes each) = (Some us, read_before (codes "has") refl ts us text writes, each)
 
@@ -165,12 +165,12 @@ pub last_read : (ts : List Token) (text : List ℕ) → WriteEach ts (text ∷ [
 last_read _ _ (one_text ts text writes) = so_writes ts text writes
 last_read _ _ (texts ts us text others writes each) = absurd (no_text us others each refl)
 
-pub none_left : (behind : Option (List Token)) → AreLeft behind [] → behind ≡ None
+pub none_left : (added : Option (List Token)) → AreLeft added [] → added ≡ None
 none_left None left = refl
 none_left (Some us) left = absurd (no_text us [] left refl)
 
-pub more_left : (behind : Option (List Token)) (text : List ℕ) (others : List (List ℕ)) → AreLeft behind (text ∷ others)
-    → (us : List Token) × (behind ≡ Some us) × WriteEach us (text ∷ others)
+pub more_left : (added : Option (List Token)) (text : List ℕ) (others : List (List ℕ)) → AreLeft added (text ∷ others)
+    → (us : List Token) × (added ≡ Some us) × WriteEach us (text ∷ others)
 more_left None text others left = absurd cc
 more_left (Some us) text others left = (us, refl, left)
 
@@ -184,7 +184,7 @@ too_many xs ys e = elim (cases_Bool (nat_le (length xs) 64)) [
 ]
 
 module _ (before xs : List ℕ) where
-  pub full : (o : Option (List ℕ)) → in_room (before ++ xs) ≡ None → behind before (option_map (λ ys. xs ++ ys) o) ≡ None
+  pub full : (o : Option (List ℕ)) → in_room (before ++ xs) ≡ None → added before (option_map (λ ys. xs ++ ys) o) ≡ None
   full None e = refl
   full (Some ys) e = ap in_room (sym (append_assoc before xs ys)) ∙ too_many (before ++ xs) ys e
 
@@ -192,7 +192,7 @@ module _ (before xs : List ℕ) where
     both : (nat_le (length (before ++ xs)) 64 ≡ true) × (before ++ xs ≡ after)
     both = cond_some (nat_le (length (before ++ xs)) 64) (before ++ xs) after (sym e)
 
-    pub more : (o : Option (List ℕ)) → behind before (option_map (λ ys. xs ++ ys) o) ≡ behind after o
+    pub more : (o : Option (List ℕ)) → added before (option_map (λ ys. xs ++ ys) o) ≡ added after o
     more None = refl
     more (Some ys) = ap in_room (sym (append_assoc before xs ys) ∙ ap (λ zs. zs ++ ys) both.1)
 
@@ -200,37 +200,37 @@ module _ (before xs : List ℕ) where
     few = subst (λ ys. length ys ≤ 64) both.1 (leb-true (length (before ++ xs)) 64 both.0)
 
 -- a digit more
-pub bytes_blank : (before : List ℕ) (x : ℕ) (xs : List ℕ) → is_blank x ≡ true → behind before (bytes_behind None (x ∷ xs)) ≡ behind before (bytes_behind None xs)
+pub bytes_blank : (before : List ℕ) (x : ℕ) (xs : List ℕ) → is_blank x ≡ true → added before (bytes_after None (x ∷ xs)) ≡ added before (bytes_after None xs)
 bytes_blank before x xs is = rw is refl
 
-pub bytes_first : (before : List ℕ) (x : ℕ) (xs : List ℕ) → is_blank x ≡ false → behind before (bytes_behind None (x ∷ xs)) ≡ behind before (bytes_behind (Some x) xs)
+pub bytes_first : (before : List ℕ) (x : ℕ) (xs : List ℕ) → is_blank x ≡ false → added before (bytes_after None (x ∷ xs)) ≡ added before (bytes_after (Some x) xs)
 bytes_first before x xs is = rw is refl
 
 pub bytes_next : (before after : List ℕ) (x y b : ℕ) (xs : List ℕ) → byte_with x y ≡ Some b → Some after ≡ in_room (before ++ b ∷ [])
-    → behind before (bytes_behind (Some x) (y ∷ xs)) ≡ behind after (bytes_behind None xs)
-bytes_next before after x y b xs is e = rw is (more before (b ∷ []) after e (bytes_behind None xs))
+    → added before (bytes_after (Some x) (y ∷ xs)) ≡ added after (bytes_after None xs)
+bytes_next before after x y b xs is e = rw is (more before (b ∷ []) after e (bytes_after None xs))
 
-pub bytes_full : (before : List ℕ) (x y b : ℕ) (xs : List ℕ) → byte_with x y ≡ Some b → in_room (before ++ b ∷ []) ≡ None → behind before (bytes_behind (Some x) (y ∷ xs)) ≡ None
-bytes_full before x y b xs is e = rw is (full before (b ∷ []) (bytes_behind None xs) e)
+pub bytes_full : (before : List ℕ) (x y b : ℕ) (xs : List ℕ) → byte_with x y ≡ Some b → in_room (before ++ b ∷ []) ≡ None → added before (bytes_after (Some x) (y ∷ xs)) ≡ None
+bytes_full before x y b xs is e = rw is (full before (b ∷ []) (bytes_after None xs) e)
 
 -- a piece more
-on_full : (before : List ℕ) (o p : Option (List ℕ)) → behind before o ≡ None → behind before (o >>= λ xs. option_map (λ ys. xs ++ ys) p) ≡ None
+on_full : (before : List ℕ) (o p : Option (List ℕ)) → added before o ≡ None → added before (o >>= λ xs. option_map (λ ys. xs ++ ys) p) ≡ None
 on_full before None p e = refl
 on_full before (Some xs) p e = full before xs p e
 
-on_next : (before after : List ℕ) (o p : Option (List ℕ)) → Some after ≡ behind before o → (length after ≤ 64) × (behind before (o >>= λ xs. option_map (λ ys. xs ++ ys) p) ≡ behind after p)
+on_next : (before after : List ℕ) (o p : Option (List ℕ)) → Some after ≡ added before o → (length after ≤ 64) × (added before (o >>= λ xs. option_map (λ ys. xs ++ ys) p) ≡ added after p)
 on_next before after None p e = absurd cc
 on_next before after (Some xs) p e = (few before xs after e, more before xs after e p)
 
 module _ (ts : List declared.Token) (i : ℕ) (t : declared.Token) (inside : i < length ts) (before : List ℕ) where
-  here : behind before (pieces_of (map token_listed (drop i ts))) ≡ behind before (piece_of (token_listed (get_or ts i t)) >>= λ xs. option_map (λ ys. xs ++ ys) (pieces_of (map token_listed (drop (i + 1) ts))))
-  here = ap (λ us. behind before (pieces_of (map token_listed us))) (drop_more ts i t inside)
+  here : added before (pieces_of (map token_listed (drop i ts))) ≡ added before (piece_of (token_listed (get_or ts i t)) >>= λ xs. option_map (λ ys. xs ++ ys) (pieces_of (map token_listed (drop (i + 1) ts))))
+  here = ap (λ us. added before (pieces_of (map token_listed us))) (drop_more ts i t inside)
 
-  pub pieces_full : None ≡ behind before (piece_of (token_listed (get_or ts i t))) → behind before (pieces_of (map token_listed (drop i ts))) ≡ None
+  pub pieces_full : None ≡ added before (piece_of (token_listed (get_or ts i t))) → added before (pieces_of (map token_listed (drop i ts))) ≡ None
   pieces_full e = here ∙ on_full before (piece_of (token_listed (get_or ts i t))) (pieces_of (map token_listed (drop (i + 1) ts))) (sym e)
 
-  pub pieces_next : (after : List ℕ) → Some after ≡ behind before (piece_of (token_listed (get_or ts i t)))
-      → (length after ≤ 64) × (behind before (pieces_of (map token_listed (drop i ts))) ≡ behind after (pieces_of (map token_listed (drop (i + 1) ts))))
+  pub pieces_next : (after : List ℕ) → Some after ≡ added before (piece_of (token_listed (get_or ts i t)))
+      → (length after ≤ 64) × (added before (pieces_of (map token_listed (drop i ts))) ≡ added after (pieces_of (map token_listed (drop (i + 1) ts))))
   pieces_next after e =
       let step = on_next before after (piece_of (token_listed (get_or ts i t))) (pieces_of (map token_listed (drop (i + 1) ts))) e in
       (step.0, here ∙ step.1)

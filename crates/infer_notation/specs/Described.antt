@@ -27,7 +27,7 @@ pub data BeginsWith : List ℕ → Token → List ℕ → Type 0 where
   by_separator : (x : ℕ) (rest : List ℕ) → IsTrue (is_separator x) → BeginsWith (x ∷ rest) (separator x) rest
   by_word : (xs rest : List ℕ) → 0 < length xs → AreOf Bare xs → first_passes (is_of Bare) rest ≡ false → BeginsWith (xs ++ rest) (bare xs) rest
 
--- the text is made of the tokens, and of blanks before and behind them
+-- the text is made of the tokens, and of blanks before and after them
 pub data IsMadeOf : List ℕ → List Token → Type 0 where
   empty : IsMadeOf [] []
   blank : (x : ℕ) (text : List ℕ) (ts : List Token) → IsTrue (is_blank x) → IsMadeOf text ts → IsMadeOf (x ∷ text) ts
@@ -47,7 +47,7 @@ AreBytes [] [] = Unit {0}
 AreBytes (w ∷ ws) (x ∷ xs) = (byte_of w ≡ Some x) × AreBytes ws xs
 AreBytes ws xs = ⊥
 
--- the pieces are these bytes, one behind the other
+-- the pieces are these bytes, one after the other
 pub data Joins : List Token → List ℕ → Type 0 where
   no_piece : Joins [] []
   quoted_piece : (xs : List ℕ) (ts : List Token) (ys : List ℕ) → Joins ts ys → Joins (quoted xs ∷ ts) (xs ++ ys)
@@ -68,7 +68,7 @@ pub data WriteEach : List Token → List (List ℕ) → Type 0 where
 abbrev pub IsShort : List ℕ → ℕ → Type 0
 IsShort w n = (number_of w ≡ Some n) × (n < 65536)
 
--- with these tokens behind a name that takes this, the text asks for the relation
+-- with these tokens after a name that takes this, the text asks for the relation
 pub data Asks : Takes → List Token → Relation → Type 0 where
   nothing : (r : relations.Relation) → Asks (Nothing r) [] (relation_listed r)
   a_tag : (a b c d x y : ℕ) → byte_with a b ≡ Some x → byte_with c d ≡ Some y
@@ -85,9 +85,9 @@ pub data Asks : Takes → List Token → Relation → Type 0 where
   an_element : (name : List ℕ) → Asks Root (bare name ∷ []) (root name)
   a_text_within : (name text : List ℕ) → Asks Root (bare name ∷ bare (codes "with") ∷ quoted text ∷ []) (root_with name text)
   a_beginning : (ts : List Token) (text : List ℕ) → WriteEach ts (text ∷ []) → Asks Begins ts (text_first text)
-  a_text_behind : (ts : List Token) (text other : List ℕ) → WriteEach ts (text ∷ other ∷ []) → Asks Begins ts (text_first_with text other)
-  two_texts_behind : (ts : List Token) (text one two : List ℕ) → WriteEach ts (text ∷ one ∷ two ∷ []) → Asks Begins ts (text_first_with_all text one two [])
-  three_texts_behind : (ts : List Token) (text one two three : List ℕ) → WriteEach ts (text ∷ one ∷ two ∷ three ∷ [])
+  a_text_after : (ts : List Token) (text other : List ℕ) → WriteEach ts (text ∷ other ∷ []) → Asks Begins ts (text_first_with text other)
+  two_texts_after : (ts : List Token) (text one two : List ℕ) → WriteEach ts (text ∷ one ∷ two ∷ []) → Asks Begins ts (text_first_with_all text one two [])
+  three_texts_after : (ts : List Token) (text one two three : List ℕ) → WriteEach ts (text ∷ one ∷ two ∷ three ∷ [])
       → Asks Begins ts (text_first_with_all text one two three)
   a_later_header : (ts : List Token) (text v w x : List ℕ) (low high far : ℕ) → Writes ts text → IsShort v low → IsShort w high → IsShort x far
       → Asks Header (ts ++ (bare (codes "with") ∷ bare v ∷ bare (codes "to") ∷ bare w ∷ bare (codes "at") ∷ bare x ∷ [])) (header text far low high)

@@ -62,46 +62,46 @@ piece least place (bare w) =
     if bytes_eq w (codes "not") then Some (cursor Byte least place, nothing) else word_part least place w (range_of w)
 
 -- what follows on a separator that is wanted
-abbrev pub behind_separator : ℕ → Wanted → ℕ → ℕ → Token → Option (Cursor × Effect)
-behind_separator m wanted least place (separator x) = if x == m then Some (cursor wanted least place, nothing) else None
-behind_separator m wanted least place other = None
+abbrev pub after_separator : ℕ → Wanted → ℕ → ℕ → Token → Option (Cursor × Effect)
+after_separator m wanted least place (separator x) = if x == m then Some (cursor wanted least place, nothing) else None
+after_separator m wanted least place other = None
 
 abbrev pub length_read : Token → Option (Cursor × Effect)
 length_read (bare w) = option_map (λ n. (cursor Colon n 0, opens n)) (number_of w)
 length_read other = None
 
--- a part begins at or behind the end of the one before it
+-- a part begins at or after the end of the one before it
 abbrev pub place_read : ℕ → ℕ → Token → Option (Cursor × Effect)
 place_read least place (bare w) = number_of w >>= λ p. if nat_le place p then Some (cursor Bytes least p, nothing) else None
 place_read least place other = None
 
 abbrev pub more_read : ℕ → ℕ → Token → Option (Cursor × Effect)
-more_read least place (separator m) = behind_separator 0x2C At least place (separator m)
+more_read least place (separator m) = after_separator 0x2C At least place (separator m)
 more_read least place (bare w) =
     if bytes_eq w (codes "or") then Some (cursor Length 0 0, nothing)
     else (if bytes_eq w (codes "and") then Some (cursor Binary least place, nothing) else piece least place (bare w))
 more_read least place other = piece least place other
 
 -- a word that is wanted
-abbrev pub behind_word_of : List ℕ → Cursor → Effect → Token → Option (Cursor × Effect)
-behind_word_of w c e (bare v) = if bytes_eq v w then Some (c, e) else None
-behind_word_of w c e other = None
+abbrev pub after_word_of : List ℕ → Cursor → Effect → Token → Option (Cursor × Effect)
+after_word_of w c e (bare v) = if bytes_eq v w then Some (c, e) else None
+after_word_of w c e other = None
 
 abbrev pub other_byte : ℕ → ℕ → Token → Option (Cursor × Effect)
 other_byte least place (bare w) = byte_of w >>= λ x. within least place 1 (byte place (all_but x))
 other_byte least place other = None
 
--- where the reading goes on behind the token, and what it adds
+-- where the reading goes on after the token, and what it adds
 abbrev pub step_at : Wanted → ℕ → ℕ → Token → Option (Cursor × Effect)
 step_at Length least place t = length_read t
-step_at Colon least place t = behind_separator 0x3A At least place t
-step_at At least place t = behind_separator 0x40 Place least place t
+step_at Colon least place t = after_separator 0x3A At least place t
+step_at At least place t = after_separator 0x40 Place least place t
 step_at Place least place t = place_read least place t
 step_at Bytes least place t = piece least place t
 step_at More least place t = more_read least place t
 step_at Byte least place t = other_byte least place t
-step_at Binary least place t = behind_word_of (codes "binary") (cursor Or 0 0) asks_binary t
-step_at Or least place t = behind_word_of (codes "or") (cursor Length 0 0) nothing t
+step_at Binary least place t = after_word_of (codes "binary") (cursor Or 0 0) asks_binary t
+step_at Or least place t = after_word_of (codes "or") (cursor Length 0 0) nothing t
 
 unfoldable pub step : Cursor → Token → Option (Cursor × Effect)
 step c t = step_at c.wanted c.least c.place t
@@ -125,7 +125,7 @@ joined (part p) rest = rest_of (p ∷ rest.parts) rest.binary rest.alternatives
 joined asks_binary rest = rest_of rest.parts true rest.alternatives
 joined (opens n) rest = rest_of [] false (asked_of n rest.parts rest.binary ∷ rest.alternatives)
 
--- a signature may end behind a part, and behind "binary"
+-- a signature may end after a part, and after "binary"
 abbrev pub ended : Wanted → Option Rest
 ended More = Some (rest_of [] false [])
 ended Or = Some (rest_of [] false [])

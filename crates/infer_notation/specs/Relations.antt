@@ -15,7 +15,7 @@ use Rattle.infer_formats.specs.declared.relation.OfText.{OfText}
 use Rattle.infer_formats.specs.declared.relation.Takes.{Takes}
 use Rattle.infer_formats.specs.declared.relation.Takes.TheVariants.{Begins, ClassId, Entry, FirstKey, Header, Nothing, OneText, Program, Root, Tag}
 
--- what stands behind a name, and the tokens there
+-- what stands after a name, and the tokens there
 abbrev pub rest_listed : Takes × Bor (List declared.Token) → Takes × List Token
 rest_listed n = (n.0, map token_listed n.1.now)
 
@@ -74,15 +74,15 @@ abbrev pub tag_of : List ℕ → Option ℕ
 tag_of (a ∷ b ∷ c ∷ d ∷ []) = byte_with a b >>= λ x. option_map (λ y. 256 * x + y) (byte_with c d)
 tag_of other = None
 
--- behind that nothing, or the make of the camera
-abbrev pub behind_tag : ℕ → List Token → Option Relation
-behind_tag n [] = Some (directory_tag n)
-behind_tag n (t ∷ u ∷ ts) =
+-- after that nothing, or the make of the camera
+abbrev pub after_tag : ℕ → List Token → Option Relation
+after_tag n [] = Some (directory_tag n)
+after_tag n (t ∷ u ∷ ts) =
     if is_word (codes "and") t && is_word (codes "make") u then option_map (λ make. directory_tag_and_make n make) (text_in ts) else None
-behind_tag n other = None
+after_tag n other = None
 
 abbrev pub directory_of : List Token → Option Relation
-directory_of (bare w ∷ ts) = tag_of w >>= λ n. behind_tag n ts
+directory_of (bare w ∷ ts) = tag_of w >>= λ n. after_tag n ts
 directory_of other = None
 
 -- a text
@@ -149,7 +149,7 @@ key_of (quoted k ∷ []) = Some (first_key k)
 key_of (quoted k ∷ is ∷ quoted v ∷ []) = if is_word (codes "is") is then Some (first_key_with k v) else None
 key_of other = None
 
--- what three texts ask for, and what may stand behind them
+-- what three texts ask for, and what may stand after them
 abbrev pub beginning_with_all : List ℕ → List ℕ → List ℕ → Option (List Token) → Option Relation
 beginning_with_all t u v None = Some (text_first_with_all t u v [])
 beginning_with_all t u v (Some ts) = option_map (λ w. text_first_with_all t u v w) (text_in ts)
@@ -183,7 +183,7 @@ number_at t other = None
 abbrev pub header_of : List Token → Option Relation
 header_of ts = text_before (codes "with") ts >>= λ p. p.1 >>= number_at p.0
 
--- the relation that the tokens ask for behind a name
+-- the relation that the tokens ask for after a name
 abbrev pub item_of : Takes → List Token → Option Relation
 item_of (Nothing r) ts = alone (relation_listed r) ts
 item_of (OneText which) ts = text_of which ts

@@ -4,7 +4,7 @@ use Rattle.std.specs.Int.{is_in_range}
 use Rattle.infer_notation.specs.Alternative.{Alternative, binary_bytes, bytes}
 use Rattle.infer_notation.specs.Fixed.{Asked, alternatives_of}
 use Rattle.infer_notation.specs.Relations.{relations_of}
-use Rattle.infer_notation.specs.Words.{behind_blanks}
+use Rattle.infer_notation.specs.Words.{after_blanks}
 
 -- the name of a relation begins with a letter, and fixed bytes with a number
 abbrev pub begins_relation : List ℕ → Bool
@@ -17,4 +17,4 @@ described a = if a.binary then binary_bytes a.bytes else bytes a.bytes
 
 -- the alternatives that the text describes
 unfoldable pub signature_of : List ℕ → Option (List Alternative)
-signature_of t = if begins_relation (behind_blanks t) then relations_of t else option_map (map described) (alternatives_of t)
+signature_of t = if begins_relation (after_blanks t) then relations_of t else option_map (map described) (alternatives_of t)

@@ -22,25 +22,25 @@ is_of Bare x = is_in_range 0x21 0x7E x && not (x == 0x22 || x == 0x7B || x == 0x
 is_of Quoted x = is_printable x && not (x == 0x22)
 is_of Set x = not (x == 0x7D)
 
--- a quoted text behind its first quote, and how many bytes it takes there
+-- a quoted text after its first quote, and how many bytes it takes there
 abbrev pub quoted_at : List ℕ → Option (Token × ℕ)
 quoted_at xs =
     let n = prefix_len (is_of Quoted) xs in
     if nat_lt 0 n && slice_index xs n == 0x22 then Some (quoted (take n xs), n + 1) else None
 
--- a set behind its brace
+-- a set after its brace
 abbrev pub set_at : List ℕ → Option (Token × ℕ)
 set_at xs =
     let n = prefix_len (is_of Set) xs in
     if slice_index xs n == 0x7D then Some (set (take n xs), n + 1) else None
 
--- a bare word, and how many bytes it takes behind its first
+-- a bare word, and how many bytes it takes after its first
 abbrev pub bare_at : List ℕ → Option (Token × ℕ)
 bare_at xs =
     let n = prefix_len (is_of Bare) xs in
     if nat_lt 0 n then Some (bare (take n xs), n - 1) else None
 
--- the token at the front, and how many bytes it takes behind its first
+-- the token at the front, and how many bytes it takes after its first
 abbrev pub token_from : ℕ → List ℕ → Option (Token × ℕ)
 token_from x xs =
     if x == 0x22 then quoted_at xs

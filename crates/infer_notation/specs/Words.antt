@@ -19,33 +19,33 @@ abbrev pub is_blank : ℕ → Bool
 is_blank x = x == 0x20 || x == 0x09 || x == 0x0D
 
 -- what follows the blanks at the front
-abbrev pub behind_blanks : List ℕ → List ℕ
-behind_blanks [] = []
-behind_blanks (x ∷ xs) = if is_blank x then behind_blanks xs else x ∷ xs
+abbrev pub after_blanks : List ℕ → List ℕ
+after_blanks [] = []
+after_blanks (x ∷ xs) = if is_blank x then after_blanks xs else x ∷ xs
 
--- the bytes up to the first blank, and what follows the blanks behind them
+-- the bytes up to the first blank, and what follows the blanks after them
 abbrev pub word_len : List ℕ → ℕ
 word_len xs = prefix_len (λ x. not (is_blank x)) xs
 
 unfoldable pub word : List ℕ → List ℕ
 word xs = take (word_len xs) xs
 
-unfoldable pub behind_word : List ℕ → List ℕ
-behind_word xs = behind_blanks (drop (word_len xs) xs)
+unfoldable pub after_word : List ℕ → List ℕ
+after_word xs = after_blanks (drop (word_len xs) xs)
 
 abbrev pub is_digit : ℕ → Bool
 is_digit x = is_in_range 0x30 0x39 x
 
--- the number with these decimal digits behind those of n. It is below 1,000,000,000
-abbrev pub number_behind : ℕ → List ℕ → Option ℕ
-number_behind n [] = Some n
-number_behind n (x ∷ xs) =
-    if is_digit x then (if nat_lt n 100_000_000 then number_behind (10 * n + (x - 0x30)) xs else None) else None
+-- the number with these decimal digits after those of n. It is below 1,000,000,000
+abbrev pub number_after : ℕ → List ℕ → Option ℕ
+number_after n [] = Some n
+number_after n (x ∷ xs) =
+    if is_digit x then (if nat_lt n 100_000_000 then number_after (10 * n + (x - 0x30)) xs else None) else None
 
 -- the number with these decimal digits, of which there is one at least
 abbrev pub number_of : List ℕ → Option ℕ
 number_of [] = None
-number_of (x ∷ xs) = number_behind 0 (x ∷ xs)
+number_of (x ∷ xs) = number_after 0 (x ∷ xs)
 
 -- the value of a hexadecimal digit of either case
 abbrev pub hex_value : ℕ → Option ℕ
@@ -63,16 +63,16 @@ abbrev pub byte_of : List ℕ → Option ℕ
 byte_of (x ∷ y ∷ []) = byte_with x y
 byte_of other = None
 
--- the bytes that the text writes behind a first digit, if one was read
-abbrev pub bytes_behind : Option ℕ → List ℕ → Option (List ℕ)
-bytes_behind None [] = Some []
-bytes_behind (Some x) [] = None
-bytes_behind None (x ∷ xs) = if is_blank x then bytes_behind None xs else bytes_behind (Some x) xs
-bytes_behind (Some x) (y ∷ xs) = byte_with x y >>= λ b. option_map (λ bytes. b ∷ bytes) (bytes_behind None xs)
+-- the bytes that the text writes after a first digit, if one was read
+abbrev pub bytes_after : Option ℕ → List ℕ → Option (List ℕ)
+bytes_after None [] = Some []
+bytes_after (Some x) [] = None
+bytes_after None (x ∷ xs) = if is_blank x then bytes_after None xs else bytes_after (Some x) xs
+bytes_after (Some x) (y ∷ xs) = byte_with x y >>= λ b. option_map (λ bytes. b ∷ bytes) (bytes_after None xs)
 
 -- the bytes that the text writes: two hexadecimal digits each, with or without blanks between them
 abbrev pub bytes_of : List ℕ → Option (List ℕ)
-bytes_of text = bytes_behind None text
+bytes_of text = bytes_after None text
 
 -- the first byte passes the test
 abbrev pub first_passes : (ℕ → Bool) → List ℕ → Bool
@@ -83,7 +83,7 @@ first_passes test (x ∷ xs) = test x
 abbrev pub hex_seen : List ℕ → List ℕ → Hex
 hex_seen buf xs = record { count = length xs; stands = starts_with nat_eq buf xs; has = first_passes (allows (any_of xs)) buf }
 
--- what a buffer makes of bytes behind those that were read, after which `left` follows in the buffer
+-- what a buffer makes of bytes after those that were read, after which `left` follows in the buffer
 abbrev pub hex_joined : Hex → List ℕ → List ℕ → List ℕ → Hex
 hex_joined read left buf xs = record {
   count = read.count + length xs;

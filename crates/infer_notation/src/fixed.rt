@@ -3,7 +3,7 @@ ghost use Rattle.std.specs.Prelude.{◌≡◌, [], IfErr, codes, false, option_m
 ghost use Rattle.std.specs.List.{starts_with};
 ghost use Rattle.infer_sig.specs.Signature as signature;
 ghost use Rattle.infer_sig.specs.Signature.{all_but, between, has_part};
-ghost use Rattle.infer_notation.specs.Fixed.{asks_binary, behind_separator, behind_word_of, cursor, has_data, length_read, more_read, nothing, other_byte, piece, place_read, range_of, set_read, step, step_seen, within_seen, word_part};
+ghost use Rattle.infer_notation.specs.Fixed.{asks_binary, after_separator, after_word_of, cursor, has_data, length_read, more_read, nothing, other_byte, piece, place_read, range_of, set_read, step, step_seen, within_seen, word_part};
 ghost use Rattle.infer_notation.specs.Reasons.{is_of_token};
 ghost use Rattle.infer_notation.specs.Tokens.{token_listed};
 ghost use Rattle.infer_notation.specs.declared.fixed.Wanted.TheVariants.{Length, Or};
@@ -64,8 +64,8 @@ pub fn step(cursor: Cursor, token: Token<'_>, buf: &[u8]) -> Result<(Cursor, Eff
 {
     match cursor.wanted {
         Wanted::Length => length_read(token, buf),
-        Wanted::Colon => behind_separator(b':', Wanted::At, cursor, token, Reason::Length),
-        Wanted::At => behind_separator(b'@', Wanted::Place, cursor, token, Reason::Place),
+        Wanted::Colon => after_separator(b':', Wanted::At, cursor, token, Reason::Length),
+        Wanted::At => after_separator(b'@', Wanted::Place, cursor, token, Reason::Place),
         Wanted::Place => place_read(cursor, token),
         Wanted::Bytes => piece(cursor, token, buf),
         Wanted::More => more_read(cursor, token, buf),
@@ -78,7 +78,7 @@ pub fn step(cursor: Cursor, token: Token<'_>, buf: &[u8]) -> Result<(Cursor, Eff
 /// What follows on "binary".
 fn binary_read(token: Token<'_>, buf: &[u8]) -> Result<(Cursor, Effect), Reason>
     ensures found { found_by result ≡ option_map (step_seen buf.now)
-        (behind_word_of (codes "binary") (cursor Or 0 0) asks_binary (token_listed token.entry)) }
+        (after_word_of (codes "binary") (cursor Or 0 0) asks_binary (token_listed token.entry)) }
     ensures kind { IfErr result (λ reason. is_of_token reason ≡ false) }
 {
     match token {
@@ -105,7 +105,7 @@ fn has_data(buf: &[u8]) -> bool
 /// What follows on "or".
 fn or_read(token: Token<'_>) -> Result<(Cursor, Effect), Reason>
     ensures found { found_by result ≡ option_map (step_seen [])
-        (behind_word_of (codes "or") (cursor Length 0 0) nothing (token_listed token.entry)) }
+        (after_word_of (codes "or") (cursor Length 0 0) nothing (token_listed token.entry)) }
     ensures kind { IfErr result (λ reason. is_of_token reason ≡ false) }
 {
     match token {
@@ -143,7 +143,7 @@ fn length_read(token: Token<'_>, buf: &[u8]) -> Result<(Cursor, Effect), Reason>
 }
 
 /// What follows on a separator that is wanted.
-fn behind_separator(
+fn after_separator(
     separator: u8,
     wanted: Wanted,
     cursor: Cursor,
@@ -151,7 +151,7 @@ fn behind_separator(
     reason: Reason,
 ) -> Result<(Cursor, Effect), Reason>
     ensures found { found_by result ≡ option_map (step_seen [])
-        (behind_separator separator wanted cursor.least cursor.place (token_listed token.entry)) }
+        (after_separator separator wanted cursor.least cursor.place (token_listed token.entry)) }
     ensures kind { IfErr result (λ given. given ≡ reason) }
 {
     match token {
@@ -195,7 +195,7 @@ fn more_read(cursor: Cursor, token: Token<'_>, buf: &[u8]) -> Result<(Cursor, Ef
     ensures kind { IfErr result (λ reason. is_of_token reason ≡ false) }
 {
     match token {
-        Token::Separator(_) => behind_separator(b',', Wanted::At, cursor, token, Reason::Bytes),
+        Token::Separator(_) => after_separator(b',', Wanted::At, cursor, token, Reason::Bytes),
         Token::Word(word) if word == b"or".as_slice() => or_read(token),
         Token::Word(word) if word == b"and".as_slice() => Ok((
             Cursor {

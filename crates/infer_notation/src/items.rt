@@ -2,7 +2,7 @@
 ghost use Rattle.std.specs.Prelude.{◌≡◌, ◌∷◌, [], map, option_map};
 ghost use Rattle.infer_formats.specs.Relation.{relation_listed};
 ghost use Rattle.infer_notation.specs.Alternative.{related};
-ghost use Rattle.infer_notation.specs.Relations.{IsSeen, alone, beginning_of, behind_tag, directory_of, ending_entry, entry_of, extra_field, header_of, id_of, item_of, key_of, extra_entry, named_entry, number_at, program_of, root_of, short_number, tag_of, text_of, token_byte};
+ghost use Rattle.infer_notation.specs.Relations.{IsSeen, alone, beginning_of, after_tag, directory_of, ending_entry, entry_of, extra_field, header_of, id_of, item_of, key_of, extra_entry, named_entry, number_at, program_of, root_of, short_number, tag_of, text_of, token_byte};
 ghost use Rattle.infer_notation.specs.Tokens.{token_listed};
 
 use crate::names::is_word;
@@ -60,14 +60,14 @@ fn has_directory(tokens: &[Token<'_>], buf: &[u8]) -> Option<bool>
         (map token_listed tokens.now))) buf.now result }
 {
     match tokens {
-        [Word(digits), behind @ ..] => has_tag(tag(digits)?, behind, buf),
+        [Word(digits), after @ ..] => has_tag(tag(digits)?, after, buf),
         _ => None,
     }
 }
 
 /// What stands after the tag: nothing, or `and make "MAKE"`.
 fn has_tag(tag: u16, tokens: &[Token<'_>], buf: &[u8]) -> Option<bool>
-    ensures { IsSeen (option_map (λ r. related r ∷ []) (behind_tag tag
+    ensures { IsSeen (option_map (λ r. related r ∷ []) (after_tag tag
         (map token_listed tokens.now))) buf.now result }
 {
     match tokens {
@@ -215,20 +215,20 @@ fn has_beginning(tokens: &[Token<'_>], buf: &[u8]) -> Option<bool>
     ensures { IsSeen (option_map (λ r. related r ∷ []) (beginning_of
         (map token_listed tokens.now))) buf.now result }
 {
-    let (first, behind) = text_before(b"has", tokens)?;
-    let Some(behind) = behind else {
+    let (first, after) = text_before(b"has", tokens)?;
+    let Some(after) = after else {
         return Some(Relation::TextFirst(first.read()).fits(buf));
     };
-    let (one, behind) = text_before(b"has", behind)?;
-    let Some(behind) = behind else {
+    let (one, after) = text_before(b"has", after)?;
+    let Some(after) = after else {
         return Some(Relation::TextFirstWith(first.read(), one.read()).fits(buf));
     };
-    let (two, behind) = text_before(b"has", behind)?;
-    let Some(behind) = behind else {
+    let (two, after) = text_before(b"has", after)?;
+    let Some(after) = after else {
         let all = Relation::TextFirstWithAll(first.read(), one.read(), two.read(), b"");
         return Some(all.fits(buf));
     };
-    let three = read_text(behind)?;
+    let three = read_text(after)?;
     let all = Relation::TextFirstWithAll(first.read(), one.read(), two.read(), three.read());
     Some(all.fits(buf))
 }
@@ -238,8 +238,8 @@ fn has_header(tokens: &[Token<'_>], buf: &[u8]) -> Option<bool>
     ensures { IsSeen (option_map (λ r. related r ∷ []) (header_of
         (map token_listed tokens.now))) buf.now result }
 {
-    let (text, behind) = text_before(b"with", tokens)?;
-    seen(number_at(text.read(), behind?), buf)
+    let (text, after) = text_before(b"with", tokens)?;
+    seen(number_at(text.read(), after?), buf)
 }
 
 /// `LOW to HIGH at FAR`, in a header that begins with the text.

@@ -8,14 +8,14 @@ ghost use Rattle.infer_notation.specs.Fixed.{Asked, accepts, alternatives_of, ef
 ghost use Rattle.infer_notation.specs.Leads.{IsKnown, IsLead, IsLed, IsRead, is_found, lead_part};
 ghost use Rattle.infer_notation.specs.Signature.{signature_of};
 ghost use Rattle.infer_notation.specs.Tokens.{token_listed};
-ghost use Rattle.infer_notation.specs.Words.{bytes_behind, bytes_of, is_blank};
+ghost use Rattle.infer_notation.specs.Words.{bytes_after, bytes_of, is_blank};
 ghost use Rattle.infer_notation.specs.declared.fixed.Effect.TheVariants.{Has};
 ghost use Rattle.infer_notation.specs.declared.leads.Known.TheVariants.{Led};
 
 use crate::described::begins_relation;
 use crate::fixed::{Cursor, Effect, Wanted, range, step};
 use crate::tokens::token_at;
-use crate::words::{behind_first, byte_with, is_blank, rest_at, skip_blanks};
+use crate::words::{after_first, byte_with, is_blank, rest_at, skip_blanks};
 use infer_formats::token::Token;
 
 /// A place, and the bytes of which one stands there. If they are fewer than four, one is there more than once.
@@ -96,7 +96,7 @@ fn fixed_lead(text: &[u8]) -> Option<Lead>
         match next(reading, rest) {
             Some((more, count)) => {
                 reading = more;
-                rest = skip_blanks(rest_at(behind_first(rest), count));
+                rest = skip_blanks(rest_at(after_first(rest), count));
             }
             None => return None,
         }
@@ -323,8 +323,8 @@ fn digit_read(
     first: Option<u8>,
     digit: u8,
 ) -> Option<(Option<[u8; 4]>, Option<u8>)>
-    ensures { IfSome result (λ n. (xs ys : List ℕ) → bytes_behind first (digit ∷ ys) ≡ Some xs
-        → (zs : List ℕ) × (bytes_behind n.1 ys ≡ Some zs)
+    ensures { IfSome result (λ n. (xs ys : List ℕ) → bytes_after first (digit ∷ ys) ≡ Some xs
+        → (zs : List ℕ) × (bytes_after n.1 ys ≡ Some zs)
         × ((x : ℕ) → IsTrue (is_found found x || allows (any_of xs) x)
         → IsTrue (is_found n.0 x || allows (any_of zs) x))) }
 {
@@ -343,8 +343,8 @@ fn digit_read(
 /// The first digit of a byte, unless it is a blank.
 #[tactic(auto, using(crate::proofs::LeadLemmas::blank_found, crate::proofs::LeadLemmas::half_found))]
 fn half_of(digit: u8) -> Option<u8>
-    ensures { (xs ys : List ℕ) → bytes_behind None (digit ∷ ys) ≡ Some xs
-        → bytes_behind result ys ≡ Some xs }
+    ensures { (xs ys : List ℕ) → bytes_after None (digit ∷ ys) ≡ Some xs
+        → bytes_after result ys ≡ Some xs }
 {
     if is_blank(digit) { None } else { Some(digit) }
 }

@@ -48,9 +48,9 @@ pub fn read_group(text: &[u8]) -> Result<(Group<'_>, Option<&[u8]>), Flaw>
         count: 0,
     };
     let mut rest = text;
-    while let Some((token, behind)) = next_token(rest)? {
+    while let Some((token, after)) = next_token(rest)? {
         if is_word(token, b"or") {
-            return ended(group, text, Some(behind));
+            return ended(group, text, Some(after));
         }
         if group.count == 24 {
             return Err(Flaw {
@@ -60,7 +60,7 @@ pub fn read_group(text: &[u8]) -> Result<(Group<'_>, Option<&[u8]>), Flaw>
         }
         group.tokens[group.count] = token;
         group.count += 1;
-        rest = behind;
+        rest = after;
     }
     ended(group, text, None)
 }
@@ -103,10 +103,10 @@ pub fn is_related(text: &[u8], buf: &[u8]) -> Result<bool, Flaw>
     };
     let mut any = asked(takes, tokens, text, buf)?;
     while let Some(more) = rest {
-        let (group, behind) = read_group(more)?;
+        let (group, after) = read_group(more)?;
         let fits = asked(takes, group.read(), more, buf)?;
         any = any || fits;
-        rest = behind;
+        rest = after;
     }
     Ok(any)
 }

@@ -11,7 +11,7 @@ ghost use Rattle.infer_notation.specs.declared.fixed.Wanted.TheVariants.{Length}
 use crate::fixed::{Cursor, Effect, Wanted, step};
 use crate::reason::{Flaw, Reason};
 use crate::tokens::token_at;
-use crate::words::{behind_first, rest_at, skip_blanks};
+use crate::words::{after_first, rest_at, skip_blanks};
 use memchr::memchr;
 
 /// How far a signature was read, whether the buffer fits an alternative before the last one, and whether it has what was
@@ -35,7 +35,7 @@ pub fn accepts_fixed(text: &[u8], buf: &[u8]) -> Result<bool, Flaw>
         match next(state, rest, buf) {
             Ok((more, count)) => {
                 state = more;
-                rest = skip_blanks(rest_at(behind_first(rest), count));
+                rest = skip_blanks(rest_at(after_first(rest), count));
             }
             Err(reason) => {
                 return Err(Flaw {
@@ -65,12 +65,12 @@ pub fn fits_fixed(text: &[u8], buf: &[u8]) -> bool
     while !rest.is_empty() {
         match next(state, rest, buf) {
             Ok((more, count)) => {
-                let behind = rest_at(behind_first(rest), count);
-                if is_refused(state, more, behind) {
+                let after = rest_at(after_first(rest), count);
+                if is_refused(state, more, after) {
                     return false;
                 }
                 state = more;
-                rest = skip_blanks(behind);
+                rest = skip_blanks(after);
             }
             Err(_) => return false,
         }

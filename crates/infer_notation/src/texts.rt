@@ -1,6 +1,6 @@
 //! Texts as tokens write them: one between quotes, or pieces that are joined, as in `0A "v "`.
 ghost use Rattle.std.specs.Prelude.{◌≡◌, ◌++◌, ◌∷◌, [], map, option_and_then, option_map, take};
-ghost use Rattle.infer_notation.specs.Texts.{before_listed, behind, in_room, joined_listed, parted_at, parted_listed, piece_of, pieces_of, text_before, text_in, text_listed};
+ghost use Rattle.infer_notation.specs.Texts.{before_listed, added, in_room, joined_listed, parted_at, parted_listed, piece_of, pieces_of, text_before, text_in, text_listed};
 ghost use Rattle.infer_notation.specs.Tokens.{token_listed};
 ghost use Rattle.infer_notation.specs.Words.{bytes_of};
 
@@ -56,9 +56,9 @@ pub fn text_before<'a, 'b>(
 ) -> Option<(Text<'a>, Option<&'b [Token<'a>]>)>
     ensures { option_map before_listed result ≡ text_before word.now (map token_listed tokens.now) }
 {
-    let (front, behind) = parted(word, tokens);
+    let (front, after) = parted(word, tokens);
     let text = read_text(front)?;
-    Some((text, behind))
+    Some((text, after))
 }
 
 /// The tokens before the first of these words, and those after it, if it is there.
@@ -107,7 +107,7 @@ fn join(tokens: &[Token<'_>]) -> Option<Joined>
 /// What was joined, and a piece after it.
 fn with_piece(joined: Joined, token: Token<'_>) -> Option<Joined>
     ensures { option_map joined_listed result
-        ≡ behind (joined_listed joined) (piece_of (token_listed token.entry)) }
+        ≡ added (joined_listed joined) (piece_of (token_listed token.entry)) }
 {
     match token {
         Quoted(text) => with_text(joined, text),
@@ -130,7 +130,7 @@ fn with_text(joined: Joined, text: &[u8]) -> Option<Joined>
 /// And the bytes that the digits write.
 fn with_bytes(joined: Joined, digits: &[u8]) -> Option<Joined>
     ensures { option_map joined_listed result
-        ≡ behind (joined_listed joined) (bytes_of digits.now) }
+        ≡ added (joined_listed joined) (bytes_of digits.now) }
 {
     let mut joined = joined;
     let mut first = None;

@@ -7,7 +7,7 @@ ghost use Rattle.infer_notation.specs.Tokens.{bare_at, is_separator, is_of, pair
 ghost use Rattle.infer_notation.specs.Words.{found_by};
 
 use crate::reason::{Flaw, Reason};
-use crate::words::{behind_first, rest_at, skip_blanks};
+use crate::words::{after_first, rest_at, skip_blanks};
 use infer_formats::token::Token;
 
 /// What a run of bytes is of.
@@ -26,8 +26,8 @@ pub fn token_at(text: &[u8]) -> Result<(Token<'_>, usize), Reason>
 {
     match text {
         [] => Err(Reason::End),
-        [b'"', behind @ ..] => quoted_at(behind),
-        [b'{', behind @ ..] => set_at(behind),
+        [b'"', after @ ..] => quoted_at(after),
+        [b'{', after @ ..] => set_at(after),
         [separator, ..] if is_separator(*separator) => Ok((Token::Separator(*separator), 0)),
         _ => bare_at(text),
     }
@@ -47,7 +47,7 @@ pub fn next_token(text: &[u8]) -> Result<Option<(Token<'_>, &[u8])>, Flaw>
         return Ok(None);
     }
     match token_at(front) {
-        Ok((token, count)) => Ok(Some((token, rest_at(behind_first(front), count)))),
+        Ok((token, count)) => Ok(Some((token, rest_at(after_first(front), count)))),
         Err(reason) => Err(Flaw {
             reason,
             left: front.len(),

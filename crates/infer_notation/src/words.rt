@@ -1,6 +1,6 @@
 //! Blanks, numbers and bytes in hexadecimal digits.
 ghost use Rattle.std.specs.Prelude.{◌≡◌, ◌<◌, ◌≤◌, ◌==◌, ◌∷◌, ◌+◌, ◌-◌, ◌^◌, ℕ, List, IfErr, IfSome, drop, false, length, option_map, slice_index};
-ghost use Rattle.infer_notation.specs.Words.{behind_blanks, behind_word, byte_of, byte_with, bytes_of, first_passes, found_by, hex_joined, hex_seen, hex_value, is_blank, is_digit, number_behind, number_of, word, word_len};
+ghost use Rattle.infer_notation.specs.Words.{after_blanks, after_word, byte_of, byte_with, bytes_of, first_passes, found_by, hex_joined, hex_seen, hex_value, is_blank, is_digit, number_after, number_of, word, word_len};
 
 use crate::reason::Reason;
 
@@ -23,7 +23,7 @@ pub fn is_blank(byte: u8) -> bool
 
 /// What follows the blanks at the front.
 pub fn skip_blanks(text: &[u8]) -> &[u8]
-    ensures value { result.now ≡ behind_blanks text.now }
+    ensures value { result.now ≡ after_blanks text.now }
     ensures fits { length result.now ≤ length text.now }
     ensures ends { 0 < length result.now → is_blank (slice_index result.now 0) ≡ false }
 {
@@ -36,14 +36,14 @@ pub fn skip_blanks(text: &[u8]) -> &[u8]
 }
 
 /// The bytes up to the first blank, and what follows the blanks after them.
-#[tactic(auto, unfolding(crate::specs::Words::word, crate::specs::Words::behind_word))]
+#[tactic(auto, unfolding(crate::specs::Words::word, crate::specs::Words::after_word))]
 pub fn split_word(text: &[u8]) -> (&[u8], &[u8])
     ensures word { result.0.now ≡ word text.now }
-    ensures behind { result.1.now ≡ behind_word text.now }
+    ensures after { result.1.now ≡ after_word text.now }
     ensures fits { length result.1.now ≤ length text.now }
 {
-    let (word, behind) = text.split_at(word_len(text));
-    (word, skip_blanks(behind))
+    let (word, after) = text.split_at(word_len(text));
+    (word, skip_blanks(after))
 }
 
 /// How many bytes there are up to the first blank.
@@ -140,7 +140,7 @@ pub fn bytes(text: &[u8], buf: &[u8]) -> Result<Hex, Reason>
                     return Err(Reason::Digits);
                 };
                 read = with_byte(read, byte, left, buf);
-                left = behind_first(left);
+                left = after_first(left);
                 first = None;
             }
         }
@@ -177,11 +177,11 @@ fn begins_with(buf: &[u8], byte: u8) -> bool
 }
 
 /// All but the first byte.
-pub(crate) fn behind_first(buf: &[u8]) -> &[u8]
+pub(crate) fn after_first(buf: &[u8]) -> &[u8]
     ensures { result.now ≡ drop 1 buf.now }
 {
     match buf {
-        [_, behind @ ..] => behind,
+        [_, after @ ..] => after,
         [] => buf,
     }
 }

@@ -97,8 +97,8 @@ fillings least n (part ∷ parts) buf after apart possible h =
     let each = and_parts (may_have buf part) _ h in
     let f = filled buf part p.0 each.0 in
     let m = place_of part + length f.filling in
-    let behind = list_all_passes _ (λ q. leb m (place_of q)) (λ q within. le-leb m (place_of q) (f.ends (place_of q) within)) parts a.0 in
-    let rest = fillings least m parts buf behind a.1 p.1 each.1 in
+    let follows = list_all_passes _ (λ q. leb m (place_of q)) (λ q within. le-leb m (place_of q) (f.ends (place_of q) within)) parts a.0 in
+    let rest = fillings least m parts buf follows a.1 p.1 each.1 in
     record {
       texts = record { place = place_of part; text = f.filling } ∷ rest.texts;
       end = rest.end;

@@ -7,7 +7,7 @@ ghost use Rattle.infer.specs.Decided.{IsDecided};
 ghost use Rattle.infer_sniff.specs.Sniffers.{IsSniffer};
 ghost use Rattle.infer_sniff.specs.Verdicts.{IsVerdict, StaysFinal};
 
-use crate::verdict::{Verdict, verdict_behind, verdict_of};
+use crate::verdict::{Verdict, verdict_after, verdict_of};
 use infer::FRONT;
 use std::alloc::{AllocError, Allocator, Global};
 use std::cmp;
@@ -61,7 +61,7 @@ impl<A: Allocator> Sniffer<A> {
         if !keep(&mut self.bytes, piece) {
             return self.verdict;
         }
-        self.verdict = verdict_behind(self.verdict, self.bytes.as_slice());
+        self.verdict = verdict_after(self.verdict, self.bytes.as_slice());
         self.verdict
     }
 

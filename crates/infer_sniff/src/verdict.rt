@@ -55,7 +55,7 @@ pub fn verdict_of(buf: &[u8]) -> Verdict
 }
 
 /// The verdict of `buf`, if `before` is that of a beginning of it. A final one is kept, and nothing is asked.
-pub fn verdict_behind(before: Verdict, buf: &[u8]) -> Verdict
+pub fn verdict_after(before: Verdict, buf: &[u8]) -> Verdict
     requires { StaysFinalFromBeginning before buf.now }
     ensures verdict { IsVerdict buf.now result }
     ensures lasts { StaysFinal buf.now result }
@@ -69,7 +69,7 @@ pub fn verdict_behind(before: Verdict, buf: &[u8]) -> Verdict
 /// The number of the first row that accepts `buf`, and its type.
 fn first_of(buf: &[u8]) -> (Option<usize>, Option<Type>)
     ensures first { IsFirstOf (Accepts buf.now) table result.0 }
-    ensures tells { IsTypeOf buf.now result.1 }
+    ensures is_type { IsTypeOf buf.now result.1 }
 {
     match position(buf) {
         Some(number) => (Some(number), row(number)),

@@ -57,7 +57,7 @@ labelled left rest held holds kept v found (bytes, passed, same) verdict is enou
   bytes,
   passed,
   record {
-    tells = rw is (subst (λ b. IsTypeOf b (found_of v)) same (told kept v verdict));
+    is_type = rw is (subst (λ b. IsTypeOf b (found_of v)) same (told kept v verdict));
     enough = elim enough [
       | inl end ↦ inl end
       | inr (inl full) ↦ inr (inl (let long = ap length same in let few = length-head bytes in omega arith))

@@ -14,5 +14,5 @@ pub record IsPassed (left rest held holds : Option (List ℕ)) (bytes : List ℕ
 -- the type is that of the first 8192 bytes, and no more needed to be seen: there are none, or there were so many, or no
 -- bytes after them change the type
 pub record IsLabelled (rest : Option (List ℕ)) (bytes : List ℕ) (found : Option FileType) : Type 0 where
-  pub tells : IsTypeOf (head FRONT bytes) found
+  pub is_type : IsTypeOf (head FRONT bytes) found
   pub enough : IsAtEnd rest ⊎ (FRONT ≤ length bytes) ⊎ IsSettled (head FRONT bytes)

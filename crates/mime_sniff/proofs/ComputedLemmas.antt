@@ -6,14 +6,14 @@ use Rattle.std.specs.List.{list_all}
 use Rattle.std.specs.Option.{option_or}
 use Rattle.mime_types.specs.Groups.{IsAudioOrVideo, IsImage, essence}
 use Rattle.mime_types.specs.Mime.{Kind}
-use Rattle.mime_sniff.specs.Computed.{Answers, IsAsked, IsAskedOf, IsComputed, IsFinal, IsOther, IsScriptableText, IsSuppliedScriptable, IsUnknown, Supply, TellsScriptable, asked_of_unknown, otherwise, rules_of}
+use Rattle.mime_sniff.specs.Computed.{Answers, IsAsked, IsAskedOf, IsComputed, IsFinal, IsOther, IsScriptableText, IsSuppliedScriptable, IsUnknown, Supply, GivesScriptable, asked_of_unknown, otherwise, rules_of}
 use Rattle.mime_sniff.specs.Laws.{MayEscalate}
-use Rattle.mime_sniff.specs.Rule.{Accepts, Rule, TellsFirst}
+use Rattle.mime_sniff.specs.Rule.{Accepts, Rule, FindsFirst}
 use Rattle.mime_sniff.specs.Standard.{archives, header, marks, media, octets, scriptable, text_or_binary_rules, texts, unscripted}
 use Rattle.mime_sniff.specs.Table.{images, sounds}
 use Rattle.mime_sniff.specs.declared.question.Question.{Question}
 use Rattle.mime_sniff.specs.declared.question.Question.TheVariants.{Anything, Images, Media, Nothing, TextOrBinary, Unscripted}
-use Rattle.mime_sniff.proofs.FirstLemmas.{one_first, tells_cases, told_passes}
+use Rattle.mime_sniff.proofs.FirstLemmas.{one_first, finds_cases, told_passes}
 
 -- no type is of two of these groups
 text_image : (k : Kind) → k.type_name ≡ codes "text" → ¬ IsImage k
@@ -111,26 +111,26 @@ is_safe_told (Some t) = is_safe t
 
 -- where no rule tells a type that may run scripts, only the supplied type may
 module _ (s : Supply) where
-  safe_told : (told : Option (List ℕ)) → is_safe_told told ≡ true → TellsScriptable s told → IsSuppliedScriptable s
+  safe_told : (told : Option (List ℕ)) → is_safe_told told ≡ true → GivesScriptable s told → IsSuppliedScriptable s
   safe_told None safe is = is
   safe_told (Some t) safe is = absurd (not_scriptable t safe is)
 
   safe_first : (rules : List Rule) (b : List ℕ) (else_told first told : Option (List ℕ)) → list_all is_safe_rule rules ≡ true → is_safe_told else_told ≡ true
-      → TellsFirst (Accepts b) rules first → told ≡ option_or first else_told → TellsScriptable s told → IsSuppliedScriptable s
-  safe_first rules b else_told None told safe else_safe h e is = safe_told else_told else_safe (subst (λ o. TellsScriptable s o) e is)
+      → FindsFirst (Accepts b) rules first → told ≡ option_or first else_told → GivesScriptable s told → IsSuppliedScriptable s
+  safe_first rules b else_told None told safe else_safe h e is = safe_told else_told else_safe (subst (λ o. GivesScriptable s o) e is)
   safe_first rules b else_told (Some t) told safe else_safe h e is =
       let (rule, passes, same) = told_passes (Accepts b) is_safe_rule rules t safe h in
-      safe_told (Some t) (ap is_safe (sym same) ∙ passes) (subst (λ o. TellsScriptable s o) e is)
+      safe_told (Some t) (ap is_safe (sym same) ∙ passes) (subst (λ o. GivesScriptable s o) e is)
 
   pub safe_answer : (q : Question) (b : List ℕ) (told : Option (List ℕ)) → list_all is_safe_rule (rules_of q) ≡ true → is_safe_told (otherwise q) ≡ true
-      → Answers q b told → TellsScriptable s told → IsSuppliedScriptable s
+      → Answers q b told → GivesScriptable s told → IsSuppliedScriptable s
   safe_answer q b told safe else_safe (first, h, e) is = safe_first (rules_of q) b (otherwise q) first told safe else_safe h e is
 
 -- the first of some rules is one of the first of them, or of the others
-split_first : (P : Rule → Type 0) (xs ys : List Rule) (t : List ℕ) → TellsFirst P (xs ++ ys) (Some t) → Any P xs ⊎ TellsFirst P ys (Some t)
+split_first : (P : Rule → Type 0) (xs ys : List Rule) (t : List ℕ) → FindsFirst P (xs ++ ys) (Some t) → Any P xs ⊎ FindsFirst P ys (Some t)
 split_first P [] ys t h = inr h
 split_first P (x ∷ xs) ys t h =
-    elim (tells_cases P x (xs ++ ys) (Some t) h) [
+    elim (finds_cases P x (xs ++ ys) (Some t) h) [
       | inl (p, is) ↦ inl (0, x, omega arith, refl, p)
       | inr (not, rest) ↦ elim (split_first P xs ys t rest) [
         | inl (n, y, within, at, p) ↦ inl (suc n, y, omega (arith, within), at, p)
@@ -154,10 +154,10 @@ all_texts : list_all is_safe_rule text_or_binary_rules ≡ true
 unfolding marks
 all_texts = refl
 
-module _ (s : Supply) (b : List ℕ) (told : Option (List ℕ)) (is : TellsScriptable s told) where
+module _ (s : Supply) (b : List ℕ) (told : Option (List ℕ)) (is : GivesScriptable s told) where
   -- of nothing that is known
   of_anything : IsUnknown s.kind → (¬ IsTrue s.no_sniff) → Answers Anything (header b) told → IsSuppliedScriptable s ⊎ MayEscalate s b
-  of_anything unknown may (None, h, e) = inl (safe_told s (Some octets) refl (subst (λ o. TellsScriptable s o) e is))
+  of_anything unknown may (None, h, e) = inl (safe_told s (Some octets) refl (subst (λ o. GivesScriptable s o) e is))
   of_anything unknown may (Some t, h, e) =
       elim (split_first (Accepts (header b)) scriptable unscripted t h) [
         | inl some ↦ inr (unknown, may, some)
@@ -187,10 +187,10 @@ module _ (s : Supply) (b : List ℕ) (told : Option (List ℕ)) (is : TellsScrip
   escalates q (inr (known, asked)) h = inl (of_some s.kind q known asked h)
 
 -- the type that is told is that of a rule
-any_told : (P : Rule → Type 0) (rules : List Rule) (t : List ℕ) → TellsFirst P rules (Some t) → Any (λ r. Some t ≡ Some r.mime_type) rules
+any_told : (P : Rule → Type 0) (rules : List Rule) (t : List ℕ) → FindsFirst P rules (Some t) → Any (λ r. Some t ≡ Some r.mime_type) rules
 any_told P [] t h = let (rule, passes, is) = told_passes P (λ r. false) [] t refl h in absurd (false≢true passes)
 any_told P (x ∷ rules) t h =
-    elim (tells_cases P x rules (Some t) h) [
+    elim (finds_cases P x rules (Some t) h) [
       | inl (p, is) ↦ (0, x, omega arith, refl, is)
       | inr (not, rest) ↦ let (n, y, within, at, is) = any_told P rules t rest in (suc n, y, omega (arith, within), at, is)
     ]

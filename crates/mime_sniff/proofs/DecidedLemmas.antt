@@ -6,11 +6,11 @@ use Rattle.std.specs.Bool.{OnFalse, OnTrue}
 use Rattle.std.proofs.lemmas.List.{append-nil, take-append-le, take_all}
 use Rattle.mime_sniff.specs.Computed.{Answers, IsAsked, IsComputed, Supply}
 use Rattle.mime_sniff.specs.Growth.{AnswerForGood, IsDecided, MayScript, NeverHolds, NeverScripts}
-use Rattle.mime_sniff.specs.Rule.{Accepts, Rule, TellsFirst}
+use Rattle.mime_sniff.specs.Rule.{Accepts, Rule, FindsFirst}
 use Rattle.mime_sniff.specs.Standard.{header, scriptable}
 use Rattle.mime_sniff.specs.declared.question.Question.{Question}
 use Rattle.mime_sniff.proofs.ComputedLemmas.{one_answer, one_question}
-use Rattle.mime_sniff.proofs.FirstLemmas.{no_first, tells_cases}
+use Rattle.mime_sniff.proofs.FirstLemmas.{no_first, finds_cases}
 
 module _ (b more : List ℕ) where
   full_stays : 1445 ≤ length b → header (b ++ more) ≡ header b
@@ -39,18 +39,18 @@ decided_settled s b q told asked good more now (r, also, h) =
     (q, asked, subst (λ t. Answers q (header (b ++ more)) t) now_is (subst (λ x. Answers q x told) (sym e) (good m)))
 
 -- no rule accepts, if all refuse
-pub no_rule : (P : Rule → Type 0) (rules : List Rule) → TellsFirst P rules None → ¬ Any P rules
+pub no_rule : (P : Rule → Type 0) (rules : List Rule) → FindsFirst P rules None → ¬ Any P rules
 no_rule P rules all (k, rule, within, at, accepts) = all k rule within (subst P (sym at) accepts)
 
 -- and one does, if they tell a type
-pub some_rule : (P : Rule → Type 0) (rules : List Rule) (t : List ℕ) → TellsFirst P rules (Some t) → Any P rules
+pub some_rule : (P : Rule → Type 0) (rules : List Rule) (t : List ℕ) → FindsFirst P rules (Some t) → Any P rules
 some_rule P [] t (rule, first, e) = absurd (no_first P rule first)
-some_rule P (x ∷ rules) t h = elim (tells_cases P x rules (Some t) h) [
+some_rule P (x ∷ rules) t h = elim (finds_cases P x rules (Some t) h) [
   | inl (p, is) ↦ (0, x, omega arith, refl, p)
   | inr (not, rest) ↦ let (n, y, within, at, p) = some_rule P rules t rest in (suc n, y, omega (arith, within), at, p)
 ]
 
-pub never_full : (b : List ℕ) → 1445 ≤ length b → TellsFirst (Accepts (header b)) scriptable None → NeverScripts b
+pub never_full : (b : List ℕ) → 1445 ≤ length b → FindsFirst (Accepts (header b)) scriptable None → NeverScripts b
 never_full b full none more = subst (λ h. ¬ Any (Accepts h) scriptable) (sym (full_stays b more full)) (no_rule (Accepts (header b)) scriptable none)
 
 -- what no bytes after the header bring, none after the buffer bring
@@ -75,6 +75,6 @@ same_computed s b t u (q, asked, h) (r, also, g) =
     one_answer q (header b) t u h (subst (λ x. Answers x (header b) u) (sym (one_question s q r asked also)) g)
 
 pub decided_stays : (s : Supply) (b more : List ℕ) (told : Option (List ℕ)) → IsDecided s b → IsComputed s b told → IsDecided s (b ++ more)
-decided_stays s b more told decided is behind now h =
+decided_stays s b more told decided is after now h =
     let same = same_computed s (b ++ more) told now (decided more told is) h in
-    subst (λ l. IsComputed s l now) (sym (append_assoc b more behind)) (subst (λ t. IsComputed s (b ++ (more ++ behind)) t) same (decided (more ++ behind) told is))
+    subst (λ l. IsComputed s l now) (sym (append_assoc b more after)) (subst (λ t. IsComputed s (b ++ (more ++ after)) t) same (decided (more ++ after) told is))

@@ -5,15 +5,15 @@ use Rattle.std.proofs.lemmas.Slice.Eq.{bytes_eq-Decides}
 use Rattle.std.specs.List.{list_all}
 use Rattle.std.specs.Option.{option_or}
 use Rattle.std.specs.Str.{bytes_eq}
-use Rattle.mime_sniff.specs.Computed.{Answers, IsAsked, IsScriptableText, Supply, TellsScriptable, asked_of_unknown, otherwise}
+use Rattle.mime_sniff.specs.Computed.{Answers, IsAsked, IsScriptableText, Supply, GivesScriptable, asked_of_unknown, otherwise}
 use Rattle.mime_sniff.specs.Laws.{MayEscalate}
-use Rattle.mime_sniff.specs.Rule.{Accepts, Rule, TellsFirst}
+use Rattle.mime_sniff.specs.Rule.{Accepts, Rule, FindsFirst}
 use Rattle.mime_sniff.specs.Standard.{documents, header, scriptable, unscripted}
 use Rattle.mime_sniff.specs.Table.{tag_rules, xml_rules}
 use Rattle.mime_sniff.specs.declared.question.Question.{Question}
 use Rattle.mime_sniff.specs.declared.question.Question.TheVariants.{Anything}
 use Rattle.mime_sniff.proofs.DecidedLemmas.{grows}
-use Rattle.mime_sniff.proofs.FirstLemmas.{tells_cases}
+use Rattle.mime_sniff.proofs.FirstLemmas.{finds_cases}
 use Rattle.mime_sniff.proofs.GrowthLemmas.{any_grown, is_begun_rule}
 
 module _ (P : Rule → Type 0) where
@@ -22,12 +22,12 @@ module _ (P : Rule → Type 0) where
   later x xs not (suc n, y, within, at, p) = (n, y, omega (arith, within), at, p)
 
   -- what is told is the type of one of the rules, if one of them accepts
-  told_first : (f : Rule → Bool) (xs ys : List Rule) (told : Option (List ℕ)) → list_all f xs ≡ true → Any P xs → TellsFirst P (xs ++ ys) told
+  told_first : (f : Rule → Bool) (xs ys : List Rule) (told : Option (List ℕ)) → list_all f xs ≡ true → Any P xs → FindsFirst P (xs ++ ys) told
       → (rule : Rule) × (f rule ≡ true) × (told ≡ Some rule.mime_type)
   told_first f [] ys told all (n, y, within, at, p) h = absurd (omega (arith, within))
   told_first f (x ∷ xs) ys told all some h =
       let parts = and_parts (f x) (list_all f xs) all in
-      elim (tells_cases P x (xs ++ ys) told h) [
+      elim (finds_cases P x (xs ++ ys) told h) [
         | inl (p, is) ↦ (x, parts.0, is)
         | inr (not, rest) ↦ told_first f xs ys told parts.1 (later x xs not some) rest
       ]
@@ -53,16 +53,16 @@ unfolding tag_rules xml_rules documents
 all_run = refl
 
 module _ (s : Supply) (b : List ℕ) (told : Option (List ℕ)) (may : MayEscalate s b) where
-  of_anything : Answers Anything (header b) told → TellsScriptable s told
+  of_anything : Answers Anything (header b) told → GivesScriptable s told
   of_anything (first, h, e) =
       let (rule, run, is) = told_first (Accepts (header b)) (λ r. runs r.mime_type) scriptable unscripted first all_run may.2 h in
-      subst (λ o. TellsScriptable s o) (sym (e ∙ ap (λ o. option_or o (otherwise Anything)) is)) (runs_scripts rule.mime_type run)
+      subst (λ o. GivesScriptable s o) (sym (e ∙ ap (λ o. option_or o (otherwise Anything)) is)) (runs_scripts rule.mime_type run)
 
-  of_unknown : (no_sniff : Bool) → s.no_sniff ≡ no_sniff → (q : Question) → q ≡ asked_of_unknown no_sniff → Answers q (header b) told → TellsScriptable s told
+  of_unknown : (no_sniff : Bool) → s.no_sniff ≡ no_sniff → (q : Question) → q ≡ asked_of_unknown no_sniff → Answers q (header b) told → GivesScriptable s told
   of_unknown true forbidden q e h = absurd (may.1 forbidden)
   of_unknown false allowed q e h = of_anything (subst (λ r. Answers r (header b) told) e h)
 
-  pub escalates_so : (q : Question) → IsAsked s q → Answers q (header b) told → TellsScriptable s told
+  pub escalates_so : (q : Question) → IsAsked s q → Answers q (header b) told → GivesScriptable s told
   escalates_so q (inl (unknown, e)) h = of_unknown s.no_sniff refl q e h
   escalates_so q (inr (known, asked)) h = absurd (known may.0)
 

@@ -12,19 +12,19 @@ use Rattle.infer_deep.proofs.NumberLemmas.{be32-append}
 use Rattle.infer_deep.proofs.PlaceLemmas.{OccursAt-append}
 use Rattle.infer_formats.specs.Text.{IsBinary}
 use Rattle.memchr.specs.Find.{OccursAt}
-use Rattle.mime_sniff.specs.Growth.{AnswerForGood, FitForGood, MayBeginHeader, TellForGood, told_or_else}
+use Rattle.mime_sniff.specs.Growth.{AnswerForGood, FitForGood, MayBeginHeader, FindForGood, found_or_else}
 use Rattle.mime_sniff.specs.Computed.{otherwise, rules_of}
 use Rattle.mime_sniff.specs.Mp3.{IsHeader, IsMp3, frame_length}
 use Rattle.mime_sniff.specs.declared.question.Question.{Question}
-use Rattle.mime_sniff.proofs.FirstLemmas.{tells_left, tells_right}
+use Rattle.mime_sniff.proofs.FirstLemmas.{finds_left, finds_right}
 use Rattle.std.specs.Option.{option_or}
 use Rattle.mime_sniff.specs.Mp4.{IsMp4OfAnyBox, box_length}
-use Rattle.mime_sniff.specs.Row.{EndsTag, Fits, FitsBehind, Pattern, mask_at}
-use Rattle.mime_sniff.specs.Rule.{Accepts, FitsRule, IsAccepted, Rule, Signature, TellsFirst, fixed, mp3, mp4, mp4_of_any_box, no_data, webm}
+use Rattle.mime_sniff.specs.Row.{EndsTag, Fits, FitsAfter, Pattern, mask_at}
+use Rattle.mime_sniff.specs.Rule.{Accepts, FitsRule, IsAccepted, Rule, Signature, FindsFirst, fixed, mp3, mp4, mp4_of_any_box, no_data, webm}
 use Rattle.mime_sniff.specs.Table.{led_by}
 use Rattle.mime_sniff.specs.Webm.{Holds, HoldsFrom, IsWebm, NamesWebm, begins_name, content, next_place, size_width}
 use Rattle.mime_sniff.proofs.WebmLemmas.{all_later, from_next, next_later}
-use Rattle.mime_sniff.proofs.RuleLemmas.{is_direct_rule, is_markup_rule, is_plain_rule, tells_direct, tells_led, tells_markup}
+use Rattle.mime_sniff.proofs.RuleLemmas.{is_direct_rule, is_markup_rule, is_plain_rule, finds_direct, finds_led, finds_markup}
 
 holds_within : (b : List ℕ) (i : ℕ) → Holds b i → i + 2 < length b
 holds_within b i (begins, named) =
@@ -149,20 +149,20 @@ module _ (b more : List ℕ) where
 
 module _ (b : List ℕ) where
   pub settle_direct : (rules : List Rule) (o : Option (Option (Bor (List ℕ)))) → list_all is_direct_rule rules ≡ true
-      → IfSome o (λ told. FitForGood b rules (option_map (λ t. t.now) told)) → IfSome o (λ told. TellForGood b rules (option_map (λ t. t.now) told))
+      → IfSome o (λ told. FitForGood b rules (option_map (λ t. t.now) told)) → IfSome o (λ told. FindForGood b rules (option_map (λ t. t.now) told))
   settle_direct rules None is h = tt
-  settle_direct rules (Some told) is h = λ more. tells_direct (b ++ more) rules (option_map (λ t. t.now) told) is (h more)
+  settle_direct rules (Some told) is h = λ more. finds_direct (b ++ more) rules (option_map (λ t. t.now) told) is (h more)
 
   pub settle_led : (rules : List Rule) (o : Option (Option (Bor (List ℕ)))) → list_all is_plain_rule rules ≡ true → get_or b 0 0 < 256 → 0 < length b
       → IfSome o (λ told. FitForGood b (led_by (get_or b 0 0) rules) (option_map (λ t. t.now) told))
-      → IfSome o (λ told. TellForGood b rules (option_map (λ t. t.now) told))
+      → IfSome o (λ told. FindForGood b rules (option_map (λ t. t.now) told))
   settle_led rules None is byte some h = tt
   settle_led rules (Some told) is byte some h = λ more.
       let same : get_or (b ++ more) 0 0 ≡ get_or b 0 0 = get_or_append_left b more 0 0 some in
-      tells_led (b ++ more) (omega (arith, same, byte)) rules (option_map (λ t. t.now) told) is
-      (subst (λ x. TellsFirst (FitsRule (b ++ more)) (led_by x rules) (option_map (λ t. t.now) told)) (sym same) (h more))
+      finds_led (b ++ more) (omega (arith, same, byte)) rules (option_map (λ t. t.now) told) is
+      (subst (λ x. FindsFirst (FitsRule (b ++ more)) (led_by x rules) (option_map (λ t. t.now) told)) (sym same) (h more))
 
--- what is behind white space stays behind it, once a byte is there
+-- what is after white space stays after it, once a byte is there
 pub skips_grown : (b text more : List ℕ) → SkipsTo IsSpace b text → SkipsTo IsSpace (b ++ more) (text ++ more)
 skips_grown b text more skips = record {
   words = skips.words;
@@ -188,16 +188,16 @@ abbrev pub is_begun_rule : Rule → Bool
 is_begun_rule r = is_begun r.signature
 
 module _ (b more : List ℕ) where
-  behind_grown : (w : Bool) (p : Pattern) → 0 < length p.bytes → FitsBehind w p b → FitsBehind w p (b ++ more)
-  behind_grown true p some (text, skips, (stops, fits)) = (
+  after_grown : (w : Bool) (p : Pattern) → 0 < length p.bytes → FitsAfter w p b → FitsAfter w p (b ++ more)
+  after_grown true p some (text, skips, (stops, fits)) = (
     text ++ more,
     skips_grown b text more skips,
     (stops_grown text more (omega (arith, some, fits.long)) stops, fits_grown text more p fits),
   )
-  behind_grown false p some fits = fits_grown b more p fits
+  after_grown false p some fits = fits_grown b more p fits
 
   pub accepted_grown : (s : Signature) → is_begun s ≡ true → IsAccepted s b → IsAccepted s (b ++ more)
-  accepted_grown (fixed p) is h = behind_grown p.ignores_white p (ltb-true 0 (length p.bytes) is) h
+  accepted_grown (fixed p) is h = after_grown p.ignores_white p (ltb-true 0 (length p.bytes) is) h
   accepted_grown mp4 is h = absurd (false≢true is)
   accepted_grown mp4_of_any_box is h = absurd (false≢true is)
   accepted_grown webm is h = absurd (false≢true is)
@@ -212,31 +212,31 @@ module _ (b more : List ℕ) where
 
 module _ (b text : List ℕ) (skips : SkipsTo IsSpace b text) (stops : NoneBegins IsSpace text) (byte : get_or text 0 0 < 256) (some : 0 < length text) where
   pub settle_markup : (rules : List Rule) (o : Option (Option (Bor (List ℕ)))) → list_all is_markup_rule rules ≡ true
-      → IfSome o (λ told. FitForGood text rules (option_map (λ t. t.now) told)) → IfSome o (λ told. TellForGood b rules (option_map (λ t. t.now) told))
+      → IfSome o (λ told. FitForGood text rules (option_map (λ t. t.now) told)) → IfSome o (λ told. FindForGood b rules (option_map (λ t. t.now) told))
   settle_markup rules None is h = tt
   settle_markup rules (Some told) is h = λ more.
       let same : get_or (text ++ more) 0 0 ≡ get_or text 0 0 = get_or_append_left text more 0 0 some in
-      tells_markup (b ++ more) (text ++ more) (skips_grown b text more skips) (stops_grown text more some stops) (omega (arith, same, byte)) rules
+      finds_markup (b ++ more) (text ++ more) (skips_grown b text more skips) (stops_grown text more some stops) (omega (arith, same, byte)) rules
       (option_map (λ t. t.now) told) is (h more)
 
--- what some rules and those behind them tell
-pub settle_both : (b : List ℕ) (xs ys : List Rule) (first behind both : Option (Option (Bor (List ℕ)))) → both ≡ told_or_else first behind
-    → IfSome first (λ told. TellForGood b xs (option_map (λ t. t.now) told)) → IfSome behind (λ told. TellForGood b ys (option_map (λ t. t.now) told))
-    → IfSome both (λ told. TellForGood b (xs ++ ys) (option_map (λ t. t.now) told))
-settle_both b xs ys first behind both is h g =
-    subst (λ o. IfSome o (λ told. TellForGood b (xs ++ ys) (option_map (λ t. t.now) told))) (sym is) (known first behind h g)
+-- what some rules and those after them tell
+pub settle_both : (b : List ℕ) (xs ys : List Rule) (first after both : Option (Option (Bor (List ℕ)))) → both ≡ found_or_else first after
+    → IfSome first (λ told. FindForGood b xs (option_map (λ t. t.now) told)) → IfSome after (λ told. FindForGood b ys (option_map (λ t. t.now) told))
+    → IfSome both (λ told. FindForGood b (xs ++ ys) (option_map (λ t. t.now) told))
+settle_both b xs ys first after both is h g =
+    subst (λ o. IfSome o (λ told. FindForGood b (xs ++ ys) (option_map (λ t. t.now) told))) (sym is) (known first after h g)
   where
-    right : (o : Option (Option (Bor (List ℕ)))) → TellForGood b xs None → IfSome o (λ told. TellForGood b ys (option_map (λ t. t.now) told))
-        → IfSome o (λ told. TellForGood b (xs ++ ys) (option_map (λ t. t.now) told))
+    right : (o : Option (Option (Bor (List ℕ)))) → FindForGood b xs None → IfSome o (λ told. FindForGood b ys (option_map (λ t. t.now) told))
+        → IfSome o (λ told. FindForGood b (xs ++ ys) (option_map (λ t. t.now) told))
     right None h g = tt
-    right (Some told) h g = λ more. tells_right (Accepts (b ++ more)) xs ys (option_map (λ t. t.now) told) (h more) (g more)
+    right (Some told) h g = λ more. finds_right (Accepts (b ++ more)) xs ys (option_map (λ t. t.now) told) (h more) (g more)
 
-    known : (first behind : Option (Option (Bor (List ℕ)))) → IfSome first (λ told. TellForGood b xs (option_map (λ t. t.now) told))
-        → IfSome behind (λ told. TellForGood b ys (option_map (λ t. t.now) told))
-        → IfSome (told_or_else first behind) (λ told. TellForGood b (xs ++ ys) (option_map (λ t. t.now) told))
-    known None behind h g = tt
-    known (Some None) behind h g = right behind h g
-    known (Some (Some t)) behind h g = λ more. tells_left (Accepts (b ++ more)) xs ys t.now (h more)
+    known : (first after : Option (Option (Bor (List ℕ)))) → IfSome first (λ told. FindForGood b xs (option_map (λ t. t.now) told))
+        → IfSome after (λ told. FindForGood b ys (option_map (λ t. t.now) told))
+        → IfSome (found_or_else first after) (λ told. FindForGood b (xs ++ ys) (option_map (λ t. t.now) told))
+    known None after h g = tt
+    known (Some None) after h g = right after h g
+    known (Some (Some t)) after h g = λ more. finds_left (Accepts (b ++ more)) xs ys t.now (h more)
 
 or_none : (told : Option (List ℕ)) → told ≡ option_or told None
 or_none None = refl
@@ -244,7 +244,7 @@ or_none (Some t) = refl
 
 -- where nothing else is told, the rules' answer is that of the question
 pub settle_answer : (q : Question) (b : List ℕ) → otherwise q ≡ None → (o : Option (Option (Bor (List ℕ))))
-    → IfSome o (λ told. TellForGood b (rules_of q) (option_map (λ t. t.now) told)) → IfSome o (λ told. AnswerForGood q b (option_map (λ t. t.now) told))
+    → IfSome o (λ told. FindForGood b (rules_of q) (option_map (λ t. t.now) told)) → IfSome o (λ told. AnswerForGood q b (option_map (λ t. t.now) told))
 settle_answer q b none None h = tt
 settle_answer q b none (Some told) h = λ more. (
   option_map (λ t. t.now) told,

@@ -13,13 +13,13 @@ use Rattle.infer_deep.proofs.TextLemmas.{is_html_open}
 use Rattle.memchr.specs.Find.{OccursAt}
 use Rattle.mime_sniff.specs.Growth.{MayScript}
 use Rattle.mime_sniff.specs.Row.{Fits, Pattern}
-use Rattle.mime_sniff.specs.Rule.{Accepts, FitsRule, Rule, TellsFirst}
+use Rattle.mime_sniff.specs.Rule.{Accepts, FitsRule, Rule, FindsFirst}
 use Rattle.mime_sniff.specs.Standard.{documents, markup, scriptable}
 use Rattle.mime_sniff.specs.Table.{exact, pattern, rule, tag_rules, xml_rules}
 use Rattle.mime_sniff.proofs.DecidedLemmas.{no_rule}
-use Rattle.mime_sniff.proofs.FirstLemmas.{tells_later, tells_none, tells_right}
+use Rattle.mime_sniff.proofs.FirstLemmas.{finds_later, finds_none, finds_right}
 use Rattle.mime_sniff.proofs.GrowthLemmas.{skips_grown, stops_grown}
-use Rattle.mime_sniff.proofs.RuleLemmas.{bytes_behind, tells_markup}
+use Rattle.mime_sniff.proofs.RuleLemmas.{bytes_after, finds_markup}
 use Rattle.mime_sniff.proofs.TagLemmas.{html_accepts, markup_is, no_html_comes, no_white}
 
 module _ (P : Rule → Type 0) where
@@ -92,7 +92,7 @@ module _ (b text : List ℕ) (skips : SkipsTo IsSpace b text) (stops : NoneBegin
 
   module _ (no_html : ¬ MayBecome IsHtml text) (no_xml : ¬ AgreesAt text (codes "<?xml") 0) (no_pdf : ¬ AgreesAt b (codes "%PDF-") 0) (more : List ℕ) where
     text_bytes : (i : ℕ) → get_or text i 0 < 256
-    text_bytes = bytes_behind b text skips bytes
+    text_bytes = bytes_after b text skips bytes
 
     some_text : 0 < length text
     some_text = elim (cases_lt 0 (length text)) [
@@ -100,22 +100,22 @@ module _ (b text : List ℕ) (skips : SkipsTo IsSpace b text) (stops : NoneBegin
       | inr none ↦ absurd (no_xml (record { reads = λ k l within. absurd (omega (arith, none, within)) }))
     ]
 
-    xml_never : TellsFirst (FitsRule (text ++ more)) (xml_rules xml) None
+    xml_never : FindsFirst (FitsRule (text ++ more)) (xml_rules xml) None
     unfolding xml_rules
     xml_never =
-        tells_later (FitsRule (text ++ more)) _ [] None (λ f. no_xml (whole_begun text more (codes "<?xml") true text_bytes f)) (tells_none (FitsRule (text ++ more)))
+        finds_later (FitsRule (text ++ more)) _ [] None (λ f. no_xml (whole_begun text more (codes "<?xml") true text_bytes f)) (finds_none (FitsRule (text ++ more)))
 
-    markup_never : TellsFirst (Accepts (b ++ more)) markup None
+    markup_never : FindsFirst (Accepts (b ++ more)) markup None
     markup_never =
         let first : get_or (text ++ more) 0 0 ≡ get_or text 0 0 = get_or_append_left text more 0 0 some_text in
-        tells_markup (b ++ more) (text ++ more) (skips_grown b text more skips) (stops_grown text more some_text stops) (omega (arith, first, text_bytes 0)) markup None
+        finds_markup (b ++ more) (text ++ more) (skips_grown b text more skips) (stops_grown text more some_text stops) (omega (arith, first, text_bytes 0)) markup None
         (markup_is html xml)
-        (tells_right (FitsRule (text ++ more)) (tag_rules html) (xml_rules xml) None (no_html_comes text text_bytes stops html no_html more) xml_never)
+        (finds_right (FitsRule (text ++ more)) (tag_rules html) (xml_rules xml) None (no_html_comes text text_bytes stops html no_html more) xml_never)
 
-    documents_never : TellsFirst (Accepts (b ++ more)) documents None
+    documents_never : FindsFirst (Accepts (b ++ more)) documents None
     unfolding documents
     documents_never =
-        tells_later (Accepts (b ++ more)) _ [] None (λ f. no_pdf (whole_begun b more (codes "%PDF-") false bytes f)) (tells_none (Accepts (b ++ more)))
+        finds_later (Accepts (b ++ more)) _ [] None (λ f. no_pdf (whole_begun b more (codes "%PDF-") false bytes f)) (finds_none (Accepts (b ++ more)))
 
     pub never_scripts : ¬ Any (Accepts (b ++ more)) scriptable
     never_scripts some =

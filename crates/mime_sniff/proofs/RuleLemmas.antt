@@ -6,11 +6,11 @@ use Rattle.std.proofs.lemmas.List.{get_or-append-add}
 use Rattle.std.specs.List.{AllByRecursion, concat, list_all}
 use Rattle.infer_deep.specs.Joined.{NoneBegins, SkipsTo}
 use Rattle.infer_deep.specs.Text.{IsSpace}
-use Rattle.infer_deep.proofs.JoinedLemmas.{Behind-left, IsPrefixFree}
+use Rattle.infer_deep.proofs.JoinedLemmas.{After-left, IsPrefixFree}
 use Rattle.mime_sniff.specs.Table.{led_by, lead_of}
-use Rattle.mime_sniff.specs.Row.{AcceptsFixed, Fits, FitsBehind, Pattern, mask_at}
-use Rattle.mime_sniff.specs.Rule.{Accepts, FitsRule, FitsSignature, IsAccepted, Rule, Signature, TellsFirst, fixed, mp3, mp4, mp4_of_any_box, no_data, webm}
-use Rattle.mime_sniff.proofs.FirstLemmas.{tells_alike, tells_filtered, tells_nothing}
+use Rattle.mime_sniff.specs.Row.{AcceptsFixed, Fits, FitsAfter, Pattern, mask_at}
+use Rattle.mime_sniff.specs.Rule.{Accepts, FitsRule, FitsSignature, IsAccepted, Rule, Signature, FindsFirst, fixed, mp3, mp4, mp4_of_any_box, no_data, webm}
+use Rattle.mime_sniff.proofs.FirstLemmas.{finds_alike, finds_filtered, finds_nothing}
 
 -- what all rules of a list have that pass a test
 pub all_by_test : (test : Rule → Bool) (P : Rule → Type 0) → ((r : Rule) → test r ≡ true → P r) → (rules : List Rule) → list_all test rules ≡ true → AllByRecursion P rules
@@ -39,11 +39,11 @@ abbrev pub is_plain_rule : Rule → Bool
 is_plain_rule r = is_plain r.signature
 
 accepts_plain : (b : List ℕ) (p : Pattern) → not p.ignores_white ≡ true → Fits p b ↔ AcceptsFixed p b
-accepts_plain b p not_white = fits_behind p.ignores_white not_white
+accepts_plain b p not_white = fits_after p.ignores_white not_white
   where
-    fits_behind : (w : Bool) → not w ≡ true → Fits p b ↔ FitsBehind w p b
-    fits_behind true e = cc
-    fits_behind false e = (λ h. h, λ h. h)
+    fits_after : (w : Bool) → not w ≡ true → Fits p b ↔ FitsAfter w p b
+    fits_after true e = cc
+    fits_after false e = (λ h. h, λ h. h)
 
 module _ (b : List ℕ) (byte : get_or b 0 0 < 256) where
   plain_signature : (s : Signature) → is_plain s ≡ true → FitsSignature b s ↔ IsAccepted s b
@@ -76,17 +76,17 @@ module _ (b : List ℕ) (byte : get_or b 0 0 < 256) where
   plain_some no_data is fits = absurd (false≢true is)
 
   -- of plain rules those that the buffer's first byte leads tell the type, and for an empty buffer none does
-  pub tells_led : (rules : List Rule) (told : Option (List ℕ)) → list_all is_plain_rule rules ≡ true
-      → TellsFirst (FitsRule b) (led_by (get_or b 0 0) rules) told → TellsFirst (Accepts b) rules told
-  tells_led rules told plain h =
-      tells_alike (FitsRule b) (Accepts b) rules told
+  pub finds_led : (rules : List Rule) (told : Option (List ℕ)) → list_all is_plain_rule rules ≡ true
+      → FindsFirst (FitsRule b) (led_by (get_or b 0 0) rules) told → FindsFirst (Accepts b) rules told
+  finds_led rules told plain h =
+      finds_alike (FitsRule b) (Accepts b) rules told
       (all_by_test is_plain_rule (λ r. FitsRule b r ↔ Accepts b r) (λ r. plain_signature r.signature) rules plain)
-      (tells_filtered (FitsRule b) (λ r. lead_of r.signature == get_or b 0 0) rules told
+      (finds_filtered (FitsRule b) (λ r. lead_of r.signature == get_or b 0 0) rules told
       (all_by_test is_plain_rule (λ r. FitsRule b r → (lead_of r.signature == get_or b 0 0) ≡ true) (λ r. plain_lead r.signature) rules plain) h)
 
-  pub tells_empty : (rules : List Rule) → list_all is_plain_rule rules ≡ true → length b ≡ 0 → TellsFirst (Accepts b) rules None
-  tells_empty rules plain none =
-      tells_nothing (Accepts b) rules
+  pub finds_empty : (rules : List Rule) → list_all is_plain_rule rules ≡ true → length b ≡ 0 → FindsFirst (Accepts b) rules None
+  finds_empty rules plain none =
+      finds_nothing (Accepts b) rules
       (all_by_test is_plain_rule (λ r. ¬ Accepts b r)
       (λ r is a. let some = plain_some r.signature is ((plain_signature r.signature is).1 a) in omega (arith, some, none)) rules plain)
 
@@ -107,10 +107,10 @@ direct_signature b mp3 is = absurd (false≢true is)
 direct_signature b no_data is = absurd (false≢true is)
 
 -- such rules tell what they tell of a text that fits them
-pub tells_direct : (b : List ℕ) (rules : List Rule) (told : Option (List ℕ)) → list_all is_direct_rule rules ≡ true
-    → TellsFirst (FitsRule b) rules told → TellsFirst (Accepts b) rules told
-tells_direct b rules told direct =
-    tells_alike (FitsRule b) (Accepts b) rules told
+pub finds_direct : (b : List ℕ) (rules : List Rule) (told : Option (List ℕ)) → list_all is_direct_rule rules ≡ true
+    → FindsFirst (FitsRule b) rules told → FindsFirst (Accepts b) rules told
+finds_direct b rules told direct =
+    finds_alike (FitsRule b) (Accepts b) rules told
     (all_by_test is_direct_rule (λ r. FitsRule b r ↔ Accepts b r) (λ r. direct_signature b r.signature) rules direct)
 
 -- a rule of a pattern that begins "<", before which white space is ignored
@@ -127,8 +127,8 @@ one_space v w x y (a, f, p) (b, g, q) e = cc
 module _ (b text : List ℕ) (skips : SkipsTo IsSpace b text) (stops : NoneBegins IsSpace text) (byte : get_or text 0 0 < 256) where
   accepts_white : (p : Pattern) → p.ignores_white ≡ true → Fits p text ↔ AcceptsFixed p b
   accepts_white p white =
-      let behind = Behind-left IsSpace (λ t. NoneBegins IsSpace t × Fits p t) one_space (λ t h. h.0) b text skips stops in
-      subst (λ w. Fits p text ↔ FitsBehind w p b) (sym white) (λ fits. behind.0 (stops, fits), λ a. (behind.1 a).1)
+      let after = After-left IsSpace (λ t. NoneBegins IsSpace t × Fits p t) one_space (λ t h. h.0) b text skips stops in
+      subst (λ w. Fits p text ↔ FitsAfter w p b) (sym white) (λ fits. after.0 (stops, fits), λ a. (after.1 a).1)
 
   markup_signature : (s : Signature) → is_markup_signature s ≡ true → FitsSignature text s ↔ IsAccepted s b
   markup_signature (fixed p) is = accepts_white p (and_parts p.ignores_white (is_led p && (get_or p.bytes 0 0 == 0x3C)) is).0
@@ -152,22 +152,22 @@ module _ (b text : List ℕ) (skips : SkipsTo IsSpace b text) (stops : NoneBegin
   markup_lead mp3 is fits = absurd (false≢true is)
   markup_lead no_data is fits = absurd (false≢true is)
 
-  pub tells_markup : (rules : List Rule) (told : Option (List ℕ)) → list_all is_markup_rule rules ≡ true
-      → TellsFirst (FitsRule text) rules told → TellsFirst (Accepts b) rules told
-  tells_markup rules told is =
-      tells_alike (FitsRule text) (Accepts b) rules told
+  pub finds_markup : (rules : List Rule) (told : Option (List ℕ)) → list_all is_markup_rule rules ≡ true
+      → FindsFirst (FitsRule text) rules told → FindsFirst (Accepts b) rules told
+  finds_markup rules told is =
+      finds_alike (FitsRule text) (Accepts b) rules told
       (all_by_test is_markup_rule (λ r. FitsRule text r ↔ Accepts b r) (λ r. markup_signature r.signature) rules is)
 
-  pub tells_no_markup : (rules : List Rule) → list_all is_markup_rule rules ≡ true
-      → (0 < length text → get_or text 0 0 ≡ 0x3C → ⊥) → TellsFirst (Accepts b) rules None
-  tells_no_markup rules is other =
-      tells_nothing (Accepts b) rules
+  pub finds_no_markup : (rules : List Rule) → list_all is_markup_rule rules ≡ true
+      → (0 < length text → get_or text 0 0 ≡ 0x3C → ⊥) → FindsFirst (Accepts b) rules None
+  finds_no_markup rules is other =
+      finds_nothing (Accepts b) rules
       (all_by_test is_markup_rule (λ r. ¬ Accepts b r)
       (λ r m a. let lead = markup_lead r.signature m ((markup_signature r.signature m).1 a) in other lead.0 lead.1) rules is)
 
--- behind white space too a byte is a byte
-pub bytes_behind : (b text : List ℕ) → SkipsTo IsSpace b text → ((i : ℕ) → get_or b i 0 < 256) → (i : ℕ) → get_or text i 0 < 256
-bytes_behind b text skips bytes i =
+-- after white space too a byte is a byte
+pub bytes_after : (b text : List ℕ) → SkipsTo IsSpace b text → ((i : ℕ) → get_or b i 0 < 256) → (i : ℕ) → get_or text i 0 < 256
+bytes_after b text skips bytes i =
     let front = concat skips.words in
     let byte = bytes (length front + i) in
     let read : get_or b (length front + i) 0 ≡ get_or text i 0 = ap (λ l. get_or l (length front + i) 0) skips.whole ∙ get_or-append-add front text i 0 in

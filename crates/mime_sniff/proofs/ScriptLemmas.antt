@@ -8,7 +8,7 @@ use Rattle.mime_types.specs.Groups.{IsJavaScript, application_scripts, essence, 
 use Rattle.mime_types.specs.Mime.{Kind}
 use Rattle.mime_types.specs.Text.{lower}
 use Rattle.mime_sniff.specs.Computed.{Answers, IsAsked, IsAskedOf, IsUnknown, Supply, asked_of_unknown, otherwise, rules_of}
-use Rattle.mime_sniff.specs.Rule.{Accepts, Rule, TellsFirst}
+use Rattle.mime_sniff.specs.Rule.{Accepts, Rule, FindsFirst}
 use Rattle.mime_sniff.specs.Standard.{archives, documents, marks, media, scriptable, text_or_binary_rules, texts, unscripted}
 use Rattle.mime_sniff.specs.Table.{images, sounds, tag_rules, xml_rules}
 use Rattle.mime_sniff.specs.declared.question.Question.{Question}
@@ -44,7 +44,7 @@ is_other_told None = true
 is_other_told (Some t) = is_other t
 
 other_first : (rules : List Rule) (b : List ℕ) (else_told first : Option (List ℕ)) → list_all is_other_rule rules ≡ true → is_other_told else_told ≡ true
-    → TellsFirst (Accepts b) rules first → is_other_told (option_or first else_told) ≡ true
+    → FindsFirst (Accepts b) rules first → is_other_told (option_or first else_told) ≡ true
 other_first rules b else_told None all safe h = safe
 other_first rules b else_told (Some t) all safe h =
     let (rule, passes, same) = told_passes (Accepts b) is_other_rule rules t all h in ap is_other (sym same) ∙ passes

@@ -117,14 +117,14 @@ module _ (b : List ℕ) (bytes : (i : ℕ) → get_or b i 0 < 256) (p : Pattern)
           ((accepted (nat_le 12 (length b) && (stands 0 s b && (stands 8 t b && true)))).0 a) in
           let long = leb-true 12 (length b) parts.0 in
           let texts = and_parts (stands 0 s b) (stands 8 t b && true) parts.1 in
-          let behind = (and_parts (stands 8 t b) true texts.1).0 in
+          let after = (and_parts (stands 8 t b) true texts.1).0 in
           record {
             long = omega (arith, long, size);
             same = λ i within. elim (cases_lt i 4) [
               | inl less ↦ text_has 0 s first texts.0 i (omega arith) (omega (arith, less, four))
               | inr more ↦ elim (cases_lt i 8) [
                 | inl less ↦ hole i more less
-                | inr far ↦ text_has 8 t last behind i far (omega (arith, within, size, also))
+                | inr far ↦ text_has 8 t last after i far (omega (arith, within, size, also))
               ]
             ];
             ends = λ e. no_tag _ e;

@@ -14,7 +14,7 @@ kept_of old piece few =
     let whole : length old + n ≡ 1445 = omega (arith, few) in
     ap (λ k. take k (old ++ piece)) (sym whole) ∙ take-append-add old piece n
 
--- what is kept is kept again with what comes behind it
+-- what is kept is kept again with what comes after it
 header_again : (a b : List ℕ) → header (header a ++ b) ≡ header (a ++ b)
 header_again a b = cases (cases_lt (length a) 1445)
   where
@@ -24,10 +24,10 @@ header_again a b = cases (cases_lt (length a) 1445)
         take-append-le 1445 (header a) b (omega (arith, long, length-take 1445 a))
         ∙ (take-take 1445 1445 a (omega arith) ∙ sym (take-append-le 1445 a b long))
 
-keeps_behind : (a : List ℕ) (pieces : List (List ℕ)) → laws.kept_of (header a) pieces ≡ header (a ++ concat pieces)
-keeps_behind a [] = ap header (sym (append-nil a))
-keeps_behind a (p ∷ ps) =
-    ap (λ k. laws.kept_of k ps) (header_again a p) ∙ (keeps_behind (a ++ p) ps ∙ ap header (append_assoc a p (concat ps)))
+keeps_after : (a : List ℕ) (pieces : List (List ℕ)) → laws.kept_of (header a) pieces ≡ header (a ++ concat pieces)
+keeps_after a [] = ap header (sym (append-nil a))
+keeps_after a (p ∷ ps) =
+    ap (λ k. laws.kept_of k ps) (header_again a p) ∙ (keeps_after (a ++ p) ps ∙ ap header (append_assoc a p (concat ps)))
 
 pub keeps_header : (pieces : List (List ℕ)) → laws.kept_of [] pieces ≡ header (concat pieces)
-keeps_header pieces = keeps_behind [] pieces
+keeps_header pieces = keeps_after [] pieces

@@ -1,4 +1,4 @@
--- A row that accepts is the first to do so whatever follows: of two rows with other types none may begin to accept behind.
+-- A row that accepts is the first to do so whatever follows: of two rows with other types none may begin to accept after.
 use Rattle.std.proofs.Common.{◌≡◌, ◌∙◌, ◌==◌, ◌&&◌, ◌||◌, ◌++◌, ◌∷◌, [], inl, inr, zero, suc, ℕ, ◌≤◌, Any, Bool, false, true, List, Option, None, Some, ap, arith, bit_and, cond, get_or, length, length-take, nat_le, nat_lt, not, refl, subst, sym}
 use Rattle.std.proofs.lemmas.Bool.{and_parts, eq-eqb, eqb-true, false≢true, leb-true, ltb-true}
 use Rattle.std.proofs.lemmas.List.{get_or_append_left}
@@ -11,10 +11,10 @@ use Rattle.std.specs.Str.{bytes_eq}
 use Rattle.infer_deep.specs.Joined.{NoneBegins}
 use Rattle.infer_deep.specs.Numbers.{be32}
 use Rattle.infer_deep.specs.Text.{IsSpace, IsWhite}
-use Rattle.infer_deep.proofs.JoinedLemmas.{Behind-left, IsPrefixFree}
+use Rattle.infer_deep.proofs.JoinedLemmas.{After-left, IsPrefixFree}
 use Rattle.infer_formats.specs.Text.{IsBinary}
-use Rattle.mime_sniff.specs.Row.{Fits, FitsBehind, HasBits, Pattern, mask_at}
-use Rattle.mime_sniff.specs.Rule.{Accepts, IsAccepted, Rule, Signature, TellsFirst, fixed, mp3, mp4, mp4_of_any_box, no_data, webm}
+use Rattle.mime_sniff.specs.Row.{Fits, FitsAfter, HasBits, Pattern, mask_at}
+use Rattle.mime_sniff.specs.Rule.{Accepts, IsAccepted, Rule, Signature, FindsFirst, fixed, mp3, mp4, mp4_of_any_box, no_data, webm}
 use Rattle.mime_sniff.specs.Computed.{Answers, IsAsked, IsUnknown, Supply, asked_of_unknown, otherwise, rules_of}
 use Rattle.mime_sniff.specs.Laws.{rows_of_unknown, unscripted_rows}
 use Rattle.mime_sniff.specs.Standard.{archives, documents, header, scriptable, text_rule, texts, unscripted}
@@ -23,7 +23,7 @@ use Rattle.mime_sniff.specs.declared.question.Question.{Question}
 use Rattle.mime_sniff.specs.declared.question.Question.TheVariants.{Anything, Unscripted}
 use Rattle.mime_sniff.proofs.DecidedLemmas.{grows, no_rule}
 use Rattle.mime_sniff.proofs.EscalationLemmas.{later}
-use Rattle.mime_sniff.proofs.FirstLemmas.{one_first, tells_cases, tells_here, tells_later, tells_none, tells_right, told_passes}
+use Rattle.mime_sniff.proofs.FirstLemmas.{one_first, finds_cases, finds_here, finds_later, finds_none, finds_right, told_passes}
 use Rattle.mime_sniff.proofs.GrowthLemmas.{accepted_grown, binary_grown, mp3_grown, mp4_grown, webm_grown}
 use Rattle.mime_sniff.proofs.StandardLemmas.{by_binary}
 
@@ -123,7 +123,7 @@ module _ (c : List ℕ) (p q : Pattern) where
   first_begins is text fits (w ∷ ws) ((x, white, one), each) e =
       ap (λ l. begins_markup (bit_and (get_or l 0 0) 0xFF)) (e ∙ ap (λ v. concat (v ∷ ws) ++ text) one) ∙ white_begins x white
 
-  other_out : is_tag p ≡ true → is_other q ≡ true → FitsBehind true p c → HasBits q c → ⊥
+  other_out : is_tag p ≡ true → is_other q ≡ true → FitsAfter true p c → HasBits q c → ⊥
   other_out tag other (text, skips, (stops, fits)) has =
       let one = and_parts (nat_lt 0 (length q.bytes)) (mask_at q.mask 0 == 0xFF && not (begins_markup (get_or q.bytes 0 0))) other in
       let two = and_parts (mask_at q.mask 0 == 0xFF) (not (begins_markup (get_or q.bytes 0 0))) one.1 in
@@ -133,14 +133,14 @@ module _ (c : List ℕ) (p q : Pattern) where
       let same : begins_markup (get_or q.bytes 0 0) ≡ true = ap begins_markup (sym first ∙ ap (λ m. bit_and (get_or c 0 0) m) all) ∙ begins in
       false≢true (sym (ap not same) ∙ two.1)
 
-  both_out : list_any (differ p q) places ≡ true → FitsBehind true p c → FitsBehind true q c → ⊥
+  both_out : list_any (differ p q) places ≡ true → FitsAfter true p c → FitsAfter true q c → ⊥
   both_out d (text, skips, (stops, fits)) also =
-      let there = (Behind-left IsSpace (λ t. NoneBegins IsSpace t × Fits q t) one_space (λ t h. h.0) c text skips stops).1 also in
+      let there = (After-left IsSpace (λ t. NoneBegins IsSpace t × Fits q t) one_space (λ t h. h.0) c text skips stops).1 also in
       any_differs text p q fits.same there.1.same places d
 
 module _ (c : List ℕ) (few : length c ≤ 1445) where
-  white_fits : (s : Signature) → is_white s ≡ true → IsAccepted s c → FitsBehind true (outline s) c
-  white_fits (fixed p) is h = subst (λ w. FitsBehind w p c) is h
+  white_fits : (s : Signature) → is_white s ≡ true → IsAccepted s c → FitsAfter true (outline s) c
+  white_fits (fixed p) is h = subst (λ w. FitsAfter w p c) is h
   white_fits mp4 is h = absurd (false≢true is)
   white_fits mp4_of_any_box is h = absurd (false≢true is)
   white_fits webm is h = absurd (false≢true is)
@@ -157,7 +157,7 @@ module _ (c : List ℕ) (few : length c ≤ 1445) where
   one_bit x mask is all (suc i) within = absurd (omega (arith, within))
 
   direct_bits : (s : Signature) → is_white s ≡ false → IsAccepted s c → HasBits (outline s) c
-  direct_bits (fixed p) is h = (subst (λ w. FitsBehind w p c) is h).same
+  direct_bits (fixed p) is h = (subst (λ w. FitsAfter w p c) is h).same
   direct_bits mp4 is h = λ i within. absurd (omega (arith, within))
   direct_bits mp4_of_any_box is h = one_bit 0 [] (first_of_box h.whole) refl
   direct_bits webm is h = one_bit 0x1A [] (h.0.reads 0 (omega arith)) refl
@@ -190,7 +190,7 @@ is_row mp4 = false
 is_row no_data = false
 is_row other = true
 
--- of two rows the earlier one tells the same, or no buffer has both, or it is too short to begin to accept behind
+-- of two rows the earlier one tells the same, or no buffer has both, or it is too short to begin to accept after
 abbrev stays : Rule → Rule → Bool
 stays x r = bytes_eq x.mime_type r.mime_type || (clash x.signature r.signature || is_short x.signature r.signature)
 
@@ -203,23 +203,23 @@ not_true true is = absurd (false≢true is)
 not_true false is = refl
 
 module _ (P : Rule → Type 0) where
-  accepted_told : (test : Rule → Bool) (xs : List Rule) (t : List ℕ) → list_all test xs ≡ true → TellsFirst P xs (Some t)
+  accepted_told : (test : Rule → Bool) (xs : List Rule) (t : List ℕ) → list_all test xs ≡ true → FindsFirst P xs (Some t)
       → (r : Rule) × (test r ≡ true) × P r × (r.mime_type ≡ t)
   accepted_told test [] t all h = let (rule, passes, is) = told_passes P (λ r. false) [] t refl h in absurd (false≢true passes)
   accepted_told test (x ∷ xs) t all h =
       let parts = and_parts (test x) (list_all test xs) all in
-      elim (tells_cases P x xs (Some t) h) [
+      elim (finds_cases P x xs (Some t) h) [
         | inl (p, is) ↦ let same : x.mime_type ≡ t = cc in (x, parts.0, p, same)
         | inr (not, rest) ↦ accepted_told test xs t parts.1 rest
       ]
 
   -- what is told is told by the front, if one of its rules accepts
-  front_tells : (xs ys : List Rule) (told : Option (List ℕ)) → Any P xs → TellsFirst P (xs ++ ys) told → TellsFirst P xs told
-  front_tells [] ys told (n, y, within, at, p) h = absurd (omega (arith, within))
-  front_tells (x ∷ xs) ys told some h =
-      elim (tells_cases P x (xs ++ ys) told h) [
-        | inl (p, is) ↦ subst (λ o. TellsFirst P (x ∷ xs) o) (sym is) (tells_here P x xs p)
-        | inr (not, rest) ↦ tells_later P x xs told not (front_tells xs ys told (later P x xs not some) rest)
+  front_finds : (xs ys : List Rule) (told : Option (List ℕ)) → Any P xs → FindsFirst P (xs ++ ys) told → FindsFirst P xs told
+  front_finds [] ys told (n, y, within, at, p) h = absurd (omega (arith, within))
+  front_finds (x ∷ xs) ys told some h =
+      elim (finds_cases P x (xs ++ ys) told h) [
+        | inl (p, is) ↦ subst (λ o. FindsFirst P (x ∷ xs) o) (sym is) (finds_here P x xs p)
+        | inr (not, rest) ↦ finds_later P x xs told not (front_finds xs ys told (later P x xs not some) rest)
       ]
 
 module _ (h m : List ℕ) (few : length (h ++ m) ≤ 1445) where
@@ -251,13 +251,13 @@ module _ (h m : List ℕ) (few : length (h ++ m) ≤ 1445) where
       let direct = not_true p.ignores_white one.0 in
       let less = leb-true (length p.bytes) (least r) two.1 in
       let long = long_enough r a in
-      let fits : Fits p (h ++ m) = subst (λ w. FitsBehind w p (h ++ m)) direct g in
+      let fits : Fits p (h ++ m) = subst (λ w. FitsAfter w p (h ++ m)) direct g in
       let back : Fits p h = record {
         long = omega (arith, less, long);
         same = λ i within. ap (λ x. bit_and x (mask_at p.mask i)) (sym (get_or_append_left h m 0 i (omega (arith, less, long, within)))) ∙ fits.same i within;
         ends = λ e. absurd (false≢true (sym (not_true p.ends_tag two.0) ∙ e));
       } in
-      subst (λ w. FitsBehind w p h) (sym direct) back
+      subst (λ w. FitsAfter w p h) (sym direct) back
   short_back mp4 r is a g = absurd (false≢true is)
   short_back mp4_of_any_box r is a g = absurd (false≢true is)
   short_back webm r is a g = absurd (false≢true is)
@@ -273,20 +273,20 @@ module _ (h m : List ℕ) (few : length (h ++ m) ≤ 1445) where
       cases false true e f is = absurd (clash_out (h ++ m) few x.signature r.signature f g (grown r.signature row a))
       cases false false e f is = absurd (not (short_back x.signature r.signature is a g))
 
-  same_told : (xs : List Rule) → pairs xs ≡ true → (t : List ℕ) (told : Option (List ℕ)) → TellsFirst (Accepts h) xs (Some t)
-      → TellsFirst (Accepts (h ++ m)) xs told → told ≡ Some t
+  same_told : (xs : List Rule) → pairs xs ≡ true → (t : List ℕ) (told : Option (List ℕ)) → FindsFirst (Accepts h) xs (Some t)
+      → FindsFirst (Accepts (h ++ m)) xs told → told ≡ Some t
   same_told [] all t told a g = let (rule, passes, is) = told_passes (Accepts h) (λ r. false) [] t refl a in absurd (false≢true passes)
   same_told (x ∷ xs) all t told a g =
       let one = and_parts (is_row x.signature) (list_all (λ r. is_row r.signature && stays x r) xs && pairs xs) all in
       let two = and_parts (list_all (λ r. is_row r.signature && stays x r) xs) (pairs xs) one.1 in
-      elim (tells_cases (Accepts h) x xs (Some t) a) [
+      elim (finds_cases (Accepts h) x xs (Some t) a) [
         | inl (p, is) ↦
-            elim (tells_cases (Accepts (h ++ m)) x xs told g) [
+            elim (finds_cases (Accepts (h ++ m)) x xs told g) [
               | inl (q, e) ↦ e ∙ sym is
               | inr (not, rest) ↦ absurd (not (grown x.signature one.0 p))
             ]
         | inr (not, rest) ↦
-            elim (tells_cases (Accepts (h ++ m)) x xs told g) [
+            elim (finds_cases (Accepts (h ++ m)) x xs told g) [
               | inl (q, e) ↦
                   let (r, test, accepts, same) = accepted_told (Accepts h) (λ r. is_row r.signature && stays x r) xs t two.0 rest in
                   let both = and_parts (is_row r.signature) (stays x r) test in
@@ -296,11 +296,11 @@ module _ (h m : List ℕ) (few : length (h ++ m) ≤ 1445) where
       ]
 
   rows_tell : (rows ys : List Rule) → pairs rows ≡ true → list_all (λ r. is_row r.signature) rows ≡ true → Any (Accepts h) rows
-      → (first told : Option (List ℕ)) → TellsFirst (Accepts h) (rows ++ ys) first → TellsFirst (Accepts (h ++ m)) (rows ++ ys) told → told ≡ first
-  rows_tell rows ys good all some None told a g = absurd (no_rule (Accepts h) rows (front_tells (Accepts h) rows ys None some a) some)
+      → (first told : Option (List ℕ)) → FindsFirst (Accepts h) (rows ++ ys) first → FindsFirst (Accepts (h ++ m)) (rows ++ ys) told → told ≡ first
+  rows_tell rows ys good all some None told a g = absurd (no_rule (Accepts h) rows (front_finds (Accepts h) rows ys None some a) some)
   rows_tell rows ys good all some (Some t) told a g =
-      same_told rows good t told (front_tells (Accepts h) rows ys (Some t) some a)
-      (front_tells (Accepts (h ++ m)) rows ys told (any_rows rows all some) g)
+      same_told rows good t told (front_finds (Accepts h) rows ys (Some t) some a)
+      (front_finds (Accepts (h ++ m)) rows ys told (any_rows rows all some) g)
 
 unscripted_pairs : (pairs unscripted_rows ≡ true) × (list_all (λ r. is_row r.signature) unscripted_rows ≡ true) × (unscripted ≡ unscripted_rows ++ text_rule ∷ [])
 unfolding texts images sounds archives
@@ -311,18 +311,18 @@ all_pairs : (pairs (scriptable ++ unscripted_rows) ≡ true) × (list_all (λ r.
 unfolding tag_rules xml_rules documents texts images sounds archives
 all_pairs = (refl, refl, refl)
 
-none_tells : (P : Rule → Type 0) (xs : List Rule) → (¬ Any P xs) → TellsFirst P xs None
-none_tells P [] none = tells_none P
-none_tells P (x ∷ xs) none =
-    tells_later P x xs None (λ p. none (0, x, omega arith, refl, p))
-    (none_tells P xs (λ (n, y, within, at, p). none (suc n, y, omega (arith, within), at, p)))
+none_finds : (P : Rule → Type 0) (xs : List Rule) → (¬ Any P xs) → FindsFirst P xs None
+none_finds P [] none = finds_none P
+none_finds P (x ∷ xs) none =
+    finds_later P x xs None (λ p. none (0, x, omega arith, refl, p))
+    (none_finds P xs (λ (n, y, within, at, p). none (suc n, y, omega (arith, within), at, p)))
 
 -- where no row accepts binary data, none tells it
-tells_nothing : (c : List ℕ) (rows : List Rule) (first : Option (List ℕ)) → IsBinary c → (¬ Any (Accepts c) rows)
-    → TellsFirst (Accepts c) (rows ++ text_rule ∷ []) first → first ≡ None
-tells_nothing c rows first binary none a =
+finds_nothing : (c : List ℕ) (rows : List Rule) (first : Option (List ℕ)) → IsBinary c → (¬ Any (Accepts c) rows)
+    → FindsFirst (Accepts c) (rows ++ text_rule ∷ []) first → first ≡ None
+finds_nothing c rows first binary none a =
     one_first (Accepts c) (rows ++ text_rule ∷ []) first None a
-    (tells_right (Accepts c) rows (text_rule ∷ []) None (none_tells (Accepts c) rows none) (by_binary c binary))
+    (finds_right (Accepts c) rows (text_rule ∷ []) None (none_finds (Accepts c) rows none) (by_binary c binary))
 
 module _ (s : Supply) (b more : List ℕ) (told after : Option (List ℕ)) where
   of_rows : (q : Question) (rows : List Rule) → pairs rows ≡ true → list_all (λ r. is_row r.signature) rows ≡ true → rules_of q ≡ rows ++ text_rule ∷ []
@@ -330,8 +330,8 @@ module _ (s : Supply) (b more : List ℕ) (told after : Option (List ℕ)) where
   of_rows q rows good all is some (first, a, e) (second, g, f) =
       let (m, grows_by) = grows b more in
       let few : length (header b ++ m) ≤ 1445 = omega (arith, ap length grows_by, length-take 1445 (b ++ more)) in
-      let now = subst (λ l. TellsFirst (Accepts (header b)) l first) is a in
-      let next = subst (λ l. TellsFirst (Accepts (header b ++ m)) l second) is (subst (λ x. TellsFirst (Accepts x) (rules_of q) second) grows_by g) in
+      let now = subst (λ l. FindsFirst (Accepts (header b)) l first) is a in
+      let next = subst (λ l. FindsFirst (Accepts (header b ++ m)) l second) is (subst (λ x. FindsFirst (Accepts x) (rules_of q) second) grows_by g) in
       f ∙ (ap (λ o. option_or o (otherwise q)) (rows_tell (header b) m few rows (text_rule ∷ []) good all some first second now next) ∙ sym e)
 
   by_flag : (no_sniff : Bool) (q r : Question) → q ≡ asked_of_unknown no_sniff → r ≡ asked_of_unknown no_sniff → Any (Accepts (header b)) (rows_of_unknown no_sniff)
@@ -356,8 +356,8 @@ module _ (s : Supply) (b more : List ℕ) (told after : Option (List ℕ)) where
       let few : length (header b ++ m) ≤ 1445 = omega (arith, ap length grows_by, length-take 1445 (b ++ more)) in
       let none_yet : ¬ Any (Accepts (header b)) rows = λ some. none (subst (λ c. Any (Accepts c) rows) (sym grows_by) (any_rows (header b) m few rows all some)) in
       let still : IsBinary (header (b ++ more)) = subst IsBinary (sym grows_by) (binary_grown (header b) m binary) in
-      let now = tells_nothing (header b) rows first binary none_yet (subst (λ l. TellsFirst (Accepts (header b)) l first) is a) in
-      let next = tells_nothing (header (b ++ more)) rows second still none (subst (λ l. TellsFirst (Accepts (header (b ++ more))) l second) is g) in
+      let now = finds_nothing (header b) rows first binary none_yet (subst (λ l. FindsFirst (Accepts (header b)) l first) is a) in
+      let next = finds_nothing (header (b ++ more)) rows second still none (subst (λ l. FindsFirst (Accepts (header (b ++ more))) l second) is g) in
       f ∙ (ap (λ o. option_or o (otherwise q)) (next ∙ sym now) ∙ sym e)
 
   octets_by_flag : (no_sniff : Bool) (q r : Question) → q ≡ asked_of_unknown no_sniff → r ≡ asked_of_unknown no_sniff → IsBinary (header b)

@@ -16,13 +16,13 @@ use Rattle.infer_deep.specs.Signatures.{MayBecome}
 use Rattle.infer_deep.specs.Text.{BeginsInAnyCase, BeginsWithTag, IsHtml, IsSpace, tags}
 use Rattle.infer_deep.proofs.JoinedLemmas.{SkipsTo-none}
 use Rattle.infer_deep.proofs.TextLemmas.{HasTag, HasTag-open, IsHtml-left, begins_in_any_case, front_in_any_case, is_html_open, tag_end, tag_from_text, text_of_tag}
-use Rattle.mime_sniff.specs.Growth.{FitForGood, told_or_else}
-use Rattle.mime_sniff.specs.Row.{EndsTag, Fits, FitsBehind, HasBits, Pattern, mask_at}
-use Rattle.mime_sniff.specs.Rule.{Accepts, FitsRule, FitsSignature, IsAccepted, Rule, Signature, TellsFirst, fixed, mp3, mp4, mp4_of_any_box, no_data, webm}
+use Rattle.mime_sniff.specs.Growth.{FitForGood, found_or_else}
+use Rattle.mime_sniff.specs.Row.{EndsTag, Fits, FitsAfter, HasBits, Pattern, mask_at}
+use Rattle.mime_sniff.specs.Rule.{Accepts, FitsRule, FitsSignature, IsAccepted, Rule, Signature, FindsFirst, fixed, mp3, mp4, mp4_of_any_box, no_data, webm}
 use Rattle.mime_sniff.specs.Table.{markup_rules, tag_rules, xml_rules}
-use Rattle.mime_sniff.proofs.FirstLemmas.{tells_here, tells_later, tells_left, tells_none, tells_right}
+use Rattle.mime_sniff.proofs.FirstLemmas.{finds_here, finds_later, finds_left, finds_none, finds_right}
 use Rattle.mime_sniff.proofs.GrowthLemmas.{fits_grown}
-use Rattle.mime_sniff.proofs.RuleLemmas.{bytes_behind, is_markup_rule, is_markup_signature}
+use Rattle.mime_sniff.proofs.RuleLemmas.{bytes_after, is_markup_rule, is_markup_signature}
 
 -- a test that all numbers below n pass
 abbrev pub below : ℕ → (ℕ → Bool) → Bool
@@ -202,30 +202,30 @@ module _ (t html : List ℕ) where
   abbrev is_of_type : Rule → Bool
   is_of_type r = bytes_eq r.mime_type html
 
-  some_cases : (r : Rule) (rules : List Rule) → is_of_type r ≡ true → (list_any (is_fitting t) rules ≡ true → TellsFirst P rules (Some html)) → (b : Bool)
-      → is_fitting t r ≡ b → list_any (is_fitting t) (r ∷ rules) ≡ true → TellsFirst P (r ∷ rules) (Some html)
+  some_cases : (r : Rule) (rules : List Rule) → is_of_type r ≡ true → (list_any (is_fitting t) rules ≡ true → FindsFirst P rules (Some html)) → (b : Bool)
+      → is_fitting t r ≡ b → list_any (is_fitting t) (r ∷ rules) ≡ true → FindsFirst P (r ∷ rules) (Some html)
   some_cases r rules kind more true e any =
-      subst (λ m. TellsFirst P (r ∷ rules) (Some m)) ((bytes_eq-Decides r.mime_type html).0 kind) (tells_here P r rules (test_rule t r.signature e))
+      subst (λ m. FindsFirst P (r ∷ rules) (Some m)) ((bytes_eq-Decides r.mime_type html).0 kind) (finds_here P r rules (test_rule t r.signature e))
   some_cases r rules kind more false e any =
-      tells_later P r rules (Some html) (λ f. false≢true (sym e ∙ rule_tested t r.signature f))
+      finds_later P r rules (Some html) (λ f. false≢true (sym e ∙ rule_tested t r.signature f))
       (more (ap (λ b. b || list_any (is_fitting t) rules) (sym e) ∙ any))
 
-  pub tells_some : (rules : List Rule) → list_all is_of_type rules ≡ true → list_any (is_fitting t) rules ≡ true → TellsFirst P rules (Some html)
-  tells_some [] all any = absurd (false≢true any)
-  tells_some (r ∷ rules) all any =
+  pub finds_some : (rules : List Rule) → list_all is_of_type rules ≡ true → list_any (is_fitting t) rules ≡ true → FindsFirst P rules (Some html)
+  finds_some [] all any = absurd (false≢true any)
+  finds_some (r ∷ rules) all any =
       let parts = and_parts (is_of_type r) (list_all is_of_type rules) all in
-      some_cases r rules parts.0 (tells_some rules parts.1) (is_fitting t r) refl any
+      some_cases r rules parts.0 (finds_some rules parts.1) (is_fitting t r) refl any
 
-  no_cases : (r : Rule) (rules : List Rule) → (list_any (is_fitting t) rules ≡ false → TellsFirst P rules None) → (b : Bool) → is_fitting t r ≡ b
-      → list_any (is_fitting t) (r ∷ rules) ≡ false → TellsFirst P (r ∷ rules) None
+  no_cases : (r : Rule) (rules : List Rule) → (list_any (is_fitting t) rules ≡ false → FindsFirst P rules None) → (b : Bool) → is_fitting t r ≡ b
+      → list_any (is_fitting t) (r ∷ rules) ≡ false → FindsFirst P (r ∷ rules) None
   no_cases r rules more true e any = absurd (false≢true (sym any ∙ ap (λ b. b || list_any (is_fitting t) rules) e))
   no_cases r rules more false e any =
-      tells_later P r rules None (λ f. false≢true (sym e ∙ rule_tested t r.signature f))
+      finds_later P r rules None (λ f. false≢true (sym e ∙ rule_tested t r.signature f))
       (more (ap (λ b. b || list_any (is_fitting t) rules) (sym e) ∙ any))
 
-  pub tells_no : (rules : List Rule) → list_any (is_fitting t) rules ≡ false → TellsFirst P rules None
-  tells_no [] any = tells_none P
-  tells_no (r ∷ rules) any = no_cases r rules (tells_no rules) (is_fitting t r) refl any
+  pub finds_no : (rules : List Rule) → list_any (is_fitting t) rules ≡ false → FindsFirst P rules None
+  finds_no [] any = finds_none P
+  finds_no (r ∷ rules) any = no_cases r rules (finds_no rules) (is_fitting t r) refl any
 
 -- each tag has its rule
 abbrev rule_of_tag : List ℕ → Signature → Bool
@@ -358,11 +358,11 @@ module _ (text : List ℕ) (bytes : (i : ℕ) → get_or text i 0 < 256) (stops 
   fitting : IsHtml text → list_any (is_fitting text) (tag_rules html) ≡ true
   fitting is = rule_of_any text bytes tags (tag_rules html) (tags_have_rules html) (has_tag.1 is)
 
-  pub tells_html : IsHtml text → TellsFirst (FitsRule text) (tag_rules html) (Some html)
-  tells_html is = tells_some text html (tag_rules html) (all_of_type html) (fitting is)
+  pub finds_html : IsHtml text → FindsFirst (FitsRule text) (tag_rules html) (Some html)
+  finds_html is = finds_some text html (tag_rules html) (all_of_type html) (fitting is)
 
-  pub tells_no_html : (¬ IsHtml text) → TellsFirst (FitsRule text) (tag_rules html) None
-  tells_no_html not = tells_no text html (tag_rules html) (none (list_any (is_fitting text) (tag_rules html)) refl)
+  pub finds_no_html : (¬ IsHtml text) → FindsFirst (FitsRule text) (tag_rules html) None
+  finds_no_html not = finds_no text html (tag_rules html) (none (list_any (is_fitting text) (tag_rules html)) refl)
     where
       none : (b : Bool) → list_any (is_fitting text) (tag_rules html) ≡ b → b ≡ false
       none true e = absurd (not (has_tag.0 (tag_of_rule text bytes tags (tag_rules html) (tags_have_rules html) e)))
@@ -371,7 +371,7 @@ module _ (text : List ℕ) (bytes : (i : ℕ) → get_or text i 0 < 256) (stops 
   -- whatever follows
   pub html_stays : IsHtml text → FitForGood text (tag_rules html) (Some html)
   html_stays is = λ more.
-      tells_some (text ++ more) html (tag_rules html) (all_of_type html)
+      finds_some (text ++ more) html (tag_rules html) (all_of_type html)
       (more_fit (is_fitting text) (is_fitting (text ++ more)) (λ r. true)
       (λ r e fits. rule_tested (text ++ more) r.signature (signature_grown text more r.signature (test_rule text r.signature fits)))
       (tag_rules html) (all_true (tag_rules html)) (fitting is))
@@ -404,8 +404,8 @@ module _ (text : List ℕ) (bytes : (i : ℕ) → get_or text i 0 < 256) (stops 
         is_byte : (x : ℕ) → byte x < 256
         is_byte x = omega arith
 
-    pub no_html_comes : TellsFirst (FitsRule u) (tag_rules html) None
-    no_html_comes = tells_no u html (tag_rules html) (none (list_any (is_fitting u) (tag_rules html)) refl)
+    pub no_html_comes : FindsFirst (FitsRule u) (tag_rules html) None
+    no_html_comes = finds_no u html (tag_rules html) (none (list_any (is_fitting u) (tag_rules html)) refl)
       where
         none : (b : Bool) → list_any (is_fitting u) (tag_rules html) ≡ b → b ≡ false
         none true e =
@@ -419,39 +419,39 @@ pub markup_is : (html xml : List ℕ) → list_all is_markup_rule (markup_rules 
 unfolding tag_rules xml_rules
 markup_is html xml = refl
 
--- what some rules and those behind them tell for good
-pub fit_both : (t : List ℕ) (xs ys : List Rule) (first behind both : Option (Option (Bor (List ℕ)))) → both ≡ told_or_else first behind
-    → IfSome first (λ told. FitForGood t xs (option_map (λ s. s.now) told)) → IfSome behind (λ told. FitForGood t ys (option_map (λ s. s.now) told))
+-- what some rules and those after them tell for good
+pub fit_both : (t : List ℕ) (xs ys : List Rule) (first after both : Option (Option (Bor (List ℕ)))) → both ≡ found_or_else first after
+    → IfSome first (λ told. FitForGood t xs (option_map (λ s. s.now) told)) → IfSome after (λ told. FitForGood t ys (option_map (λ s. s.now) told))
     → IfSome both (λ told. FitForGood t (xs ++ ys) (option_map (λ s. s.now) told))
-fit_both t xs ys first behind both is h g =
-    subst (λ o. IfSome o (λ told. FitForGood t (xs ++ ys) (option_map (λ s. s.now) told))) (sym is) (known first behind h g)
+fit_both t xs ys first after both is h g =
+    subst (λ o. IfSome o (λ told. FitForGood t (xs ++ ys) (option_map (λ s. s.now) told))) (sym is) (known first after h g)
   where
     right : (o : Option (Option (Bor (List ℕ)))) → FitForGood t xs None → IfSome o (λ told. FitForGood t ys (option_map (λ s. s.now) told))
         → IfSome o (λ told. FitForGood t (xs ++ ys) (option_map (λ s. s.now) told))
     right None h g = tt
-    right (Some told) h g = λ more. tells_right (FitsRule (t ++ more)) xs ys (option_map (λ s. s.now) told) (h more) (g more)
+    right (Some told) h g = λ more. finds_right (FitsRule (t ++ more)) xs ys (option_map (λ s. s.now) told) (h more) (g more)
 
-    known : (first behind : Option (Option (Bor (List ℕ)))) → IfSome first (λ told. FitForGood t xs (option_map (λ s. s.now) told))
-        → IfSome behind (λ told. FitForGood t ys (option_map (λ s. s.now) told))
-        → IfSome (told_or_else first behind) (λ told. FitForGood t (xs ++ ys) (option_map (λ s. s.now) told))
-    known None behind h g = tt
-    known (Some None) behind h g = right behind h g
-    known (Some (Some s)) behind h g = λ more. tells_left (FitsRule (t ++ more)) xs ys s.now (h more)
+    known : (first after : Option (Option (Bor (List ℕ)))) → IfSome first (λ told. FitForGood t xs (option_map (λ s. s.now) told))
+        → IfSome after (λ told. FitForGood t ys (option_map (λ s. s.now) told))
+        → IfSome (found_or_else first after) (λ told. FitForGood t (xs ++ ys) (option_map (λ s. s.now) told))
+    known None after h g = tt
+    known (Some None) after h g = right after h g
+    known (Some (Some s)) after h g = λ more. finds_left (FitsRule (t ++ more)) xs ys s.now (h more)
 
 tags_are_markup : (html : List ℕ) → list_all is_markup_rule (tag_rules html) ≡ true
 unfolding tag_rules
 tags_are_markup html = refl
 
--- a text behind white space that fits the signature, and nothing but that is accepted
+-- a text after white space that fits the signature, and nothing but that is accepted
 module _ (b : List ℕ) where
-  abbrev FitsBehindWhite : Signature → Type 0
-  FitsBehindWhite s = (text : List ℕ) × SkipsTo IsSpace b text × NoneBegins IsSpace text × FitsSignature text s
+  abbrev FitsAfterWhite : Signature → Type 0
+  FitsAfterWhite s = (text : List ℕ) × SkipsTo IsSpace b text × NoneBegins IsSpace text × FitsSignature text s
 
-  white_pattern : (w : Bool) (p : Pattern) → w ≡ true → FitsBehind w p b ↔ FitsBehindWhite (fixed p)
+  white_pattern : (w : Bool) (p : Pattern) → w ≡ true → FitsAfter w p b ↔ FitsAfterWhite (fixed p)
   white_pattern true p e = (λ (text, skips, (stops, f)). (text, skips, stops, f), λ (text, skips, stops, f). (text, skips, (stops, f)))
   white_pattern false p e = absurd (false≢true e)
 
-  markup_fits : (s : Signature) → is_markup_signature s ≡ true → IsAccepted s b ↔ FitsBehindWhite s
+  markup_fits : (s : Signature) → is_markup_signature s ≡ true → IsAccepted s b ↔ FitsAfterWhite s
   markup_fits (fixed p) is = white_pattern p.ignores_white p (and_parts p.ignores_white _ is).0
   markup_fits mp4 is = absurd (false≢true is)
   markup_fits mp4_of_any_box is = absurd (false≢true is)
@@ -474,11 +474,11 @@ module _ (b : List ℕ) (bytes : (i : ℕ) → get_or b i 0 < 256) (html : List 
         let (text, skips, stops, f) = (markup_fits b r.signature (markup_at k r within at)).0 accepted in (
           text,
           skips,
-          tag_of_rule text (bytes_behind b text skips bytes) tags (tag_rules html) (tags_have_rules html)
+          tag_of_rule text (bytes_after b text skips bytes) tags (tag_rules html) (tags_have_rules html)
               (list_any-from_Any (is_fitting text) (tag_rules html) (k, r, within, at, rule_tested text r.signature f)),
         ),
     λ (text, skips, has).
         let (k, r, within, at, fits) = Any-from_list_any (is_fitting text) (tag_rules html)
-        (rule_of_any text (bytes_behind b text skips bytes) tags (tag_rules html) (tags_have_rules html) has) in
+        (rule_of_any text (bytes_after b text skips bytes) tags (tag_rules html) (tags_have_rules html) has) in
         (k, r, within, at, (markup_fits b r.signature (markup_at k r within at)).1 (text, skips, no_white text (HasTag-open text has), test_rule text r.signature fits)),
   )

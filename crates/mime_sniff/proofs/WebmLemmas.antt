@@ -10,7 +10,7 @@ module _ (b : List ℕ) (place at : ℕ) (zeros_before : (k : ℕ) → place ≤
   first_is : (p : ℕ) → OccursAt b (codes "webm") p → get_or b p 0 ≡ 0x77
   first_is p o = OccursAt-first b (codes "webm") p (omega arith) o
 
-  -- behind the zeros up to a place the name stands there or nowhere
+  -- after the zeros up to a place the name stands there or nowhere
   pub named_at : place ≤ at → (get_or b at 0 ≡ 0 → ⊥) → (OccursAt b (codes "webm") at × (at + 4 < length b)) ↔ NamesWebm b place
   named_at low other = (
     λ (o, more). (

@@ -4,7 +4,7 @@ use Rattle.std.specs.Option.{option_or}
 use Rattle.mime_types.specs.Groups.{Is, IsAudioOrVideo, IsHtml, IsImage, IsScriptable, IsXml, essence}
 use Rattle.mime_types.specs.Mime.{Kind}
 use Rattle.mime_types.specs.Seen.{kind_of}
-use Rattle.mime_sniff.specs.Rule.{Accepts, Rule, TellsFirst}
+use Rattle.mime_sniff.specs.Rule.{Accepts, Rule, FindsFirst}
 use Rattle.mime_sniff.specs.Standard.{fonts, header, media, octets, scriptable, text_or_binary_rules, unscripted}
 use Rattle.mime_sniff.specs.Table.{images}
 use Rattle.mime_sniff.specs.declared.computed.Computed.{Computed}
@@ -90,7 +90,7 @@ otherwise Manifest = Some (codes "text/cache-manifest")
 -- the answer: the type of the first rule that accepts, or what is told otherwise. None is the supplied type, if there is
 -- one
 abbrev pub Answers : Question → List ℕ → Option (List ℕ) → Type 0
-Answers q b told = (first : Option (List ℕ)) × TellsFirst (Accepts b) (rules_of q) first × (told ≡ option_or first (otherwise q))
+Answers q b told = (first : Option (List ℕ)) × FindsFirst (Accepts b) (rules_of q) first × (told ≡ option_or first (otherwise q))
 
 abbrev pub told_by : Computed → Option (List ℕ)
 told_by Same = None
@@ -130,8 +130,8 @@ IsScriptableText t = (k : Kind) × (essence k ≡ t) × IsScriptable k
 abbrev pub IsSuppliedScriptable : Supply → Type 0
 IsSuppliedScriptable s = MatchOption s.kind ⊥ IsScriptable
 
-abbrev pub TellsScriptable : Supply → Option (List ℕ) → Type 0
-TellsScriptable s told = MatchOption told (IsSuppliedScriptable s) IsScriptableText
+abbrev pub GivesScriptable : Supply → Option (List ℕ) → Type 0
+GivesScriptable s told = MatchOption told (IsSuppliedScriptable s) IsScriptableText
 
 -- headers that old servers send of every file that they know no type of
 abbrev pub apache_bugs : List (List ℕ)

@@ -1,7 +1,7 @@
 -- What Go's `http.DetectContentType` answers: the standard's tables but for MP3 without a tag, with fonts and
 -- WebAssembly, WebM by four bytes, and RAR as its files are.
 use Rattle.std.specs.Prelude.{◌≡◌, ℕ, List, [], ◌∷◌, ◌++◌, Option, codes, take, unwrap_or}
-use Rattle.mime_sniff.specs.Rule.{Accepts, Rule, TellsFirst, mp4, no_data}
+use Rattle.mime_sniff.specs.Rule.{Accepts, Rule, FindsFirst, mp4, no_data}
 use Rattle.mime_sniff.specs.Table.{any, exact, images, markup_rules, masked, rule, same, sounds}
 
 -- markup, with its encoding
@@ -62,5 +62,5 @@ header b = take 512 b
 -- t is the type of the first rule that accepts b's header, and that of unknown bytes if none does
 abbrev pub IsContentType : List ℕ → List ℕ → Type 0
 IsContentType b t =
-    (told : Option (List ℕ)) × TellsFirst (Accepts (header b)) rules told
+    (told : Option (List ℕ)) × FindsFirst (Accepts (header b)) rules told
     × (t ≡ unwrap_or told (codes "application/octet-stream"))

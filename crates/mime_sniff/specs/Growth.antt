@@ -2,25 +2,25 @@
 use Rattle.std.specs.Prelude.{◌≡◌, Any, ℕ, ◌≤◌, List, ◌++◌, Option, None, Some, bit_and, length, slice_index}
 use Rattle.infer_deep.specs.Signatures.{MayBecome}
 use Rattle.mime_sniff.specs.Computed.{Answers, IsComputed, Supply}
-use Rattle.mime_sniff.specs.Rule.{Accepts, FitsRule, Rule, TellsFirst}
+use Rattle.mime_sniff.specs.Rule.{Accepts, FitsRule, Rule, FindsFirst}
 use Rattle.mime_sniff.specs.Standard.{header, scriptable}
 use Rattle.mime_sniff.specs.declared.question.Question.{Question}
 
--- whatever follows b, the rules tell this; and so if b is asked as it is, behind what is ignored
-abbrev pub TellForGood : List ℕ → List Rule → Option (List ℕ) → Type 0
-TellForGood b rules told = (more : List ℕ) → TellsFirst (Accepts (b ++ more)) rules told
+-- whatever follows b, the rules tell this; and so if b is asked as it is, after what is ignored
+abbrev pub FindForGood : List ℕ → List Rule → Option (List ℕ) → Type 0
+FindForGood b rules told = (more : List ℕ) → FindsFirst (Accepts (b ++ more)) rules told
 
 abbrev pub FitForGood : List ℕ → List Rule → Option (List ℕ) → Type 0
-FitForGood text rules told = (more : List ℕ) → TellsFirst (FitsRule (text ++ more)) rules told
+FitForGood text rules told = (more : List ℕ) → FindsFirst (FitsRule (text ++ more)) rules told
 
 abbrev pub AnswerForGood : Question → List ℕ → Option (List ℕ) → Type 0
 AnswerForGood q b told = (more : List ℕ) → Answers q (b ++ more) told
 
--- what is known of some rules, or of those behind them if the first ones tell nothing
-abbrev pub told_or_else : {T : Type 0} → Option (Option T) → Option (Option T) → Option (Option T)
-told_or_else None behind = None
-told_or_else (Some None) behind = behind
-told_or_else (Some (Some t)) behind = Some (Some t)
+-- what is known of some rules, or of those after them if the first ones tell nothing
+abbrev pub found_or_else : {T : Type 0} → Option (Option T) → Option (Option T) → Option (Option T)
+found_or_else None after = None
+found_or_else (Some None) after = after
+found_or_else (Some (Some t)) after = Some (Some t)
 
 -- whatever follows b, it has not the property
 abbrev pub NeverHolds : (List ℕ → Type 0) → List ℕ → Type 0

@@ -4,7 +4,7 @@ use Rattle.std.specs.List.{concat, filter}
 use Rattle.std.specs.Str.{bytes_eq}
 use Rattle.mime_types.specs.Groups.{IsJavaScript, essence}
 use Rattle.mime_types.specs.Mime.{Kind}
-use Rattle.mime_sniff.specs.Computed.{IsAskedOf, IsComputed, IsSuppliedScriptable, IsUnknown, Supply, TellsScriptable, otherwise, rules_of}
+use Rattle.mime_sniff.specs.Computed.{IsAskedOf, IsComputed, IsSuppliedScriptable, IsUnknown, Supply, GivesScriptable, otherwise, rules_of}
 use Rattle.mime_sniff.specs.Go.{IsContentType}
 use Rattle.mime_sniff.specs.Go as go
 use Rattle.mime_sniff.specs.Growth.{IsDecided}
@@ -44,7 +44,7 @@ kept_of kept (piece ∷ pieces) = kept_of (header (kept ++ piece)) pieces
 abbrev pub KeepsHeader : Type 0
 KeepsHeader = (pieces : List (List ℕ)) → kept_of [] pieces ≡ header (concat pieces)
 
--- behind a whole header no bytes change what is computed
+-- after a whole header no bytes change what is computed
 abbrev pub DecidesWhenFull : Type 0
 DecidesWhenFull = (s : Supply) (b : List ℕ) → 1445 ≤ length b → IsDecided s b
 
@@ -77,16 +77,16 @@ OctetsStay =
 
 -- a computed type may run scripts only if the supplied one may, or so
 abbrev pub Escalates : Type 0
-Escalates = (s : Supply) (b : List ℕ) (told : Option (List ℕ)) → IsComputed s b told → TellsScriptable s told → IsSuppliedScriptable s ⊎ MayEscalate s b
+Escalates = (s : Supply) (b : List ℕ) (told : Option (List ℕ)) → IsComputed s b told → GivesScriptable s told → IsSuppliedScriptable s ⊎ MayEscalate s b
 
 -- and where it may so, it does
 abbrev pub EscalatesSo : Type 0
-EscalatesSo = (s : Supply) (b : List ℕ) (told : Option (List ℕ)) → IsComputed s b told → MayEscalate s b → TellsScriptable s told
+EscalatesSo = (s : Supply) (b : List ℕ) (told : Option (List ℕ)) → IsComputed s b told → MayEscalate s b → GivesScriptable s told
 
 -- and whatever follows then, it goes on to
 abbrev pub EscalatesForGood : Type 0
 EscalatesForGood =
-    (s : Supply) (b more : List ℕ) (told : Option (List ℕ)) → MayEscalate s b → IsComputed s (b ++ more) told → TellsScriptable s told
+    (s : Supply) (b more : List ℕ) (told : Option (List ℕ)) → MayEscalate s b → IsComputed s (b ++ more) told → GivesScriptable s told
 
 -- a supplied type that tells something stays, or becomes what one of the rules tells that are asked of it: an image another
 -- image, audio or video another of these, and a text of an old server a text or binary data
@@ -101,8 +101,8 @@ StaysIfForbidden =
     (s : Supply) (k : Kind) (b : List ℕ) (told : Option (List ℕ)) → s.kind ≡ Some k → (¬ IsUnknown s.kind) → IsTrue s.no_sniff → IsComputed s b told → told ≡ None
 
 -- a type that is told in place of the supplied one is no JavaScript
-abbrev pub TellsNoScript : Type 0
-TellsNoScript = (s : Supply) (b t : List ℕ) (k : Kind) → IsComputed s b (Some t) → essence k ≡ t → ¬ IsJavaScript k
+abbrev pub GivesNoScript : Type 0
+GivesNoScript = (s : Supply) (b t : List ℕ) (k : Kind) → IsComputed s b (Some t) → essence k ≡ t → ¬ IsJavaScript k
 
 -- the rules of a type
 abbrev pub of_type : List ℕ → List Rule → List Rule

@@ -47,7 +47,7 @@ padding third = if bit_and third 0x02 == 0x02 then 1 else 0
 abbrev pub frame_length : ℕ → ℕ → ℕ
 frame_length second third = bit_rate second third * scale second / sample_rate second third + padding third
 
--- the frame that begins first is no shorter than its header, and the next frame begins behind it
+-- the frame that begins first is no shorter than its header, and the next frame begins after it
 pub record IsMp3 (b : List ℕ) : Type 0 where
   pub first : IsHeader b 0
   pub long : 4 ≤ frame_length (slice_index b 1) (slice_index b 2)

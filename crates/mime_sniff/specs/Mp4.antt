@@ -7,8 +7,8 @@ use Rattle.infer_deep.specs.Numbers.{be32}
 abbrev pub box_length : List ℕ → ℕ
 box_length b = be32 b 0
 
--- word k of the box, of four bytes, is a brand: the major brand stands behind the box's length and name, and the others
--- behind its version
+-- word k of the box, of four bytes, is a brand: the major brand stands after the box's length and name, and the others
+-- after its version
 abbrev pub IsBrand : ℕ → Type 0
 IsBrand k = (k ≡ 2) ⊎ (4 ≤ k)
 

@@ -1,6 +1,6 @@
 -- A row of a table of the standard: what it asks of a buffer.
 use Rattle.std.specs.Prelude.{◌≡◌, ℕ, ◌<◌, ◌≤◌, ◌⊎◌, Bool, true, false, List, IsTrue, bit_and, length, slice_index, slice_index_or}
-use Rattle.infer_deep.specs.Joined.{Behind, NoneBegins}
+use Rattle.infer_deep.specs.Joined.{After, NoneBegins}
 use Rattle.infer_deep.specs.Text.{IsSpace}
 
 -- a pattern, its mask, whether white space in front of it is ignored, and whether a byte that ends a tag follows it
@@ -30,9 +30,9 @@ pub record Fits (pattern : Pattern) (text : List ℕ) : Type 0 where
   pub ends : IsTrue pattern.ends_tag → EndsTag text (length pattern.bytes)
 
 -- b is what is ignored, white space or nothing, and then a text that fits the pattern and begins with no more of it
-abbrev pub FitsBehind : Bool → Pattern → List ℕ → Type 0
-FitsBehind true pattern b = Behind IsSpace (λ text. NoneBegins IsSpace text × Fits pattern text) b
-FitsBehind false pattern b = Fits pattern b
+abbrev pub FitsAfter : Bool → Pattern → List ℕ → Type 0
+FitsAfter true pattern b = After IsSpace (λ text. NoneBegins IsSpace text × Fits pattern text) b
+FitsAfter false pattern b = Fits pattern b
 
 abbrev pub AcceptsFixed : Pattern → List ℕ → Type 0
-AcceptsFixed pattern b = FitsBehind pattern.ignores_white pattern b
+AcceptsFixed pattern b = FitsAfter pattern.ignores_white pattern b

@@ -48,6 +48,6 @@ pub record IsFirst (P : Rule → Type 0) (rules : List Rule) (rule : Rule) : Typ
   pub has : P rule
 
 -- the type of the first of the rules with the property, and none only if none has it
-abbrev pub TellsFirst : (Rule → Type 0) → List Rule → Option (List ℕ) → Type 0
-TellsFirst P rules told =
+abbrev pub FindsFirst : (Rule → Type 0) → List Rule → Option (List ℕ) → Type 0
+FindsFirst P rules told =
     MatchOption told (All (λ rule. ¬ P rule) rules) (λ t. (rule : Rule) × IsFirst P rules rule × (rule.mime_type ≡ t))

@@ -17,7 +17,7 @@ exact bytes mime_type = rule (pattern bytes [] false false) mime_type
 abbrev pub masked : List ℕ → List ℕ → List ℕ → Rule
 masked bytes mask mime_type = rule (pattern bytes mask false false) mime_type
 
--- a tag of HTML behind white space: letters stand in either case, and a byte that ends the tag follows
+-- a tag of HTML after white space: letters stand in either case, and a byte that ends the tag follows
 abbrev pub tag : List ℕ → List ℕ → List ℕ → Rule
 tag html bytes mask = rule (pattern bytes mask true true) html
 

@@ -12,11 +12,11 @@ size_width x = min 8 (count_leading_zeros 8 x + 1)
 abbrev pub begins_name : List ℕ → ℕ → Bool
 begins_name b i = nat_lt (i + 2) (length b) && (slice_index b i == 0x42 && slice_index b (i + 1) == 0x82)
 
--- where what it contains begins, behind its size
+-- where what it contains begins, after its size
 abbrev pub content : List ℕ → ℕ → ℕ
 content b i = i + 2 + size_width (slice_index b (i + 2))
 
--- bytes 00 from i on, perhaps none, and then "webm", behind which the buffer goes on
+-- bytes 00 from i on, perhaps none, and then "webm", after which the buffer goes on
 abbrev pub NamesWebm : List ℕ → ℕ → Type 0
 NamesWebm b i =
     (zeros : ℕ) × ((k : ℕ) → k < zeros → slice_index b (i + k) ≡ 0) × OccursAt b (codes "webm") (i + zeros)
@@ -26,7 +26,7 @@ NamesWebm b i =
 abbrev pub Holds : List ℕ → ℕ → Type 0
 Holds b i = IsTrue (begins_name b i) × NamesWebm b (content b i)
 
--- the place that is looked at behind i: a byte on, or a byte behind where that content begins
+-- the place that is looked at after i: a byte on, or a byte after where that content begins
 abbrev pub next_place : List ℕ → ℕ → ℕ
 next_place b i = if begins_name b i then content b i + 1 else i + 1
 
@@ -34,6 +34,6 @@ next_place b i = if begins_name b i then content b i + 1 else i + 1
 abbrev pub HoldsFrom : List ℕ → ℕ → Type 0
 HoldsFrom b i = (n : ℕ) × (iterate (next_place b) n i < 38) × Holds b (iterate (next_place b) n i)
 
--- EBML, and behind its mark such a place
+-- EBML, and after its mark such a place
 abbrev pub IsWebm : List ℕ → Type 0
 IsWebm b = OccursAt b (0x1A ∷ 0x45 ∷ 0xDF ∷ 0xA3 ∷ []) 0 × HoldsFrom b 4

@@ -1,7 +1,7 @@
 //! What Go's package `net/http` takes first bytes for.
 ghost use Rattle.std.specs.Prelude.{◌≡◌, ◌<◌, ◌≤◌, ◌↔◌, length, map, option_map};
 ghost use Rattle.mime_sniff.specs.Go.{IsContentType, between, documents, earlier, later, rules};
-ghost use Rattle.mime_sniff.specs.Rule.{Accepts, TellsFirst};
+ghost use Rattle.mime_sniff.specs.Rule.{Accepts, FindsFirst};
 
 use crate::markup::of_markup;
 use crate::mp4::is_mp4;
@@ -36,7 +36,7 @@ pub fn detect_content_type(buf: &[u8]) -> &'static str
 
 /// The type of the first rule that accepts the header.
 fn first_rule(header: &[u8]) -> Option<&'static str>
-    ensures { TellsFirst (Accepts header.now) rules (option_map (λ t. t.now) result) }
+    ensures { FindsFirst (Accepts header.now) rules (option_map (λ t. t.now) result) }
 {
     if let Some(found) = of_markup(
         header,
@@ -65,7 +65,7 @@ fn first_rule(header: &[u8]) -> Option<&'static str>
 
 /// The type of the first rule before MP4.
 fn of_earlier(header: &[u8]) -> Option<&'static str>
-    ensures { TellsFirst (Accepts header.now) earlier (option_map (λ t. t.now) result) }
+    ensures { FindsFirst (Accepts header.now) earlier (option_map (λ t. t.now) result) }
 {
     if let Some(found) = of_documents(header) {
         return Some(found);
@@ -78,7 +78,7 @@ fn of_earlier(header: &[u8]) -> Option<&'static str>
 
 /// The type of the first rule of documents, of those with the first byte.
 fn of_documents(header: &[u8]) -> Option<&'static str>
-    ensures { TellsFirst (Accepts header.now) documents (option_map (λ t. t.now) result) }
+    ensures { FindsFirst (Accepts header.now) documents (option_map (λ t. t.now) result) }
 {
     if header.is_empty() {
         return None;
@@ -87,14 +87,14 @@ fn of_documents(header: &[u8]) -> Option<&'static str>
 }
 
 fn of_between(header: &[u8]) -> Option<&'static str>
-    ensures { TellsFirst (Accepts header.now) between (option_map (λ t. t.now) result) }
+    ensures { FindsFirst (Accepts header.now) between (option_map (λ t. t.now) result) }
 {
     first_type(table::between(), header)
 }
 
 /// The type of the first rule before text, of those with the first byte.
 fn of_later(header: &[u8]) -> Option<&'static str>
-    ensures { TellsFirst (Accepts header.now) later (option_map (λ t. t.now) result) }
+    ensures { FindsFirst (Accepts header.now) later (option_map (λ t. t.now) result) }
 {
     if header.is_empty() {
         return None;

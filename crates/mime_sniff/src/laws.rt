@@ -1,5 +1,5 @@
 //! Facts about the definitions, each the contract of a function that does nothing beside. To use a law, call it.
-ghost use Rattle.mime_sniff.specs.Laws.{ComputesOne, DecidedStays, DecidesWhenFull, Escalates, EscalatesForGood, EscalatesSo, HasOneType, HeaderComputes, HeaderDecides, KeepsHeader, OctetsStay, RowsStay, SharesRows, StaysIfForbidden, StaysOfItsKind, TellsNoScript};
+ghost use Rattle.mime_sniff.specs.Laws.{ComputesOne, DecidedStays, DecidesWhenFull, Escalates, EscalatesForGood, EscalatesSo, HasOneType, HeaderComputes, HeaderDecides, KeepsHeader, OctetsStay, RowsStay, SharesRows, StaysIfForbidden, StaysOfItsKind, GivesNoScript};
 
 /// No buffer has two content types.
 pub fn one_type()
@@ -76,8 +76,8 @@ pub fn stays_if_forbidden()
 {}
 
 /// No type that is given in place of the supplied one is JavaScript, so what is computed is JavaScript only if that was supplied.
-pub fn tells_no_script()
-    ensures { TellsNoScript }
+pub fn gives_no_script()
+    ensures { GivesNoScript }
 {}
 
 /// HTML is what the library takes for it, and so are BMP, JPEG, AIFF, WAVE and gzip: the standard's rows accept the same buffers.

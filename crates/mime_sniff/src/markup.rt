@@ -3,7 +3,7 @@ ghost use Rattle.std.specs.Prelude.{◌≡◌, map, option_map};
 ghost use Rattle.mime_sniff.specs.Listed.{rule_listed};
 ghost use Rattle.infer_deep.specs.Joined.{NoneBegins};
 ghost use Rattle.infer_deep.specs.Text.{IsSpace};
-ghost use Rattle.mime_sniff.specs.Rule.{Accepts, FitsRule, TellsFirst};
+ghost use Rattle.mime_sniff.specs.Rule.{Accepts, FitsRule, FindsFirst};
 ghost use Rattle.mime_sniff.specs.Table.{markup_rules, xml_rules};
 
 use crate::row::{Row, first_type, one_row};
@@ -16,7 +16,7 @@ pub(crate) fn of_markup(
     html: &'static str,
     xml: &'static str,
 ) -> Option<&'static str>
-    ensures { TellsFirst (Accepts header.now) (markup_rules html.now xml.now) (option_map (λ t. t.now) result) }
+    ensures { FindsFirst (Accepts header.now) (markup_rules html.now xml.now) (option_map (λ t. t.now) result) }
 {
     let text = after_white_space(header);
     if text.is_empty() || text[0] != b'<' {
@@ -29,7 +29,7 @@ pub(crate) fn of_markup(
 #[inline(never)]
 fn of_tag(text: &[u8], html: &'static str, xml: &'static str) -> Option<&'static str>
     requires { NoneBegins IsSpace text.now }
-    ensures { TellsFirst (FitsRule text.now) (markup_rules html.now xml.now) (option_map (λ t. t.now) result) }
+    ensures { FindsFirst (FitsRule text.now) (markup_rules html.now xml.now) (option_map (λ t. t.now) result) }
 {
     if is_html(text) {
         return Some(html);

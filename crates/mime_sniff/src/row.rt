@@ -4,7 +4,7 @@ ghost use Rattle.std.specs.Bool.{OnFalse};
 ghost use Rattle.mime_sniff.specs.Growth.{FitForGood, NeverHolds};
 ghost use Rattle.mime_sniff.specs.Listed.{pattern_listed, rule_listed};
 ghost use Rattle.mime_sniff.specs.Row.{Fits, HasBits, mask_at};
-ghost use Rattle.mime_sniff.specs.Rule.{FitsRule, TellsFirst};
+ghost use Rattle.mime_sniff.specs.Rule.{FitsRule, FindsFirst};
 
 use infer_deep::places::same_text;
 
@@ -24,7 +24,7 @@ pub(crate) struct Row {
 /// The type of the first of the rows that `text` fits. What they ignore in front has been passed over.
 #[inline(always)]
 pub(crate) fn first_type(rows: &[Row], text: &[u8]) -> Option<&'static str>
-    ensures { TellsFirst (FitsRule text.now) (map rule_listed rows.now)
+    ensures { FindsFirst (FitsRule text.now) (map rule_listed rows.now)
         (option_map (λ t. t.now) result) }
 {
     match first_row(rows, text) {
@@ -35,7 +35,7 @@ pub(crate) fn first_type(rows: &[Row], text: &[u8]) -> Option<&'static str>
 
 #[inline(always)]
 fn first_row<'a>(rows: &'a [Row], text: &[u8]) -> Option<&'a Row>
-    ensures { TellsFirst (FitsRule text.now) (map rule_listed rows.now)
+    ensures { FindsFirst (FitsRule text.now) (map rule_listed rows.now)
         (option_map (λ row. row.now.mime_type.now) result) }
 {
     for row in rows {

@@ -1,6 +1,6 @@
 //! What the rules say of bytes that may go on, whatever follows them. None means that more bytes may change it.
 ghost use Rattle.std.specs.Prelude.{◌≡◌, ◌∷◌, ◌++◌, ◌↔◌, [], IfSome, IsSome, IsTrue, codes, option_map};
-ghost use Rattle.mime_sniff.specs.Growth.{AnswerForGood, FitForGood, MayBeginHeader, TellForGood, told_or_else};
+ghost use Rattle.mime_sniff.specs.Growth.{AnswerForGood, FitForGood, MayBeginHeader, FindForGood, found_or_else};
 ghost use Rattle.mime_sniff.specs.Standard.{archives, documents, fonts, markup, marks, media, mp3_rule, mp4_rule, scriptable, text_or_binary_rules, text_rule, texts, unscripted, webm_rule};
 ghost use Rattle.mime_sniff.specs.Table.{images, sounds, tag_rules};
 ghost use Rattle.infer_deep.specs.Joined.{NoneBegins};
@@ -65,19 +65,19 @@ fn text_or_binary(header: &[u8]) -> Option<Option<&'static str>>
 }
 
 fn of_anything(header: &[u8]) -> Option<Option<&'static str>>
-    ensures { IfSome result (λ told. TellForGood header.now (scriptable ++ unscripted) (option_map (λ t. t.now) told)) }
+    ensures { IfSome result (λ told. FindForGood header.now (scriptable ++ unscripted) (option_map (λ t. t.now) told)) }
 {
     or_else(of_scriptable(header), of_unscripted(header))
 }
 
 fn of_scriptable(header: &[u8]) -> Option<Option<&'static str>>
-    ensures { IfSome result (λ told. TellForGood header.now scriptable (option_map (λ t. t.now) told)) }
+    ensures { IfSome result (λ told. FindForGood header.now scriptable (option_map (λ t. t.now) told)) }
 {
     or_else(of_markup(header), of_documents(header))
 }
 
 fn of_markup(header: &[u8]) -> Option<Option<&'static str>>
-    ensures { IfSome result (λ told. TellForGood header.now markup (option_map (λ t. t.now) told)) }
+    ensures { IfSome result (λ told. FindForGood header.now markup (option_map (λ t. t.now) told)) }
 {
     let text = after_white_space(header);
     if text.is_empty() {
@@ -100,60 +100,60 @@ fn of_html(text: &[u8]) -> Option<Option<&'static str>>
 }
 
 fn of_unscripted(header: &[u8]) -> Option<Option<&'static str>>
-    ensures { IfSome result (λ told. TellForGood header.now unscripted (option_map (λ t. t.now) told)) }
+    ensures { IfSome result (λ told. FindForGood header.now unscripted (option_map (λ t. t.now) told)) }
 {
-    or_else(of_texts(header), of_behind_texts(header))
+    or_else(of_texts(header), of_after_texts(header))
 }
 
-fn of_behind_texts(header: &[u8]) -> Option<Option<&'static str>>
-    ensures { IfSome result (λ told. TellForGood header.now (images ++ (media ++ (archives ++ text_rule ∷ []))) (option_map (λ t. t.now) told)) }
+fn of_after_texts(header: &[u8]) -> Option<Option<&'static str>>
+    ensures { IfSome result (λ told. FindForGood header.now (images ++ (media ++ (archives ++ text_rule ∷ []))) (option_map (λ t. t.now) told)) }
 {
-    let behind_images = or_else(
+    let after_images = or_else(
         of_media(header),
         or_else(of_archives(header), of_text(header)),
     );
-    or_else(of_images(header), behind_images)
+    or_else(of_images(header), after_images)
 }
 
 fn of_text_or_binary(header: &[u8]) -> Option<Option<&'static str>>
-    ensures { IfSome result (λ told. TellForGood header.now text_or_binary_rules (option_map (λ t. t.now) told)) }
+    ensures { IfSome result (λ told. FindForGood header.now text_or_binary_rules (option_map (λ t. t.now) told)) }
 {
     or_else(of_marks(header), of_text(header))
 }
 
 fn of_documents(header: &[u8]) -> Option<Option<&'static str>>
-    ensures { IfSome result (λ told. TellForGood header.now documents (option_map (λ t. t.now) told)) }
+    ensures { IfSome result (λ told. FindForGood header.now documents (option_map (λ t. t.now) told)) }
 {
     settled_type(table::documents(), header)
 }
 
 fn of_texts(header: &[u8]) -> Option<Option<&'static str>>
-    ensures { IfSome result (λ told. TellForGood header.now texts (option_map (λ t. t.now) told)) }
+    ensures { IfSome result (λ told. FindForGood header.now texts (option_map (λ t. t.now) told)) }
 {
     settled_type(table::texts(), header)
 }
 
 fn of_archives(header: &[u8]) -> Option<Option<&'static str>>
-    ensures { IfSome result (λ told. TellForGood header.now archives (option_map (λ t. t.now) told)) }
+    ensures { IfSome result (λ told. FindForGood header.now archives (option_map (λ t. t.now) told)) }
 {
     settled_type(table::archives(), header)
 }
 
 fn of_fonts(header: &[u8]) -> Option<Option<&'static str>>
-    ensures { IfSome result (λ told. TellForGood header.now fonts (option_map (λ t. t.now) told)) }
+    ensures { IfSome result (λ told. FindForGood header.now fonts (option_map (λ t. t.now) told)) }
 {
     settled_type(table::fonts(), header)
 }
 
 fn of_marks(header: &[u8]) -> Option<Option<&'static str>>
-    ensures { IfSome result (λ told. TellForGood header.now marks (option_map (λ t. t.now) told)) }
+    ensures { IfSome result (λ told. FindForGood header.now marks (option_map (λ t. t.now) told)) }
 {
     settled_type(table::marks(), header)
 }
 
 /// A byte of binary data stays, and one may come as long as there is none.
 fn of_text(header: &[u8]) -> Option<Option<&'static str>>
-    ensures { IfSome result (λ told. TellForGood header.now (text_rule ∷ []) (option_map (λ t. t.now) told)) }
+    ensures { IfSome result (λ told. FindForGood header.now (text_rule ∷ []) (option_map (λ t. t.now) told)) }
 {
     if is_binary(header) {
         return Some(None);
@@ -162,7 +162,7 @@ fn of_text(header: &[u8]) -> Option<Option<&'static str>>
 }
 
 fn of_images(header: &[u8]) -> Option<Option<&'static str>>
-    ensures { IfSome result (λ told. TellForGood header.now images (option_map (λ t. t.now) told)) }
+    ensures { IfSome result (λ told. FindForGood header.now images (option_map (λ t. t.now) told)) }
 {
     if header.is_empty() {
         return None;
@@ -171,7 +171,7 @@ fn of_images(header: &[u8]) -> Option<Option<&'static str>>
 }
 
 fn of_sounds(header: &[u8]) -> Option<Option<&'static str>>
-    ensures { IfSome result (λ told. TellForGood header.now sounds (option_map (λ t. t.now) told)) }
+    ensures { IfSome result (λ told. FindForGood header.now sounds (option_map (λ t. t.now) told)) }
 {
     if header.is_empty() {
         return None;
@@ -180,14 +180,14 @@ fn of_sounds(header: &[u8]) -> Option<Option<&'static str>>
 }
 
 fn of_media(header: &[u8]) -> Option<Option<&'static str>>
-    ensures { IfSome result (λ told. TellForGood header.now media (option_map (λ t. t.now) told)) }
+    ensures { IfSome result (λ told. FindForGood header.now media (option_map (λ t. t.now) told)) }
 {
-    let behind_mp4 = or_else(of_webm(header), of_mp3(header));
-    or_else(of_sounds(header), or_else(of_mp4(header), behind_mp4))
+    let after_mp4 = or_else(of_webm(header), of_mp3(header));
+    or_else(of_sounds(header), or_else(of_mp4(header), after_mp4))
 }
 
 fn of_mp4(header: &[u8]) -> Option<Option<&'static str>>
-    ensures { IfSome result (λ told. TellForGood header.now (mp4_rule ∷ []) (option_map (λ t. t.now) told)) }
+    ensures { IfSome result (λ told. FindForGood header.now (mp4_rule ∷ []) (option_map (λ t. t.now) told)) }
 {
     if is_mp4_of_any_box(header) {
         return Some(Some("video/mp4"));
@@ -199,7 +199,7 @@ fn of_mp4(header: &[u8]) -> Option<Option<&'static str>>
 }
 
 fn of_webm(header: &[u8]) -> Option<Option<&'static str>>
-    ensures { IfSome result (λ told. TellForGood header.now (webm_rule ∷ []) (option_map (λ t. t.now) told)) }
+    ensures { IfSome result (λ told. FindForGood header.now (webm_rule ∷ []) (option_map (λ t. t.now) told)) }
 {
     if is_webm(header) {
         return Some(Some("video/webm"));
@@ -211,7 +211,7 @@ fn of_webm(header: &[u8]) -> Option<Option<&'static str>>
 }
 
 fn of_mp3(header: &[u8]) -> Option<Option<&'static str>>
-    ensures { IfSome result (λ told. TellForGood header.now (mp3_rule ∷ []) (option_map (λ t. t.now) told)) }
+    ensures { IfSome result (λ told. FindForGood header.now (mp3_rule ∷ []) (option_map (λ t. t.now) told)) }
 {
     if is_mp3(header) {
         return Some(Some("audio/mpeg"));
@@ -225,12 +225,12 @@ fn of_mp3(header: &[u8]) -> Option<Option<&'static str>>
 /// What the first rules say, or those after them if the first ones say nothing.
 fn or_else(
     first: Option<Option<&'static str>>,
-    behind: Option<Option<&'static str>>,
+    after: Option<Option<&'static str>>,
 ) -> Option<Option<&'static str>>
-    ensures { result ≡ told_or_else first.entry behind.entry }
+    ensures { result ≡ found_or_else first.entry after.entry }
 {
     match first {
-        Some(None) => behind,
+        Some(None) => after,
         Some(Some(mime_type)) => Some(Some(mime_type)),
         None => None,
     }

@@ -2,7 +2,7 @@
 ghost use Rattle.std.specs.Prelude.{◌≡◌, ◌∷◌, ◌++◌, [], Some, option_map};
 ghost use Rattle.std.specs.Option.{option_or};
 ghost use Rattle.mime_sniff.specs.Computed.{Answers};
-ghost use Rattle.mime_sniff.specs.Rule.{Accepts, TellsFirst};
+ghost use Rattle.mime_sniff.specs.Rule.{Accepts, FindsFirst};
 ghost use Rattle.mime_sniff.specs.Standard.{archives, documents, fonts, marks, media, octets, scriptable, text_or_binary_rules, text_rule, texts, unscripted};
 ghost use Rattle.mime_sniff.specs.Table.{images, sounds};
 
@@ -49,7 +49,7 @@ pub(crate) fn or_octets(told: Option<&'static str>) -> Option<&'static str>
 }
 
 fn of_anything(header: &[u8]) -> Option<&'static str>
-    ensures { TellsFirst (Accepts header.now) (scriptable ++ unscripted) (option_map (λ t. t.now) result) }
+    ensures { FindsFirst (Accepts header.now) (scriptable ++ unscripted) (option_map (λ t. t.now) result) }
 {
     if let Some(found) = of_scriptable(header) {
         return Some(found);
@@ -58,7 +58,7 @@ fn of_anything(header: &[u8]) -> Option<&'static str>
 }
 
 pub(crate) fn of_scriptable(header: &[u8]) -> Option<&'static str>
-    ensures { TellsFirst (Accepts header.now) scriptable (option_map (λ t. t.now) result) }
+    ensures { FindsFirst (Accepts header.now) scriptable (option_map (λ t. t.now) result) }
 {
     if let Some(found) = of_markup(header, "text/html", "text/xml") {
         return Some(found);
@@ -67,19 +67,19 @@ pub(crate) fn of_scriptable(header: &[u8]) -> Option<&'static str>
 }
 
 fn of_documents(header: &[u8]) -> Option<&'static str>
-    ensures { TellsFirst (Accepts header.now) documents (option_map (λ t. t.now) result) }
+    ensures { FindsFirst (Accepts header.now) documents (option_map (λ t. t.now) result) }
 {
     first_type(table::documents(), header)
 }
 
 fn of_texts(header: &[u8]) -> Option<&'static str>
-    ensures { TellsFirst (Accepts header.now) texts (option_map (λ t. t.now) result) }
+    ensures { FindsFirst (Accepts header.now) texts (option_map (λ t. t.now) result) }
 {
     first_type(table::texts(), header)
 }
 
 fn of_unscripted(header: &[u8]) -> Option<&'static str>
-    ensures { TellsFirst (Accepts header.now) unscripted (option_map (λ t. t.now) result) }
+    ensures { FindsFirst (Accepts header.now) unscripted (option_map (λ t. t.now) result) }
 {
     if let Some(found) = of_texts(header) {
         return Some(found);
@@ -97,14 +97,14 @@ fn of_unscripted(header: &[u8]) -> Option<&'static str>
 }
 
 pub(crate) fn of_archives(header: &[u8]) -> Option<&'static str>
-    ensures { TellsFirst (Accepts header.now) archives (option_map (λ t. t.now) result) }
+    ensures { FindsFirst (Accepts header.now) archives (option_map (λ t. t.now) result) }
 {
     first_type(table::archives(), header)
 }
 
 /// Text, if no byte is one of binary data.
 fn of_text(header: &[u8]) -> Option<&'static str>
-    ensures { TellsFirst (Accepts header.now) (text_rule ∷ []) (option_map (λ t. t.now) result) }
+    ensures { FindsFirst (Accepts header.now) (text_rule ∷ []) (option_map (λ t. t.now) result) }
 {
     if is_binary(header) {
         return None;
@@ -113,13 +113,13 @@ fn of_text(header: &[u8]) -> Option<&'static str>
 }
 
 fn of_marks(header: &[u8]) -> Option<&'static str>
-    ensures { TellsFirst (Accepts header.now) marks (option_map (λ t. t.now) result) }
+    ensures { FindsFirst (Accepts header.now) marks (option_map (λ t. t.now) result) }
 {
     first_type(table::marks(), header)
 }
 
 fn of_text_or_binary(header: &[u8]) -> Option<&'static str>
-    ensures { TellsFirst (Accepts header.now) text_or_binary_rules (option_map (λ t. t.now) result) }
+    ensures { FindsFirst (Accepts header.now) text_or_binary_rules (option_map (λ t. t.now) result) }
 {
     if let Some(found) = of_marks(header) {
         return Some(found);
@@ -129,7 +129,7 @@ fn of_text_or_binary(header: &[u8]) -> Option<&'static str>
 
 /// The type of the first rule of images, of those with the first byte.
 pub(crate) fn of_images(header: &[u8]) -> Option<&'static str>
-    ensures { TellsFirst (Accepts header.now) images (option_map (λ t. t.now) result) }
+    ensures { FindsFirst (Accepts header.now) images (option_map (λ t. t.now) result) }
 {
     if header.is_empty() {
         return None;
@@ -139,7 +139,7 @@ pub(crate) fn of_images(header: &[u8]) -> Option<&'static str>
 
 /// The type of the first rule of sounds, of those with the first byte.
 pub(crate) fn of_sounds(header: &[u8]) -> Option<&'static str>
-    ensures { TellsFirst (Accepts header.now) sounds (option_map (λ t. t.now) result) }
+    ensures { FindsFirst (Accepts header.now) sounds (option_map (λ t. t.now) result) }
 {
     if header.is_empty() {
         return None;
@@ -148,13 +148,13 @@ pub(crate) fn of_sounds(header: &[u8]) -> Option<&'static str>
 }
 
 fn of_fonts(header: &[u8]) -> Option<&'static str>
-    ensures { TellsFirst (Accepts header.now) fonts (option_map (λ t. t.now) result) }
+    ensures { FindsFirst (Accepts header.now) fonts (option_map (λ t. t.now) result) }
 {
     first_type(table::fonts(), header)
 }
 
 fn of_media(header: &[u8]) -> Option<&'static str>
-    ensures { TellsFirst (Accepts header.now) media (option_map (λ t. t.now) result) }
+    ensures { FindsFirst (Accepts header.now) media (option_map (λ t. t.now) result) }
 {
     if let Some(found) = of_sounds(header) {
         return Some(found);

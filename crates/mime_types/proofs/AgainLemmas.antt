@@ -6,13 +6,13 @@ use Rattle.std.specs.List.{list_all}
 use Rattle.mime_types.specs.Bytes.{is_token}
 use Rattle.mime_types.specs.Mime.{Mime, Parameter}
 use Rattle.mime_types.specs.Parameters.{kept, parameters}
-use Rattle.mime_types.specs.Parse.{Parsed, behind_slash, subtype_text, tail_text, type_text}
+use Rattle.mime_types.specs.Parse.{Parsed, after_slash, subtype_text, tail_text, type_text}
 use Rattle.mime_types.specs.Segment.{written}
 use Rattle.mime_types.specs.Serialize.{escaped, in_quotes, parameter_text, parameters_text, serialize, value_text}
-use Rattle.mime_types.specs.Text.{behind, front, is_a_token, is_semicolon, is_slash, lower, trim, trim_end, trim_start}
-use Rattle.mime_types.proofs.CutLemmas.{EndsDark, behind_cut, behind_dark, front_cut, no_end, other_byte, token_bytes, token_dark, token_not_white, token_some, trimmed_end, trimmed_start}
+use Rattle.mime_types.specs.Text.{after, front, is_a_token, is_semicolon, is_slash, lower, trim, trim_end, trim_start}
+use Rattle.mime_types.proofs.CutLemmas.{EndsDark, after_cut, after_dark, front_cut, no_end, other_byte, token_bytes, token_dark, token_not_white, token_some, trimmed_end, trimmed_start}
 use Rattle.mime_types.proofs.FirstLemmas.{token_in_lower}
-use Rattle.mime_types.proofs.JoinLemmas.{behind_joined, front_joined, not_semicolon, text_stops, written_again}
+use Rattle.mime_types.proofs.JoinLemmas.{after_joined, front_joined, not_semicolon, text_stops, written_again}
 use Rattle.mime_types.proofs.KeptLemmas.{kept_again, kept_clean, lower_again, written_lower}
 use Rattle.mime_types.proofs.WroteLemmas.{text_more, text_none}
 
@@ -22,16 +22,16 @@ value_dark v false is = record { start = 0x22 ∷ escaped v; last = 0x22; whole 
 
 parameter_dark : (p : Parameter) → EndsDark (parameter_text p)
 parameter_dark p =
-    behind_dark (0x3B ∷ []) (p.name ++ 0x3D ∷ value_text p.value)
-    (behind_dark p.name (0x3D ∷ value_text p.value) (behind_dark (0x3D ∷ []) (value_text p.value) (value_dark p.value (is_a_token p.value) refl)))
+    after_dark (0x3B ∷ []) (p.name ++ 0x3D ∷ value_text p.value)
+    (after_dark p.name (0x3D ∷ value_text p.value) (after_dark (0x3D ∷ []) (value_text p.value) (value_dark p.value (is_a_token p.value) refl)))
 
 parameters_dark : (p : Parameter) (ps : List Parameter) → EndsDark (parameters_text (p ∷ ps))
 parameters_dark p [] = subst EndsDark (sym (text_more p [] ∙ (ap (λ s. parameter_text p ++ s) text_none ∙ append-nil (parameter_text p)))) (parameter_dark p)
-parameters_dark p (q ∷ ps) = subst EndsDark (sym (text_more p (q ∷ ps))) (behind_dark (parameter_text p) (parameters_text (q ∷ ps)) (parameters_dark q ps))
+parameters_dark p (q ∷ ps) = subst EndsDark (sym (text_more p (q ∷ ps))) (after_dark (parameter_text p) (parameters_text (q ∷ ps)) (parameters_dark q ps))
 
 subtype_dark : (s : List ℕ) (ps : List Parameter) → is_a_token s ≡ true → EndsDark (s ++ parameters_text ps)
 subtype_dark s [] token = subst EndsDark (sym (ap (λ r. s ++ r) text_none ∙ append-nil s)) (token_dark s (token_some s token) (token_bytes s token))
-subtype_dark s (p ∷ ps) token = behind_dark s (parameters_text (p ∷ ps)) (parameters_dark p ps)
+subtype_dark s (p ∷ ps) token = after_dark s (parameters_text (p ∷ ps)) (parameters_dark p ps)
 
 start_dark : (a r : List ℕ) → is_a_token a ≡ true → trim_start (a ++ r) ≡ a ++ r
 start_dark [] r token = absurd (false≢true token)
@@ -55,7 +55,7 @@ module _ (a b : List ℕ) (ps : List Parameter) (a_token : is_a_token a ≡ true
   regrouped = append_assoc a (0x2F ∷ b) p
 
   dark : EndsDark y
-  dark = behind_dark a (0x2F ∷ (b ++ p)) (behind_dark (0x2F ∷ []) (b ++ p) (subtype_dark b ps b_token))
+  dark = after_dark a (0x2F ∷ (b ++ p)) (after_dark (0x2F ∷ []) (b ++ p) (subtype_dark b ps b_token))
 
   trimmed : trim x ≡ y
   trimmed = ap trim regrouped ∙ (ap trim_end (start_dark a (0x2F ∷ (b ++ p)) a_token) ∙ trimmed_end y dark)
@@ -72,19 +72,19 @@ module _ (a b : List ℕ) (ps : List Parameter) (a_token : is_a_token a ≡ true
   pub type_again : type_text x ≡ a
   type_again = ap (front is_slash) trimmed ∙ front_cut is_slash a no_slash 0x2F (b ++ p) refl
 
-  behind_again : behind_slash x ≡ b ++ p
-  behind_again = ap (behind is_slash) trimmed ∙ behind_cut is_slash a no_slash 0x2F (b ++ p) refl
+  after_again : after_slash x ≡ b ++ p
+  after_again = ap (after is_slash) trimmed ∙ after_cut is_slash a no_slash 0x2F (b ++ p) refl
 
   pub subtype_again : subtype_text x ≡ b
   subtype_again =
-      ap (λ s. trim_end (front is_semicolon s)) behind_again
+      ap (λ s. trim_end (front is_semicolon s)) after_again
       ∙ (ap trim_end (front_joined is_semicolon b no_semicolon p (text_stops ps))
       ∙ trimmed_end b (token_dark b (token_some b b_token) (token_bytes b b_token)))
 
-  pub tail_again : tail_text x ≡ behind is_semicolon p
-  tail_again = ap (behind is_semicolon) behind_again ∙ behind_joined is_semicolon b no_semicolon p (text_stops ps)
+  pub tail_again : tail_text x ≡ after is_semicolon p
+  tail_again = ap (after is_semicolon) after_again ∙ after_joined is_semicolon b no_semicolon p (text_stops ps)
 
-pub kept_all : (s : List ℕ) → parameters (behind is_semicolon (parameters_text (parameters s))) ≡ parameters s
+pub kept_all : (s : List ℕ) → parameters (after is_semicolon (parameters_text (parameters s))) ≡ parameters s
 kept_all s =
     ap (kept []) (written_again (parameters s) (kept_clean [] (written s) (written_lower (length s) s)))
     ∙ kept_again [] [] (written s) (λ name h. h)
@@ -108,8 +108,8 @@ again t m is =
     let one = type_again a b m.parameters a_token b_token in
     let two = subtype_again a b m.parameters a_token b_token in
     let three = tail_again a b m.parameters a_token b_token in
-    let kept_is : parameters (behind is_semicolon (parameters_text m.parameters)) ≡ m.parameters
-    = subst (λ ps. parameters (behind is_semicolon (parameters_text ps)) ≡ ps) (sym is.all) (kept_all (tail_text t)) in
+    let kept_is : parameters (after is_semicolon (parameters_text m.parameters)) ≡ m.parameters
+    = subst (λ ps. parameters (after is_semicolon (parameters_text ps)) ≡ ps) (sym is.all) (kept_all (tail_text t)) in
     record {
       type_token = ap is_a_token one ∙ a_token;
       subtype_token = ap is_a_token two ∙ b_token;

@@ -9,9 +9,9 @@ module _ (t : List ℕ) where
   ends_at n within is = let same : n ≡ length t - suffix_len is_blank t = omega arith in ap (λ i. take i t) same
 
   -- the last other byte stands at m
-  pub ends_behind : (m : ℕ) → m < length t → ((k : ℕ) → m < k → k < length t → is_blank (get_or t k 0) ≡ true)
+  pub ends_after : (m : ℕ) → m < length t → ((k : ℕ) → m < k → k < length t → is_blank (get_or t k 0) ≡ true)
       → is_blank (get_or t m 0) ≡ false → take (m + 1) t ≡ take (length t - suffix_len is_blank t) t
-  ends_behind m within blank last =
+  ends_after m within blank last =
       ends_at (m + 1) (omega arith)
       (suffix_len_is is_blank t (m + 1) 0 (omega arith) (λ k low high. blank k (omega arith) high)
       (λ some. let same : m + 1 - 1 ≡ m = omega arith in ap (λ i. is_blank (get_or t i 0)) same ∙ last))

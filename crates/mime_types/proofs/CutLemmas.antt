@@ -5,7 +5,7 @@ use Rattle.std.proofs.lemmas.Bool.{and_parts, eqb-true, false≢true, ltb-true}
 use Rattle.std.proofs.lemmas.List.{drop_all, reverse-append, take_all}
 use Rattle.std.specs.List.{list_all, prefix_len, suffix_len}
 use Rattle.mime_types.specs.Bytes.{is_token, is_white}
-use Rattle.mime_types.specs.Text.{before, behind, front, is_a_token, onward, trim_end, trim_start}
+use Rattle.mime_types.specs.Text.{before, after, front, is_a_token, onward, trim_end, trim_start}
 
 -- a byte of tokens is no byte that is none
 pub other_byte : (c : ℕ) → is_token c ≡ false → (x : ℕ) → is_token x ≡ true → (x == c) ≡ false
@@ -29,11 +29,11 @@ token_some s token = ltb-true 0 (length s) (and_parts (nat_lt 0 (length s)) (lis
 
 -- parts that no byte of a ends
 module _ (ends : ℕ → Bool) where
-  pub stops_behind : (a : List ℕ) (c : ℕ) (r : List ℕ) → list_all (λ x. not (ends x)) a ≡ true → ends c ≡ true → before ends (a ++ c ∷ r) ≡ length a
-  stops_behind [] c r none is = ap (λ b. cond (not b) (1 + before ends r) 0) is
-  stops_behind (x ∷ a) c r none is =
+  pub stops_after : (a : List ℕ) (c : ℕ) (r : List ℕ) → list_all (λ x. not (ends x)) a ≡ true → ends c ≡ true → before ends (a ++ c ∷ r) ≡ length a
+  stops_after [] c r none is = ap (λ b. cond (not b) (1 + before ends r) 0) is
+  stops_after (x ∷ a) c r none is =
       let parts = and_parts (not (ends x)) (list_all (λ y. not (ends y)) a) none in
-      let rest = stops_behind a c r parts.1 is in
+      let rest = stops_after a c r parts.1 is in
       ap (λ b. cond b (1 + before ends (a ++ c ∷ r)) 0) parts.0 ∙ omega (arith, rest)
 
   pub stops_nowhere : (a : List ℕ) → list_all (λ x. not (ends x)) a ≡ true → before ends a ≡ length a
@@ -47,18 +47,18 @@ module _ (ends : ℕ → Bool) where
     pub front_whole : front ends a ≡ a
     front_whole = take_all (before ends a) a (let e = stops_nowhere a none in omega arith)
 
-    pub behind_whole : behind ends a ≡ []
-    behind_whole = drop_all (before ends a + 1) a (let e = stops_nowhere a none in omega arith)
+    pub after_whole : after ends a ≡ []
+    after_whole = drop_all (before ends a + 1) a (let e = stops_nowhere a none in omega arith)
 
     module _ (c : ℕ) (r : List ℕ) (is : ends c ≡ true) where
       pub front_cut : front ends (a ++ c ∷ r) ≡ a
-      front_cut = ap (λ n. take n (a ++ c ∷ r)) (stops_behind a c r none is) ∙ take-append_seam a (c ∷ r)
+      front_cut = ap (λ n. take n (a ++ c ∷ r)) (stops_after a c r none is) ∙ take-append_seam a (c ∷ r)
 
       pub onward_cut : onward ends (a ++ c ∷ r) ≡ c ∷ r
-      onward_cut = ap (λ n. drop n (a ++ c ∷ r)) (stops_behind a c r none is) ∙ drop-append_seam a (c ∷ r)
+      onward_cut = ap (λ n. drop n (a ++ c ∷ r)) (stops_after a c r none is) ∙ drop-append_seam a (c ∷ r)
 
-      pub behind_cut : behind ends (a ++ c ∷ r) ≡ r
-      behind_cut = ap (λ n. drop (n + 1) (a ++ c ∷ r)) (stops_behind a c r none is) ∙ drop-append-add a (c ∷ r) 1
+      pub after_cut : after ends (a ++ c ∷ r) ≡ r
+      after_cut = ap (λ n. drop (n + 1) (a ++ c ∷ r)) (stops_after a c r none is) ∙ drop-append-add a (c ∷ r) 1
 
 -- all bytes of a token are no such byte
 pub no_end : (ends : ℕ → Bool) → ((x : ℕ) → is_token x ≡ true → ends x ≡ false) → (a : List ℕ) → list_all is_token a ≡ true
@@ -75,8 +75,8 @@ pub record EndsDark (s : List ℕ) : Type 0 where
   pub whole : s ≡ start ++ last ∷ []
   pub dark : is_white last ≡ false
 
-pub behind_dark : (a s : List ℕ) → EndsDark s → EndsDark (a ++ s)
-behind_dark a s e = record {
+pub after_dark : (a s : List ℕ) → EndsDark s → EndsDark (a ++ s)
+after_dark a s e = record {
   start = a ++ e.start;
   last = e.last;
   whole = ap (λ x. a ++ x) e.whole ∙ sym (append_assoc a e.start (e.last ∷ []));
@@ -87,7 +87,7 @@ pub token_dark : (a : List ℕ) → 0 < length a → list_all is_token a ≡ tru
 token_dark [] some all = absurd (omega arith)
 token_dark (x ∷ []) some all = record { start = []; last = x; whole = refl; dark = token_not_white x (and_parts (is_token x) true all).0 }
 token_dark (x ∷ y ∷ a) some all =
-    behind_dark (x ∷ []) (y ∷ a) (token_dark (y ∷ a) (omega arith) (and_parts (is_token x) (list_all is_token (y ∷ a)) all).1)
+    after_dark (x ∷ []) (y ∷ a) (token_dark (y ∷ a) (omega arith) (and_parts (is_token x) (list_all is_token (y ∷ a)) all).1)
 
 pub trimmed_end : (s : List ℕ) → EndsDark s → trim_end s ≡ s
 trimmed_end s e = take_all (length s - suffix_len is_white s) s (let none = no_suffix in omega arith)

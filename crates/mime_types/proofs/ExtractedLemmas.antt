@@ -88,7 +88,7 @@ module _ (t : List ℕ) where
   pub usable_none : ((m : Mime) → ¬ Parsed t m) → None ≡ usable t
   usable_none none = none_cases (is_a_token (type_text t)) (is_a_token (subtype_text t)) refl refl none
 
--- what pieces and those behind them say
+-- what pieces and those after them say
 pub said_append : (ps qs : List (List ℕ)) → said (ps ++ qs) ≡ said ps ++ said qs
 said_append [] qs = refl
 said_append (p ∷ ps) qs = ap (λ ms. option_to_list (usable p) ++ ms) (said_append ps qs) ∙ sym (append_assoc (option_to_list (usable p)) (said ps) (said qs))

@@ -64,7 +64,7 @@ pub kept_case : (e : List Parameter) (p : Parameter) (ps : List Parameter) (b : 
 unfolding kept
 kept_case e p ps b is = ap (λ b. if b then p ∷ kept (e ++ p ∷ []) ps else kept (e ++ p ∷ []) ps) is
 
--- what counts behind those of e, if w is what is written and w' what is left of it
+-- what counts after those of e, if w is what is written and w' what is left of it
 module _ (e f w v : List Parameter) where
   pub none_counts : w ≡ [] → kept e w ≡ []
   unfolding kept

@@ -8,8 +8,8 @@ use Rattle.mime_types.specs.Bytes.{is_token}
 use Rattle.mime_types.specs.Mime.{Parameter}
 use Rattle.mime_types.specs.Segment.{as_written, bare, named, parameter_of, quoted, quoted_len, segment, segment_of, segment_said, some_value, standing, stands, unquoted, valued, written}
 use Rattle.mime_types.specs.Serialize.{escaped, in_quotes, parameters_text, value_text}
-use Rattle.mime_types.specs.Text.{before, behind, ends_name, front, is_a_token, is_semicolon, lower, onward, trim_end, trim_start}
-use Rattle.mime_types.proofs.CutLemmas.{behind_cut, behind_whole, front_cut, front_whole, no_end, onward_cut, other_byte, token_bytes, token_dark, token_not_white, trimmed_end, trimmed_start}
+use Rattle.mime_types.specs.Text.{before, after, ends_name, front, is_a_token, is_semicolon, lower, onward, trim_end, trim_start}
+use Rattle.mime_types.proofs.CutLemmas.{after_cut, after_whole, front_cut, front_whole, no_end, onward_cut, other_byte, token_bytes, token_dark, token_not_white, trimmed_end, trimmed_start}
 use Rattle.mime_types.proofs.WrittenLemmas.{first_written, none_left}
 use Rattle.mime_types.proofs.WroteLemmas.{text_more, text_none}
 
@@ -65,7 +65,7 @@ unescaped : (v : List ℕ) → unquoted (escaped v) ≡ v
 unescaped [] = refl
 unescaped (x ∷ v) = ap unquoted (escaped_is x v) ∙ say_step x (escaped v) v (x == 0x22 || x == 0x5C) refl (unescaped v)
 
--- what stands behind a part ends it, or nothing stands there
+-- what stands after a part ends it, or nothing stands there
 abbrev pub Stops : (ℕ → Bool) → List ℕ → Type 0
 Stops ends [] = Unit {0}
 Stops ends (c ∷ r) = ends c ≡ true
@@ -75,10 +75,10 @@ module _ (ends : ℕ → Bool) (a : List ℕ) (none : list_all (λ x. not (ends 
   front_joined [] stops = ap (front ends) (append-nil a) ∙ front_whole ends a none
   front_joined (c ∷ r) stops = front_cut ends a none c r stops
 
-  pub behind_joined : (r : List ℕ) → Stops ends r → behind ends (a ++ r) ≡ behind ends r
-  behind_joined [] stops = ap (behind ends) (append-nil a) ∙ behind_whole ends a none
-  behind_joined (c ∷ r) stops =
-      behind_cut ends a none c r stops ∙ sym (ap (λ b. drop (cond (not b) (1 + before ends r) 0 + 1) (c ∷ r)) stops)
+  pub after_joined : (r : List ℕ) → Stops ends r → after ends (a ++ r) ≡ after ends r
+  after_joined [] stops = ap (after ends) (append-nil a) ∙ after_whole ends a none
+  after_joined (c ∷ r) stops =
+      after_cut ends a none c r stops ∙ sym (ap (λ b. drop (cond (not b) (1 + before ends r) 0 + 1) (c ∷ r)) stops)
 
 pub not_semicolon : (x : ℕ) → is_token x ≡ true → is_semicolon x ≡ false
 not_semicolon x is = other_byte 0x3B refl x is
@@ -87,7 +87,7 @@ not_name_end : (x : ℕ) → is_token x ≡ true → ends_name x ≡ false
 not_name_end x is = ap (λ b. b || x == 0x3D) (other_byte 0x3B refl x is) ∙ other_byte 0x3D refl x is
 
 -- a value of a token
-bare_again : (name v r : List ℕ) → is_a_token v ≡ true → Stops is_semicolon r → valued name (v ++ r) ≡ standing (Some (as_written name v false)) (behind is_semicolon r)
+bare_again : (name v r : List ℕ) → is_a_token v ≡ true → Stops is_semicolon r → valued name (v ++ r) ≡ standing (Some (as_written name v false)) (after is_semicolon r)
 bare_again name [] r token stops = absurd (false≢true token)
 bare_again name (x ∷ v) r token stops =
     let all = token_bytes (x ∷ v) token in
@@ -96,37 +96,37 @@ bare_again name (x ∷ v) r token stops =
     let value : trim_end (front is_semicolon ((x ∷ v) ++ r)) ≡ x ∷ v
     = ap trim_end (front_joined is_semicolon (x ∷ v) none r stops) ∙ trimmed_end (x ∷ v) (token_dark (x ∷ v) (omega arith) all) in
     ap (λ b. if b then quoted name (v ++ r) else bare name ((x ∷ v) ++ r)) (other_byte 0x22 refl x first.0)
-    ∙ (ap (λ w. standing (some_value name w) (behind is_semicolon ((x ∷ v) ++ r))) value
-    ∙ ap (λ w. standing (Some (as_written name (x ∷ v) false)) w) (behind_joined is_semicolon (x ∷ v) none r stops))
+    ∙ (ap (λ w. standing (some_value name w) (after is_semicolon ((x ∷ v) ++ r))) value
+    ∙ ap (λ w. standing (Some (as_written name (x ∷ v) false)) w) (after_joined is_semicolon (x ∷ v) none r stops))
 
 -- a value in quotes
-behind_quote : (r : List ℕ) → Stops is_semicolon r → behind is_semicolon (0x22 ∷ r) ≡ behind is_semicolon r
-behind_quote r stops = behind_joined is_semicolon (0x22 ∷ []) refl r stops
+after_quote : (r : List ℕ) → Stops is_semicolon r → after is_semicolon (0x22 ∷ r) ≡ after is_semicolon r
+after_quote r stops = after_joined is_semicolon (0x22 ∷ []) refl r stops
 
-quoted_again : (name v r : List ℕ) → Stops is_semicolon r → valued name (in_quotes v ++ r) ≡ standing (Some (as_written name (escaped v) true)) (behind is_semicolon r)
+quoted_again : (name v r : List ℕ) → Stops is_semicolon r → valued name (in_quotes v ++ r) ≡ standing (Some (as_written name (escaped v) true)) (after is_semicolon r)
 quoted_again name v r stops =
     let s = escaped v in
     let t : (s ++ 0x22 ∷ []) ++ r ≡ s ++ 0x22 ∷ r = append_assoc s (0x22 ∷ []) r in
     let len : quoted_len (s ++ 0x22 ∷ r) ≡ length s = ap quoted_len (sym t) ∙ escaped_len v r in
     let text : take (quoted_len (s ++ 0x22 ∷ r)) (s ++ 0x22 ∷ r) ≡ s = ap (λ n. take n (s ++ 0x22 ∷ r)) len ∙ take-append_seam s (0x22 ∷ r) in
-    let left : behind is_semicolon (drop (quoted_len (s ++ 0x22 ∷ r)) (s ++ 0x22 ∷ r)) ≡ behind is_semicolon r
-    = ap (λ n. behind is_semicolon (drop n (s ++ 0x22 ∷ r))) len ∙ (ap (behind is_semicolon) (drop-append_seam s (0x22 ∷ r)) ∙ behind_quote r stops) in
+    let left : after is_semicolon (drop (quoted_len (s ++ 0x22 ∷ r)) (s ++ 0x22 ∷ r)) ≡ after is_semicolon r
+    = ap (λ n. after is_semicolon (drop n (s ++ 0x22 ∷ r))) len ∙ (ap (after is_semicolon) (drop-append_seam s (0x22 ∷ r)) ∙ after_quote r stops) in
     ap (quoted name) t
-    ∙ (ap (λ w. standing (Some (as_written name w true)) (behind is_semicolon (drop (quoted_len (s ++ 0x22 ∷ r)) (s ++ 0x22 ∷ r)))) text
+    ∙ (ap (λ w. standing (Some (as_written name w true)) (after is_semicolon (drop (quoted_len (s ++ 0x22 ∷ r)) (s ++ 0x22 ∷ r)))) text
     ∙ ap (λ w. standing (Some (as_written name s true)) w) left)
 
 valued_again : (name v r : List ℕ) (b : Bool) → is_a_token v ≡ b → lower name ≡ name → Stops is_semicolon r
-    → segment_said (valued name ((if b then v else in_quotes v) ++ r)) ≡ segment_of (Some (parameter_of name v)) (behind is_semicolon r)
+    → segment_said (valued name ((if b then v else in_quotes v) ++ r)) ≡ segment_of (Some (parameter_of name v)) (after is_semicolon r)
 valued_again name v r true is same stops =
-    ap segment_said (bare_again name v r is stops) ∙ ap (λ n. segment_of (Some (parameter_of n v)) (behind is_semicolon r)) same
+    ap segment_said (bare_again name v r is stops) ∙ ap (λ n. segment_of (Some (parameter_of n v)) (after is_semicolon r)) same
 valued_again name v r false is same stops =
     ap segment_said (quoted_again name v r stops)
-    ∙ (ap (λ w. segment_of (Some (parameter_of (lower name) w)) (behind is_semicolon r)) (unescaped v)
-    ∙ ap (λ n. segment_of (Some (parameter_of n v)) (behind is_semicolon r)) same)
+    ∙ (ap (λ w. segment_of (Some (parameter_of (lower name) w)) (after is_semicolon r)) (unescaped v)
+    ∙ ap (λ n. segment_of (Some (parameter_of n v)) (after is_semicolon r)) same)
 
 -- a segment
 pub segment_again : (name v r : List ℕ) → is_a_token name ≡ true → lower name ≡ name → Stops is_semicolon r
-    → segment (name ++ 0x3D ∷ (value_text v ++ r)) ≡ segment_of (Some (parameter_of name v)) (behind is_semicolon r)
+    → segment (name ++ 0x3D ∷ (value_text v ++ r)) ≡ segment_of (Some (parameter_of name v)) (after is_semicolon r)
 unfolding segment stands
 segment_again [] v r token same stops = absurd (false≢true token)
 segment_again (x ∷ name) v r token same stops =
@@ -152,14 +152,14 @@ unfolding parameters_text
 text_stops [] = tt
 text_stops (p ∷ ps) = refl
 
-pub written_again : (ps : List Parameter) → AllByRecursion Clean ps → written (behind is_semicolon (parameters_text ps)) ≡ ps
-written_again [] all = ap (λ s. written (behind is_semicolon s)) text_none ∙ none_left [] refl
+pub written_again : (ps : List Parameter) → AllByRecursion Clean ps → written (after is_semicolon (parameters_text ps)) ≡ ps
+written_again [] all = ap (λ s. written (after is_semicolon s)) text_none ∙ none_left [] refl
 written_again (p ∷ ps) all =
     let r = parameters_text ps in
-    let text : behind is_semicolon (parameters_text (p ∷ ps)) ≡ p.name ++ 0x3D ∷ (value_text p.value ++ r)
-    = ap (behind is_semicolon) (text_more p ps) ∙ append_assoc p.name (0x3D ∷ value_text p.value) r in
+    let text : after is_semicolon (parameters_text (p ∷ ps)) ≡ p.name ++ 0x3D ∷ (value_text p.value ++ r)
+    = ap (after is_semicolon) (text_more p ps) ∙ append_assoc p.name (0x3D ∷ value_text p.value) r in
     let is = segment_again p.name p.value r all.0.token all.0.lowered (text_stops ps) in
     let some : 0 < length (p.name ++ 0x3D ∷ (value_text p.value ++ r)) = omega (arith, length-append p.name (0x3D ∷ (value_text p.value ++ r))) in
     ap written text
-    ∙ (first_written (p.name ++ 0x3D ∷ (value_text p.value ++ r)) (Some p) (behind is_semicolon r) (sym is) some
+    ∙ (first_written (p.name ++ 0x3D ∷ (value_text p.value ++ r)) (Some p) (after is_semicolon r) (sym is) some
     ∙ ap (λ qs. p ∷ qs) (written_again ps all.1))

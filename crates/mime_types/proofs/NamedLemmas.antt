@@ -23,7 +23,7 @@ module _ (name : List ℕ) where
   first_append [] ys = refl
   first_append (x ∷ xs) ys = append_cases x None xs ys (is_named name x) (first_append xs ys)
 
-  -- the first segment's, or that of those behind it
+  -- the first segment's, or that of those after it
   pub value_first : (s : List ℕ) (o : Option Parameter) (r : List ℕ) → segment_of o r ≡ segment s → 0 < length s
       → first_value name (written s) ≡ option_or (first_value name (option_to_list o)) (first_value name (written r))
   value_first s o r is some = ap (first_value name) (first_written s o r is some) ∙ first_append (option_to_list o) (written r)
@@ -34,7 +34,7 @@ module _ (name : List ℕ) where
   pub name_is : (p : Parameter) → is_named name p ≡ true → p.name ≡ name
   name_is p named = (bytes_eq-Decides p.name name).0 (and_parts (is_valid p) (bytes_eq p.name name) named).1
 
-  -- it is the first of its name behind those of other names
+  -- it is the first of its name after those of other names
   pub first_named : (e : List Parameter) (p : Parameter) → is_named name p ≡ true → list_any (is_named name) e ≡ false → is_first e p ≡ true
   first_named e p named none =
       ap (λ b. b && not (list_any (is_named p.name) e)) (and_parts (is_valid p) (bytes_eq p.name name) named).0
@@ -83,7 +83,7 @@ module _ (name : List ℕ) where
   unfolding kept
   nothing_kept e = refl
 
-  -- behind parameters of other names
+  -- after parameters of other names
   pub value_kept : (e ps : List Parameter) → list_any (is_named name) e ≡ false → value_of name (kept e ps) ≡ first_value name ps
   value_kept e [] none = nothing_kept e
   value_kept e (p ∷ ps) none =

@@ -1,16 +1,16 @@
--- The first piece, and those behind its comma.
+-- The first piece, and those after its comma.
 use Rattle.std.proofs.Common.{◌≡◌, ◌↔◌, ◌⊎◌, ◌≤◌, inl, inr, codes, ◌∙◌, ◌++◌, ◌∷◌, [], ℕ, zero, suc, ◌+◌, ◌<◌, List, Bool, Bor, Option, None, Some, true, false, ap, append_assoc, arith, drop, if◌then◌else◌, length, refl, sym, take}
 use Rattle.std.proofs.lemmas.Bool.{cases_lt}
 use Rattle.std.proofs.lemmas.List.{append-nil, take_all}
 use Rattle.mime_types.specs.Laws.{BeginsNosniff, commas}
 use Rattle.mime_types.specs.Nosniff.{IsNosniff, ends_piece, next_place, piece_len, trim_blanks}
-use Rattle.mime_types.specs.Pieces.{IsBehind, pieces, pieces_from, pieces_of}
+use Rattle.mime_types.specs.Pieces.{IsAfter, pieces, pieces_from, pieces_of}
 use Rattle.mime_types.specs.Text.{lower}
 use Rattle.mime_types.specs.declared.nosniff.Place.{Place}
 use Rattle.mime_types.specs.declared.nosniff.Place.TheVariants.{Outside}
 
 module _ (place : Place) (piece : List ℕ) (x : ℕ) (s : List ℕ) where
-  -- the last piece, and one behind which another comes, by the first byte
+  -- the last piece, and one after which another comes, by the first byte
   last_step : (b : Bool) → ends_piece place x ≡ b → piece_len place (x ∷ s) ≡ length (x ∷ s)
       → (piece_len (next_place place x) s ≡ length s → pieces_from (next_place place x) (piece ++ x ∷ []) s ≡ trim_blanks ((piece ++ x ∷ []) ++ s) ∷ [])
       → pieces_from place piece (x ∷ s) ≡ trim_blanks (piece ++ x ∷ s) ∷ []
@@ -61,11 +61,11 @@ pub next_piece : (s : List ℕ) (n : ℕ) → n ≡ piece_len Outside s → n < 
 unfolding pieces
 next_piece s n is within = next_from Outside [] s n is within
 
-pub piece_behind : (value : List ℕ) (n : ℕ) (rest : Option (Bor (List ℕ))) → n ≡ piece_len Outside value → IsBehind value n rest
+pub piece_after : (value : List ℕ) (n : ℕ) (rest : Option (Bor (List ℕ))) → n ≡ piece_len Outside value → IsAfter value n rest
     → pieces value ≡ trim_blanks (take n value) ∷ pieces_of rest
-piece_behind value n None is end =
+piece_after value n None is end =
     last_piece value (sym is ∙ end) ∙ ap (λ p. trim_blanks p ∷ []) (sym (take_all n value (omega (arith, end))))
-piece_behind value n (Some r) is (within, e) =
+piece_after value n (Some r) is (within, e) =
     next_piece value n is within ∙ ap (λ l. trim_blanks (take n value) ∷ pieces l) (sym e)
 
 -- there is a first piece, and one piece more than commas

@@ -6,8 +6,8 @@ use Rattle.std.specs.Prelude.{cond, nat_lt}
 use Rattle.mime_types.specs.Bytes.{is_token}
 use Rattle.mime_types.specs.Mime.{Mime, Parameter}
 use Rattle.mime_types.specs.Parameters.{parameters}
-use Rattle.mime_types.specs.Parse.{Parsed, behind_slash_first, if_token, subtype_before, subtype_text, tail_text, type_text}
-use Rattle.mime_types.specs.Text.{behind, behind_tokens, is_a_token, is_semicolon, lower, tokens_before, trim}
+use Rattle.mime_types.specs.Parse.{Parsed, after_slash_first, if_token, subtype_before, subtype_text, tail_text, type_text}
+use Rattle.mime_types.specs.Text.{after, after_tokens, is_a_token, is_semicolon, lower, tokens_before, trim}
 use Rattle.mime_types.proofs.TokenLemmas.{SlashTold, all_before, slash_told}
 
 abbrev mime : List ℕ → List ℕ → List Parameter → Mime
@@ -84,11 +84,11 @@ if_something s some = cases (is_a_token s) refl some
     cases true is e = is
     cases false is e = absurd (false≢true (sym e))
 
--- a type, what stands behind its "/", and a subtype, as they are cut
-module _ (t a b s : List ℕ) (type_cut : a ≡ tokens_before (trim t)) (behind_cut : b ≡ behind_slash_first (behind_tokens (trim t)))
+-- a type, what stands after its "/", and a subtype, as they are cut
+module _ (t a b s : List ℕ) (type_cut : a ≡ tokens_before (trim t)) (after_cut : b ≡ after_slash_first (after_tokens (trim t)))
     (subtype_cut : s ≡ if_token (subtype_before b)) where
   told : SlashTold (trim t) b
-  told = subst (SlashTold (trim t)) (sym behind_cut) (slash_told (trim t))
+  told = subst (SlashTold (trim t)) (sym after_cut) (slash_told (trim t))
 
   pub no_tokens : ((length a == 0) ≡ true) ⊎ ((length s == 0) ≡ true) → (is_a_token (type_text t) && is_a_token (subtype_text t)) ≡ false
   no_tokens none = cases told none
@@ -110,7 +110,7 @@ module _ (t a b s : List ℕ) (type_cut : a ≡ tokens_before (trim t)) (behind_
     pub type_token : is_a_token a ≡ true
     pub subtype_token : is_a_token s ≡ true
 
-  pub said : (tail : List ℕ) → (IsTrue (is_a_token (subtype_before b)) → tail ≡ behind is_semicolon b) → (length a == 0) ≡ false → (length s == 0) ≡ false → Said tail
+  pub said : (tail : List ℕ) → (IsTrue (is_a_token (subtype_before b)) → tail ≡ after is_semicolon b) → (length a == 0) ≡ false → (length s == 0) ≡ false → Said tail
   said tail tail_cut some_type some_subtype = cases told
     where
       token : is_a_token (subtype_before b) ≡ true
@@ -123,7 +123,7 @@ module _ (t a b s : List ℕ) (type_cut : a ≡ tokens_before (trim t)) (behind_
       cases (inl (f, g)) = record {
         type_is = type_cut ∙ sym f;
         subtype_is = itself ∙ ap subtype_before (sym g);
-        tail_is = tail_cut token ∙ ap (behind is_semicolon) (sym g);
+        tail_is = tail_cut token ∙ ap (after is_semicolon) (sym g);
         type_token =
             ap (λ n. n && list_all is_token a) (some_length a some_type) ∙ (ap (list_all is_token) type_cut ∙ all_before is_token (trim t));
         subtype_token = ap is_a_token itself ∙ token;

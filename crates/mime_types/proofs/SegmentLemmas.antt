@@ -2,7 +2,7 @@
 use Rattle.std.proofs.Common.{◌≡◌, ◌==◌, ◌∙◌, ◌∷◌, [], ℕ, ◌+◌, ◌<◌, ◌≤◌, List, Bool, Option, true, false, None, Some, ap, arith, drop, get_or, length, length-drop, option_map, refl, sym, if◌then◌else◌}
 use Rattle.mime_types.specs.Seen.{parameter_seen, segment_seen, standing_seen, written_seen}
 use Rattle.mime_types.specs.Segment.{bare, named, parameter_said, quoted, quoted_len, segment, segment_of, segment_said, standing, stands, valued}
-use Rattle.mime_types.specs.Text.{behind, ends_name, front, is_semicolon, onward, trim_start, before}
+use Rattle.mime_types.specs.Text.{after, ends_name, front, is_semicolon, onward, trim_start, before}
 use Rattle.mime_types.specs.declared.parameter.Parameter.{Parameter}
 use Rattle.mime_types.specs.declared.segment.Segment.{Segment}
 
@@ -11,18 +11,18 @@ closes [] some is = refl
 closes (x ∷ []) some is = let e : x ≡ 0x22 = is in rw e refl
 closes (x ∷ y ∷ s) some is = let e : x ≡ 0x22 = is in rw e refl
 
-behind_shorter : (t : List ℕ) → length (behind is_semicolon t) ≤ length t
-behind_shorter t = omega (arith, length-drop (before is_semicolon t + 1) t)
+after_shorter : (t : List ℕ) → length (after is_semicolon t) ≤ length t
+after_shorter t = omega (arith, length-drop (before is_semicolon t + 1) t)
 
 bare_shorter : (name s : List ℕ) → length (bare name s).rest ≤ length s
-bare_shorter name s = behind_shorter s
+bare_shorter name s = after_shorter s
 
 valued_shorter : (name s : List ℕ) → length (valued name s).rest ≤ length s
 valued_shorter name [] = bare_shorter name []
 valued_shorter name (x ∷ s) = cases (x == 0x22)
   where
     cases : (b : Bool) → length (if b then quoted name s else bare name (x ∷ s)).rest ≤ length (x ∷ s)
-    cases true = let less = behind_shorter (drop (quoted_len s) s) in omega (arith, length-drop (quoted_len s) s)
+    cases true = let less = after_shorter (drop (quoted_len s) s) in omega (arith, length-drop (quoted_len s) s)
     cases false = bare_shorter name (x ∷ s)
 
 named_shorter : (name s : List ℕ) (n : ℕ) → length s ≤ n → 0 < n → length (named name s).rest < n

@@ -13,9 +13,9 @@ module _ (t : List ℕ) where
   ends_at n within is = let same : n ≡ length t - suffix_len is_white t = omega arith in ap (λ i. take i t) same
 
   -- the last byte that is no white space stands at m
-  pub ends_behind : (m : ℕ) → m < length t → ((k : ℕ) → m < k → k < length t → is_white (get_or t k 0) ≡ true)
+  pub ends_after : (m : ℕ) → m < length t → ((k : ℕ) → m < k → k < length t → is_white (get_or t k 0) ≡ true)
       → is_white (get_or t m 0) ≡ false → take (m + 1) t ≡ trim_end t
-  ends_behind m within white last =
+  ends_after m within white last =
       ends_at (m + 1) (omega arith)
       (suffix_len_is is_white t (m + 1) 0 (omega arith) (λ k low high. white k (omega arith) high)
       (λ some. let same : m + 1 - 1 ≡ m = omega arith in ap (λ i. is_white (get_or t i 0)) same ∙ last))

@@ -8,9 +8,9 @@ use Rattle.std.proofs.lemmas.List.Folds.{length-prefix_len, list_all-append}
 use Rattle.std.specs.List.{list_all, prefix_len, suffix_len}
 use Rattle.std.specs.Prelude.{cond, nat_le, nat_lt, not, slice_index_or}
 use Rattle.mime_types.specs.Bytes.{is_token, is_white}
-use Rattle.mime_types.specs.Parse.{behind_semicolon_first, behind_slash_first, if_token, subtype_before}
-use Rattle.mime_types.specs.Text.{before, behind, behind_tokens, front, is_a_token, is_semicolon, is_slash, tokens_before, trim_end, trim_start}
-use Rattle.mime_types.proofs.CutLemmas.{EndsDark, behind_cut, behind_whole, front_cut, front_whole, no_end, other_byte, token_dark}
+use Rattle.mime_types.specs.Parse.{after_semicolon_first, after_slash_first, if_token, subtype_before}
+use Rattle.mime_types.specs.Text.{before, after, after_tokens, front, is_a_token, is_semicolon, is_slash, tokens_before, trim_end, trim_start}
+use Rattle.mime_types.proofs.CutLemmas.{EndsDark, after_cut, after_whole, front_cut, front_whole, no_end, other_byte, token_dark}
 
 one_more : (n : ℕ) → 1 + n ≡ suc n
 one_more n = omega arith
@@ -100,7 +100,7 @@ dark_stays a c r dark =
         let most = no_further is_white (reverse r) c (reverse a) dark in
         omega (arith, most, length-reverse r, ap (prefix_len is_white) turned)
 
--- white space behind a token goes
+-- white space after a token goes
 module _ (s w : List ℕ) (white : list_all is_white w ≡ true) where
   all_go : trim_end w ≡ []
   all_go =
@@ -123,9 +123,9 @@ module _ (s w : List ℕ) (white : list_all is_white w ≡ true) where
       left_over : length (s ++ w) - suffix_len is_white (s ++ w) ≡ length s
       left_over = omega (arith, all, length-append s w)
 
-trimmed_behind : (s w : List ℕ) → list_all is_token s ≡ true → list_all is_white w ≡ true → trim_end (s ++ w) ≡ s
-trimmed_behind [] w tokens white = all_go [] w white
-trimmed_behind (x ∷ s) w tokens white = dark_end (x ∷ s) w white (token_dark (x ∷ s) (omega arith) tokens)
+trimmed_after : (s w : List ℕ) → list_all is_token s ≡ true → list_all is_white w ≡ true → trim_end (s ++ w) ≡ s
+trimmed_after [] w tokens white = all_go [] w white
+trimmed_after (x ∷ s) w tokens white = dark_end (x ∷ s) w white (token_dark (x ∷ s) (omega arith) tokens)
 
 -- a part goes on over bytes that do not end it
 module _ (ends : ℕ → Bool) where
@@ -155,11 +155,11 @@ subtype_tells t a tokens e is =
     ∙ (sym (append_assoc (take n (take k t)) (drop n (take k t)) (drop k t))
     ∙ (ap (λ x. x ++ drop k t) (take-append-drop n (take k t)) ∙ take-append-drop k t))) is
 
--- what a text says that is cut behind its tokens, if a "/" stands there: and otherwise it says no type
+-- what a text says that is cut after its tokens, if a "/" stands there: and otherwise it says no type
 abbrev pub SlashTold : List ℕ → List ℕ → Type 0
 SlashTold t b =
-    ((front is_slash t ≡ tokens_before t) × (behind is_slash t ≡ b))
-    ⊎ ((b ≡ []) × ((list_all is_token (front is_slash t) && is_a_token (subtype_before (behind is_slash t))) ≡ false))
+    ((front is_slash t ≡ tokens_before t) × (after is_slash t ≡ b))
+    ⊎ ((b ≡ []) × ((list_all is_token (front is_slash t) && is_a_token (subtype_before (after is_slash t))) ≡ false))
 
 and_false : (b : Bool) → (b && false) ≡ false
 and_false true = refl
@@ -185,29 +185,29 @@ if_itself (x ∷ s) all =
     sym (ap (λ b. cond (b && list_all is_token (x ∷ s)) (x ∷ s) []) some ∙ ap (λ b. cond b (x ∷ s) []) all)
 
 module _ (t : List ℕ) where
-  whole : t ≡ tokens_before t ++ behind_tokens t
+  whole : t ≡ tokens_before t ++ after_tokens t
   whole = sym (take-append-drop (prefix_len is_token t) t)
 
-  joined : (b : List ℕ) → behind_tokens t ≡ b → t ≡ tokens_before t ++ b
+  joined : (b : List ℕ) → after_tokens t ≡ b → t ≡ tokens_before t ++ b
   joined b is = whole ∙ ap (λ x. tokens_before t ++ x) is
 
   no_slash : list_all (λ x. not (is_slash x)) (tokens_before t) ≡ true
   no_slash = no_end is_slash (other_byte 0x2F refl) (tokens_before t) (all_before is_token t)
 
-  told_nothing : behind_tokens t ≡ [] → (list_all is_token (front is_slash t) && is_a_token (subtype_before (behind is_slash t))) ≡ false
+  told_nothing : after_tokens t ≡ [] → (list_all is_token (front is_slash t) && is_a_token (subtype_before (after is_slash t))) ≡ false
   told_nothing is =
       ap (λ s. list_all is_token (front is_slash t) && is_a_token (subtype_before s)) none ∙ and_false (list_all is_token (front is_slash t))
     where
-      none : behind is_slash t ≡ []
+      none : after is_slash t ≡ []
       none =
-          ap (behind is_slash) (joined [] is ∙ append-nil (tokens_before t)) ∙ behind_whole is_slash (tokens_before t) no_slash
+          ap (after is_slash) (joined [] is ∙ append-nil (tokens_before t)) ∙ after_whole is_slash (tokens_before t) no_slash
 
-  told_of : (x : ℕ) (r : List ℕ) → behind_tokens t ≡ x ∷ r → (b : Bool) → is_slash x ≡ b → SlashTold t (cond b r [])
+  told_of : (x : ℕ) (r : List ℕ) → after_tokens t ≡ x ∷ r → (b : Bool) → is_slash x ≡ b → SlashTold t (cond b r [])
   told_of x r is true same = inl (
     ap (front is_slash) (joined (x ∷ r) is) ∙ front_cut is_slash (tokens_before t) no_slash x r same,
-    ap (behind is_slash) (joined (x ∷ r) is) ∙ behind_cut is_slash (tokens_before t) no_slash x r same,
+    ap (after is_slash) (joined (x ∷ r) is) ∙ after_cut is_slash (tokens_before t) no_slash x r same,
   )
-  told_of x r is false other = inr (refl, ap (λ b. b && is_a_token (subtype_before (behind is_slash t))) bad)
+  told_of x r is false other = inr (refl, ap (λ b. b && is_a_token (subtype_before (after is_slash t))) bad)
     where
       bad : list_all is_token (front is_slash t) ≡ false
       bad =
@@ -217,23 +217,23 @@ module _ (t : List ℕ) where
           ∙ (ap (λ b. list_all is_token (tokens_before t) && (b && list_all is_token (front is_slash r))) (stopped is_token t x r is)
           ∙ and_false (list_all is_token (tokens_before t)))))
 
-  pub slash_told : SlashTold t (behind_slash_first (behind_tokens t))
-  slash_told = cases (behind_tokens t) refl
+  pub slash_told : SlashTold t (after_slash_first (after_tokens t))
+  slash_told = cases (after_tokens t) refl
     where
-      cases : (b : List ℕ) → behind_tokens t ≡ b → SlashTold t (behind_slash_first b)
+      cases : (b : List ℕ) → after_tokens t ≡ b → SlashTold t (after_slash_first b)
       cases [] is = inr (refl, told_nothing is)
       cases (x ∷ r) is = told_of x r is (is_slash x) refl
 
-  -- the white space behind the tokens
+  -- the white space after the tokens
   abbrev blanks : List ℕ
-  blanks = take (prefix_len is_white (behind_tokens t)) (behind_tokens t)
+  blanks = take (prefix_len is_white (after_tokens t)) (after_tokens t)
 
   blanks_white : list_all is_white blanks ≡ true
-  blanks_white = all_before is_white (behind_tokens t)
+  blanks_white = all_before is_white (after_tokens t)
 
-  cut : (b : List ℕ) → trim_start (behind_tokens t) ≡ b → t ≡ (tokens_before t ++ blanks) ++ b
+  cut : (b : List ℕ) → trim_start (after_tokens t) ≡ b → t ≡ (tokens_before t ++ blanks) ++ b
   cut b is =
-      joined (blanks ++ b) (sym (take-append-drop (prefix_len is_white (behind_tokens t)) (behind_tokens t)) ∙ ap (λ x. blanks ++ x) is)
+      joined (blanks ++ b) (sym (take-append-drop (prefix_len is_white (after_tokens t)) (after_tokens t)) ∙ ap (λ x. blanks ++ x) is)
       ∙ sym (append_assoc (tokens_before t) blanks b)
 
   no_semicolon : list_all (λ x. not (is_semicolon x)) (tokens_before t ++ blanks) ≡ true
@@ -242,26 +242,26 @@ module _ (t : List ℕ) where
       ∙ (ap (λ b. b && list_all (λ x. not (is_semicolon x)) blanks) (no_end is_semicolon (other_byte 0x3B refl) (tokens_before t) (all_before is_token t))
       ∙ white_goes_on blanks blanks_white)
 
-  -- the tokens are the subtype if nothing but white space stands behind them in its part
+  -- the tokens are the subtype if nothing but white space stands after them in its part
   is_subtype : front is_semicolon t ≡ tokens_before t ++ blanks → tokens_before t ≡ if_token (subtype_before t)
   is_subtype part =
       if_itself (tokens_before t) (all_before is_token t)
-      ∙ ap if_token (sym (trimmed_behind (tokens_before t) blanks (all_before is_token t) blanks_white) ∙ ap trim_end (sym part))
+      ∙ ap if_token (sym (trimmed_after (tokens_before t) blanks (all_before is_token t) blanks_white) ∙ ap trim_end (sym part))
 
-  ends_there : trim_start (behind_tokens t) ≡ [] → (tokens_before t ≡ if_token (subtype_before t)) × ([] ≡ behind is_semicolon t)
+  ends_there : trim_start (after_tokens t) ≡ [] → (tokens_before t ≡ if_token (subtype_before t)) × ([] ≡ after is_semicolon t)
   ends_there is =
       let same = cut [] is ∙ append-nil (tokens_before t ++ blanks) in (
         is_subtype (ap (front is_semicolon) same ∙ front_whole is_semicolon (tokens_before t ++ blanks) no_semicolon),
-        sym (ap (behind is_semicolon) same ∙ behind_whole is_semicolon (tokens_before t ++ blanks) no_semicolon),
+        sym (ap (after is_semicolon) same ∙ after_whole is_semicolon (tokens_before t ++ blanks) no_semicolon),
       )
 
-  semicolon_there : (x : ℕ) (r : List ℕ) → trim_start (behind_tokens t) ≡ x ∷ r → is_semicolon x ≡ true → (tokens_before t ≡ if_token (subtype_before t)) × (r ≡ behind is_semicolon t)
+  semicolon_there : (x : ℕ) (r : List ℕ) → trim_start (after_tokens t) ≡ x ∷ r → is_semicolon x ≡ true → (tokens_before t ≡ if_token (subtype_before t)) × (r ≡ after is_semicolon t)
   semicolon_there x r is same = (
     is_subtype (ap (front is_semicolon) (cut (x ∷ r) is) ∙ front_cut is_semicolon (tokens_before t ++ blanks) no_semicolon x r same),
-    sym (ap (behind is_semicolon) (cut (x ∷ r) is) ∙ behind_cut is_semicolon (tokens_before t ++ blanks) no_semicolon x r same),
+    sym (ap (after is_semicolon) (cut (x ∷ r) is) ∙ after_cut is_semicolon (tokens_before t ++ blanks) no_semicolon x r same),
   )
 
-  other_there : (c : ℕ) (r : List ℕ) → trim_start (behind_tokens t) ≡ c ∷ r → is_semicolon c ≡ false → is_a_token (subtype_before t) ≡ false
+  other_there : (c : ℕ) (r : List ℕ) → trim_start (after_tokens t) ≡ c ∷ r → is_semicolon c ≡ false → is_a_token (subtype_before t) ≡ false
   other_there c r is other =
       sym (subtype_tells t (subtype_before t) (prefix_len is_token t) refl refl)
       ∙ (ap (λ b. nat_lt 0 (length (subtype_before t)) && b) (lt-leb (length (subtype_before t)) (prefix_len is_token t) more)
@@ -275,44 +275,44 @@ module _ (t : List ℕ) where
           omega (
             arith,
             ap length part,
-            dark_stays (tokens_before t ++ blanks) c (front is_semicolon r) (stopped is_white (behind_tokens t) c r is),
+            dark_stays (tokens_before t ++ blanks) c (front is_semicolon r) (stopped is_white (after_tokens t) c r is),
             length-append (tokens_before t) blanks,
             length-prefix_len is_token t,
           )
 
   abbrev pub Told : List ℕ → Type 0
-  Told tail = (tokens_before t ≡ if_token (subtype_before t)) × (tail ≡ behind is_semicolon t)
+  Told tail = (tokens_before t ≡ if_token (subtype_before t)) × (tail ≡ after is_semicolon t)
 
-  pub subtype_told : (tail : List ℕ) → Some tail ≡ behind_semicolon_first (trim_start (behind_tokens t)) → Told tail
-  subtype_told tail is = cases (trim_start (behind_tokens t)) refl is
+  pub subtype_told : (tail : List ℕ) → Some tail ≡ after_semicolon_first (trim_start (after_tokens t)) → Told tail
+  subtype_told tail is = cases (trim_start (after_tokens t)) refl is
     where
-      told : (x : ℕ) (r : List ℕ) → trim_start (behind_tokens t) ≡ x ∷ r → (b : Bool) → is_semicolon x ≡ b → Some tail ≡ cond b (Some r) None → Told tail
+      told : (x : ℕ) (r : List ℕ) → trim_start (after_tokens t) ≡ x ∷ r → (b : Bool) → is_semicolon x ≡ b → Some tail ≡ cond b (Some r) None → Told tail
       told x r e true same is = let it : r ≡ tail = cc in subst Told it (semicolon_there x r e same)
       told x r e false other is = cc
 
-      cases : (b : List ℕ) → trim_start (behind_tokens t) ≡ b → Some tail ≡ behind_semicolon_first b → Told tail
+      cases : (b : List ℕ) → trim_start (after_tokens t) ≡ b → Some tail ≡ after_semicolon_first b → Told tail
       cases [] e is = let it : [] ≡ tail = cc in subst Told it (ends_there e)
       cases (x ∷ r) e is = told x r e (is_semicolon x) refl is
 
-  pub no_subtype_told : None ≡ behind_semicolon_first (trim_start (behind_tokens t)) → is_a_token (subtype_before t) ≡ false
-  no_subtype_told is = cases (trim_start (behind_tokens t)) refl is
+  pub no_subtype_told : None ≡ after_semicolon_first (trim_start (after_tokens t)) → is_a_token (subtype_before t) ≡ false
+  no_subtype_told is = cases (trim_start (after_tokens t)) refl is
     where
-      told : (x : ℕ) (r : List ℕ) → trim_start (behind_tokens t) ≡ x ∷ r → (b : Bool) → is_semicolon x ≡ b → None ≡ cond b (Some r) None
+      told : (x : ℕ) (r : List ℕ) → trim_start (after_tokens t) ≡ x ∷ r → (b : Bool) → is_semicolon x ≡ b → None ≡ cond b (Some r) None
           → is_a_token (subtype_before t) ≡ false
       told x r e true same is = cc
       told x r e false other is = other_there x r e other
 
-      cases : (b : List ℕ) → trim_start (behind_tokens t) ≡ b → None ≡ behind_semicolon_first b → is_a_token (subtype_before t) ≡ false
+      cases : (b : List ℕ) → trim_start (after_tokens t) ≡ b → None ≡ after_semicolon_first b → is_a_token (subtype_before t) ≡ false
       cases [] e is = cc
       cases (x ∷ r) e is = told x r e (is_semicolon x) refl is
 
 -- four tokens more
-passes : (x : ℕ) (s : List ℕ) → is_token x ≡ true → behind_tokens (x ∷ s) ≡ behind_tokens s
+passes : (x : ℕ) (s : List ℕ) → is_token x ≡ true → after_tokens (x ∷ s) ≡ after_tokens s
 passes x s is = ap (λ b. drop (cond b (1 + prefix_len is_token s) 0) (x ∷ s)) is ∙ drop_one (prefix_len is_token s) x s
 
 pub four_pass : (s : List ℕ) → 4 ≤ length s
     → (((is_token (slice_index_or s 0 0) && is_token (slice_index_or s 1 0)) && is_token (slice_index_or s 2 0)) && is_token (slice_index_or s 3 0)) ≡ true
-    → behind_tokens (take (length s - 4) (drop 4 s)) ≡ behind_tokens s
+    → after_tokens (take (length s - 4) (drop 4 s)) ≡ after_tokens s
 four_pass [] long all = absurd (omega (arith, long))
 four_pass (a ∷ []) long all = absurd (omega (arith, long))
 four_pass (a ∷ b ∷ []) long all = absurd (omega (arith, long))
@@ -321,5 +321,5 @@ four_pass (a ∷ b ∷ c ∷ d ∷ s) long all =
     let fourth = and_parts ((is_token a && is_token b) && is_token c) (is_token d) all in
     let third = and_parts (is_token a && is_token b) (is_token c) fourth.0 in
     let both = and_parts (is_token a) (is_token b) third.0 in
-    ap behind_tokens (take_all (length (a ∷ b ∷ c ∷ d ∷ s) - 4) s (omega arith))
+    ap after_tokens (take_all (length (a ∷ b ∷ c ∷ d ∷ s) - 4) s (omega arith))
     ∙ sym (passes a (b ∷ c ∷ d ∷ s) both.0 ∙ (passes b (c ∷ d ∷ s) both.1 ∙ (passes c (d ∷ s) third.1 ∙ passes d s fourth.1)))

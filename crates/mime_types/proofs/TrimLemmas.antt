@@ -11,7 +11,7 @@ use Rattle.mime_types.specs.Pieces.{pieces, pieces_from}
 use Rattle.mime_types.specs.Parameters.{parameters}
 use Rattle.mime_types.specs.Parse.{subtype_before}
 use Rattle.mime_types.specs.Seen.{mime_of}
-use Rattle.mime_types.specs.Text.{behind, front, is_a_token, is_semicolon, is_slash, lower, trim, trim_end, trim_start}
+use Rattle.mime_types.specs.Text.{after, front, is_a_token, is_semicolon, is_slash, lower, trim, trim_end, trim_start}
 use Rattle.mime_types.specs.declared.extraction.Extracted.{Extracted}
 use Rattle.mime_types.specs.declared.nosniff.Place.{Place}
 use Rattle.mime_types.specs.declared.nosniff.Place.TheVariants.{Escaped, Outside, Quoted}
@@ -86,13 +86,13 @@ blank_white x is = elim (or_cases (x == 0x09) (x == 0x20) is) as (λ _. is_white
 -- what a trimmed piece says
 abbrev said_of : List ℕ → Mime
 said_of t = record {
-  kind = record { type_name = lower (front is_slash t); subtype = lower (subtype_before (behind is_slash t)) };
-  parameters = parameters (behind is_semicolon (behind is_slash t));
+  kind = record { type_name = lower (front is_slash t); subtype = lower (subtype_before (after is_slash t)) };
+  parameters = parameters (after is_semicolon (after is_slash t));
 }
 
 abbrev usable_of : List ℕ → Option Mime
 usable_of t =
-    if (is_a_token (front is_slash t) && is_a_token (subtype_before (behind is_slash t))) && not (is_any (said_of t).kind) then Some (said_of t) else None
+    if (is_a_token (front is_slash t) && is_a_token (subtype_before (after is_slash t))) && not (is_any (said_of t).kind) then Some (said_of t) else None
 
 same_usable : (a b : List ℕ) → trim a ≡ trim b → usable a ≡ usable b
 same_usable a b same = ap usable_of same

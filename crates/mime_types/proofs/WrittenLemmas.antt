@@ -22,7 +22,7 @@ pub all_left : (s : List ℕ) → left_by 0 s ≡ s
 unfolding left_by
 all_left s = refl
 
--- the first n segments, and those behind them
+-- the first n segments, and those after them
 pub written_split : (n m k : ℕ) (s : List ℕ) → n + m ≡ k → written_by k s ≡ written_by n s ++ written_by m (left_by n s)
 unfolding written_by left_by
 written_split zero m k s e = let same : k ≡ m = omega arith in ap (λ i. written_by i s) same
@@ -67,7 +67,7 @@ written_suc : (n : ℕ) (s : List ℕ) → written_by (suc n) s ≡ first_of s +
 unfolding written_by
 written_suc n s = refl
 
--- what all segments write is what the first writes, and then what those behind it do
+-- what all segments write is what the first writes, and then what those after it do
 pub written_first : (s : List ℕ) → 0 < length s → written s ≡ first_of s ++ written (segment s).rest
 written_first s some =
     let n = length s - 1 in
@@ -102,7 +102,7 @@ module _ (n : ℕ) (s rest : List ℕ) (o : Option Parameter) (r : List ℕ) (he
   pub next_test : (test : Parameter → Bool) → list_any test (written_by (n + 1) s) ≡ (list_any test (written_by n s) || list_any test (option_to_list o))
   next_test test = ap (list_any test) next_written ∙ list_any-append test (written_by n s) (option_to_list o)
 
--- what the first segment writes, and what is left behind it
+-- what the first segment writes, and what is left after it
 pub first_written : (s : List ℕ) (o : Option Parameter) (r : List ℕ) → segment_of o r ≡ segment s → 0 < length s → written s ≡ option_to_list o ++ written r
 first_written s o r is some = written_first s some ∙ ap (λ g. option_to_list g.written ++ written g.rest) (sym is)
 

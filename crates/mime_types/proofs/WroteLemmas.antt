@@ -1,4 +1,4 @@
--- Texts that are written one behind the other.
+-- Texts that are written one after the other.
 use Rattle.std.proofs.Common.{◌≡◌, ◌==◌, ◌||◌, ◌∙◌, ◌++◌, ◌∷◌, [], ℕ, ◌+◌, ◌-◌, ◌≤◌, Bool, true, false, List, Option, None, Some, ap, append_assoc, arith, drop, if◌then◌else◌, length, length-append, option_map, subst, sym, take, refl}
 use Rattle.std.proofs.Math.Seq.{take-append-add}
 use Rattle.std.proofs.lemmas.List.{append-nil, drop_all, length-take-le, take-append-drop, take-append-le, take_all, take_at}
@@ -46,15 +46,15 @@ overlaid_both a b at end x y same ends within is =
     let more : length a - at ≡ length x + room = omega (arith, same, ends, within) in
     let middle : x ++ take room y ≡ take (length a - at) (x ++ y) = sym (ap (λ n. take n (x ++ y)) more ∙ take-append-add x y room) in
     let number : end + length y ≡ at + length (x ++ y) = omega (arith, ends, many) in
-    let behind : drop (end + length y) b ≡ drop (at + length (x ++ y)) a =
+    let after : drop (end + length y) b ≡ drop (at + length (x ++ y)) a =
     ap (drop (end + length y)) whole ∙ (drop-append-drop end a front (end + length y) (omega arith) long ∙ ap (λ n. drop n a) number) in
     ap (λ s. parts s (take room y) (drop (end + length y) b)) before
-    ∙ (ap (λ z. parts front (take room y) z) behind
+    ∙ (ap (λ z. parts front (take room y) z) after
     ∙ (append_assoc (take at a) x (take room y ++ drop (at + length (x ++ y)) a)
     ∙ (ap (λ s. take at a ++ s) (sym (append_assoc x (take room y) (drop (at + length (x ++ y)) a)))
     ∙ ap (λ t. parts (take at a) t (drop (at + length (x ++ y)) a)) middle)))
 
--- y behind x
+-- y after x
 pub wrote_both : (a b c : List ℕ) (at end : ℕ) (x y : List ℕ) (o : Option ℕ) → length b ≡ length a → Wrote a b at x (Some end) → Wrote b c end y o → Wrote a c at (x ++ y) o
 wrote_both a b c at end x y None same (ends, within, is) (short, also) =
     (omega (arith, same, ends, short, length-append x y), also ∙ overlaid_both a b at end x y same ends within is)
@@ -65,11 +65,11 @@ wrote_both a b c at end x y (Some last) same (ends, within, is) (stops, fits, al
 pub wrote_same : (a b : List ℕ) (at : ℕ) (x y : List ℕ) (o : Option ℕ) → x ≡ y → Wrote a b at x o → Wrote a b at y o
 wrote_same a b at x y o e h = rw (← e) h
 
--- w is x and y behind it. A result tells the end of x, or that there is no room for it
+-- w is x and y after it. A result tells the end of x, or that there is no room for it
 module _ (x y w : List ℕ) (whole : x ++ y ≡ w) (r : Option ℕ) where
   pub then_wrote : (a b c : List ℕ) (at end : ℕ) (o : Option ℕ) → length b ≡ length a → r ≡ Some end → Wrote a b at x r → Wrote b c end y o → Wrote a c at w o
-  then_wrote a b c at end o same is here behind =
-      wrote_same a c at (x ++ y) w o whole (wrote_both a b c at end x y o same (subst (λ q. Wrote a b at x q) is here) behind)
+  then_wrote a b c at end o same is here after =
+      wrote_same a c at (x ++ y) w o whole (wrote_both a b c at end x y o same (subst (λ q. Wrote a b at x q) is here) after)
 
   pub then_none : (a b : List ℕ) (at : ℕ) (o : Option ℕ) → r ≡ None → o ≡ None → Wrote a b at x r → Wrote a b at w o
   then_none a b at o is none here =
@@ -97,7 +97,7 @@ text_joined (p ∷ ps) qs =
 pub text_one : (p : Parameter) → parameters_text (p ∷ []) ≡ parameter_text p
 text_one p = text_more p [] ∙ (ap (λ s. parameter_text p ++ s) text_none ∙ append-nil (parameter_text p))
 
--- the charset stands behind the parameters
+-- the charset stands after the parameters
 pub text_together : (e : Extracted) (ps : List Parameter) → ps ≡ carried (charset_of (mime_of e.mime_type)) (option_map value_seen e.charset)
     → serialize (mime_of e.mime_type) ++ parameters_text ps ≡ serialize (mime_together e)
 text_together e ps is =

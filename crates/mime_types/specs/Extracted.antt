@@ -61,9 +61,9 @@ charset_of m = value_of (codes "charset") m.parameters
 pub record EndsInRun (ms : List Mime) (m : Mime) (charset : Option (List ℕ)) : Type 0 where
   pub front : List Mime
   pub first : Mime
-  pub behind : List Mime
-  pub whole : ms ≡ front ++ first ∷ behind
-  pub alike : AllByRecursion (λ x. x.kind ≡ first.kind) behind
+  pub after : List Mime
+  pub whole : ms ≡ front ++ first ∷ after
+  pub alike : AllByRecursion (λ x. x.kind ≡ first.kind) after
   pub other : (before : List Mime) (x : Mime) → front ≡ before ++ x ∷ [] → ¬ (x.kind ≡ first.kind)
   pub kind : m.kind ≡ first.kind
   pub earlier : List Mime
@@ -87,7 +87,7 @@ carried (Some own) told = []
 carried None None = []
 carried None (Some charset) = record { name = codes "charset"; value = charset } ∷ []
 
--- what the values say together: the MIME type, with that parameter behind its own
+-- what the values say together: the MIME type, with that parameter after its own
 abbrev pub mime_together : Extracted → Mime
 mime_together e = record {
   kind = kind_of e.mime_type;

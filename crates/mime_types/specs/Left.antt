@@ -5,7 +5,7 @@ use Rattle.mime_types.specs.Parameters.{kept}
 use Rattle.mime_types.specs.Segment.{written, written_by}
 use Rattle.mime_types.specs.declared.parameters.Parameters.{Parameters}
 
--- those that count, behind those that were written before them
+-- those that count, after those that were written before them
 abbrev pub left : Parameters → List Parameter
 left p = kept (written_by p.count p.tail.now) (written p.rest.now)
 

@@ -10,7 +10,7 @@ use Rattle.mime_types.specs.declared.nosniff.Destination.TheVariants.{Other, Scr
 use Rattle.mime_types.specs.declared.nosniff.Place.{Place}
 use Rattle.mime_types.specs.declared.nosniff.Place.TheVariants.{Escaped, Outside, Quoted}
 
--- where the byte behind one stands: outside of quotes, within them, or behind a backslash there
+-- where the byte after one stands: outside of quotes, within them, or after a backslash there
 abbrev pub next_place : Place → ℕ → Place
 next_place Outside x = if x == 0x22 then Quoted else Outside
 next_place Quoted x = if x == 0x22 then Outside else (if x == 0x5C then Escaped else Quoted)

@@ -19,16 +19,16 @@ is_named name p = is_valid p && bytes_eq p.name name
 abbrev pub is_first : List Parameter → Parameter → Bool
 is_first earlier p = is_valid p && not (list_any (is_named p.name) earlier)
 
--- of those that are written behind others, the first valid one of each name
+-- of those that are written after others, the first valid one of each name
 unfoldable pub kept : List Parameter → List Parameter → List Parameter
 kept earlier [] = []
 kept earlier (p ∷ ps) =
     if is_first earlier p then p ∷ kept (earlier ++ p ∷ []) ps else kept (earlier ++ p ∷ []) ps
 
--- the parameters of what stands behind a subtype
+-- the parameters of what stands after a subtype
 abbrev pub parameters : List ℕ → List Parameter
 parameters tail = kept [] (written tail)
 
--- one stands in this text, behind so many segments, and is the first valid one of its name
+-- one stands in this text, after so many segments, and is the first valid one of its name
 abbrev pub StandsFirst : List ℕ → AsWritten → Type 0
 StandsFirst tail p = (n : ℕ) × ((stands (left_by n tail)).parameter ≡ Some p) × IsTrue (is_first (written_by n tail) (parameter_said p))

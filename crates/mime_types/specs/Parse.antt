@@ -2,34 +2,34 @@
 use Rattle.std.specs.Prelude.{◌≡◌, ℕ, List, [], ◌∷◌, IsTrue, Option, None, Some, if◌then◌else◌}
 use Rattle.mime_types.specs.Mime.{Mime}
 use Rattle.mime_types.specs.Parameters.{parameters}
-use Rattle.mime_types.specs.Text.{behind, front, is_a_token, is_semicolon, is_slash, lower, trim, trim_end}
+use Rattle.mime_types.specs.Text.{after, front, is_a_token, is_semicolon, is_slash, lower, trim, trim_end}
 
--- the type stands before the first "/". Behind it stands the subtype, up to the first ";", and behind that the parameters
+-- the type stands before the first "/". Behind it stands the subtype, up to the first ";", and after that the parameters
 abbrev pub type_text : List ℕ → List ℕ
 type_text t = front is_slash (trim t)
 
-abbrev pub behind_slash : List ℕ → List ℕ
-behind_slash t = behind is_slash (trim t)
+abbrev pub after_slash : List ℕ → List ℕ
+after_slash t = after is_slash (trim t)
 
--- the subtype of what stands behind the "/"
+-- the subtype of what stands after the "/"
 abbrev pub subtype_before : List ℕ → List ℕ
 subtype_before s = trim_end (front is_semicolon s)
 
 abbrev pub subtype_text : List ℕ → List ℕ
-subtype_text t = subtype_before (behind_slash t)
+subtype_text t = subtype_before (after_slash t)
 
 abbrev pub tail_text : List ℕ → List ℕ
-tail_text t = behind is_semicolon (behind_slash t)
+tail_text t = after is_semicolon (after_slash t)
 
--- what stands behind the "/" that a text begins with, if it does
-abbrev pub behind_slash_first : List ℕ → List ℕ
-behind_slash_first [] = []
-behind_slash_first (x ∷ s) = if is_slash x then s else []
+-- what stands after the "/" that a text begins with, if it does
+abbrev pub after_slash_first : List ℕ → List ℕ
+after_slash_first [] = []
+after_slash_first (x ∷ s) = if is_slash x then s else []
 
--- what stands behind the ";" that a text begins with, and nothing if the text is empty
-abbrev pub behind_semicolon_first : List ℕ → Option (List ℕ)
-behind_semicolon_first [] = Some []
-behind_semicolon_first (x ∷ s) = if is_semicolon x then Some s else None
+-- what stands after the ";" that a text begins with, and nothing if the text is empty
+abbrev pub after_semicolon_first : List ℕ → Option (List ℕ)
+after_semicolon_first [] = Some []
+after_semicolon_first (x ∷ s) = if is_semicolon x then Some s else None
 
 -- the part if it is a token, and otherwise nothing
 abbrev pub if_token : List ℕ → List ℕ

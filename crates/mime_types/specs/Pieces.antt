@@ -6,7 +6,7 @@ use Rattle.mime_types.specs.declared.nosniff.Place.{Place}
 use Rattle.mime_types.specs.declared.nosniff.Place.TheVariants.{Outside}
 use Rattle.mime_types.specs.declared.pieces.Pieces.{Pieces}
 
--- the pieces of what stands behind the beginning of one. A comma outside of quotes ends a piece
+-- the pieces of what stands after the beginning of one. A comma outside of quotes ends a piece
 abbrev pub pieces_from : Place → List ℕ → List ℕ → List (List ℕ)
 pieces_from place piece [] = trim_blanks piece ∷ []
 pieces_from place piece (x ∷ s) =
@@ -24,7 +24,7 @@ pieces_of (Some value) = pieces value.now
 abbrev pub pieces_left : Pieces → List (List ℕ)
 pieces_left p = pieces_of p.rest
 
--- what stands behind a place, and nothing behind the end
-abbrev pub IsBehind : List ℕ → ℕ → Option (Bor (List ℕ)) → Type 0
-IsBehind value place None = place ≡ length value
-IsBehind value place (Some rest) = (place < length value) × (rest.now ≡ drop (place + 1) value)
+-- what stands after a place, and nothing after the end
+abbrev pub IsAfter : List ℕ → ℕ → Option (Bor (List ℕ)) → Type 0
+IsAfter value place None = place ≡ length value
+IsAfter value place (Some rest) = (place < length value) × (rest.now ≡ drop (place + 1) value)

@@ -18,7 +18,7 @@ kind_of v = record { type_name = lower v.type_name.now; subtype = lower v.subtyp
 abbrev pub mime_of : MimeType → Mime
 mime_of v = record { kind = kind_of v; parameters = parameters v.tail.now }
 
--- type and subtype, and what stands behind the subtype, are views of this text
+-- type and subtype, and what stands after the subtype, are views of this text
 abbrev pub IsViewOf : List ℕ → MimeType → Type 0
 IsViewOf t v = (v.type_name.now ≡ type_text t) × (v.subtype.now ≡ subtype_text t) × (v.tail.now ≡ tail_text t)
 

@@ -22,22 +22,22 @@ trim s = trim_end (trim_start s)
 abbrev pub before : (ℕ → Bool) → List ℕ → ℕ
 before ends s = prefix_len (λ x. not (ends x)) s
 
--- what stands before that byte, from it on, and behind it
+-- what stands before that byte, from it on, and after it
 abbrev pub front : (ℕ → Bool) → List ℕ → List ℕ
 front ends s = take (before ends s) s
 
 abbrev pub onward : (ℕ → Bool) → List ℕ → List ℕ
 onward ends s = drop (before ends s) s
 
-abbrev pub behind : (ℕ → Bool) → List ℕ → List ℕ
-behind ends s = drop (before ends s + 1) s
+abbrev pub after : (ℕ → Bool) → List ℕ → List ℕ
+after ends s = drop (before ends s + 1) s
 
--- the bytes of tokens that a text begins with, and what stands behind them
+-- the bytes of tokens that a text begins with, and what stands after them
 abbrev pub tokens_before : List ℕ → List ℕ
 tokens_before s = take (prefix_len is_token s) s
 
-abbrev pub behind_tokens : List ℕ → List ℕ
-behind_tokens s = drop (prefix_len is_token s) s
+abbrev pub after_tokens : List ℕ → List ℕ
+after_tokens s = drop (prefix_len is_token s) s
 
 -- the bytes at which parts end
 abbrev pub is_slash : ℕ → Bool

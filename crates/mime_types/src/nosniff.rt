@@ -89,7 +89,7 @@ fn next_place(place: Place, byte: u8) -> Place
 pub(crate) fn trim_blanks(text: &[u8]) -> &[u8]
     ensures { result.now ≡ trim_blanks text.now }
 {
-    blanks_behind(blanks_before(text))
+    blanks_after(blanks_before(text))
 }
 
 fn blanks_before(text: &[u8]) -> &[u8]
@@ -103,7 +103,7 @@ fn blanks_before(text: &[u8]) -> &[u8]
     &[]
 }
 
-fn blanks_behind(text: &[u8]) -> &[u8]
+fn blanks_after(text: &[u8]) -> &[u8]
     ensures { result.now ≡ take (length text.now - suffix_len is_blank text.now) text.now }
 {
     for end in (0..text.len()).rev() {

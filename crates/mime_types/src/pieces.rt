@@ -1,6 +1,6 @@
 //! The pieces of a header's value, between its commas.
 ghost use Rattle.std.specs.Prelude.{◌≡◌, ◌≤◌, length};
-ghost use Rattle.mime_types.specs.Pieces.{IsBehind};
+ghost use Rattle.mime_types.specs.Pieces.{IsAfter};
 
 use crate::nosniff::{piece_len, trim_blanks};
 
@@ -38,7 +38,7 @@ impl<'a> Pieces<'a> {
             None => None,
             Some(value) => {
                 let end = piece_len(value);
-                self.rest = behind_comma(value, end);
+                self.rest = after_comma(value, end);
                 Some(trim_blanks(&value[..end]))
             },
         }
@@ -46,9 +46,9 @@ impl<'a> Pieces<'a> {
 }
 
 /// What stands after the comma at the place, if there is one.
-fn behind_comma(value: &[u8], place: usize) -> Option<&[u8]>
+fn after_comma(value: &[u8], place: usize) -> Option<&[u8]>
     requires { place ≤ length value.now }
-    ensures { IsBehind value.now place result }
+    ensures { IsAfter value.now place result }
 {
     if place == value.len() {
         return None;

@@ -1,9 +1,9 @@
 //! MIME types of texts.
 ghost use Rattle.std.specs.Prelude.{◌≡◌, ◌↔◌, IfSome, IsTrue, Some, option_map};
 ghost use Rattle.mime_types.specs.Mime.{Mime};
-ghost use Rattle.mime_types.specs.Parse.{Parsed, behind_semicolon_first, behind_slash_first, if_token, subtype_before, subtype_text, tail_text, type_text};
+ghost use Rattle.mime_types.specs.Parse.{Parsed, after_semicolon_first, after_slash_first, if_token, subtype_before, subtype_text, tail_text, type_text};
 ghost use Rattle.mime_types.specs.Seen.{mime_of};
-ghost use Rattle.mime_types.specs.Text.{behind, is_a_token, is_semicolon};
+ghost use Rattle.mime_types.specs.Text.{after, is_a_token, is_semicolon};
 
 use crate::mime_type::MimeType;
 use crate::text::{split_tokens, trim, trim_start};
@@ -19,8 +19,8 @@ pub fn parse(text: &[u8]) -> Option<MimeType<'_>>
     ensures names { IfSome result (λ found. (found.type_name.now ≡ type_text text.now) × (found.subtype.now ≡ subtype_text text.now)) }
     ensures tail { IfSome result (λ found. found.tail.now ≡ tail_text text.now) }
 {
-    let (type_name, behind) = split_tokens(trim(text));
-    let (subtype, tail) = split_subtype(behind_slash(behind));
+    let (type_name, after) = split_tokens(trim(text));
+    let (subtype, tail) = split_subtype(after_slash(after));
     if type_name.is_empty() || subtype.is_empty() {
         return None;
     }
@@ -32,11 +32,11 @@ pub fn parse(text: &[u8]) -> Option<MimeType<'_>>
 }
 
 /// What stands after the slash that the text begins with. Nothing, if it begins with another byte.
-fn behind_slash(text: &[u8]) -> &[u8]
-    ensures { result.now ≡ behind_slash_first text.now }
+fn after_slash(text: &[u8]) -> &[u8]
+    ensures { result.now ≡ after_slash_first text.now }
 {
     match text {
-        [b'/', behind @ ..] => behind,
+        [b'/', after @ ..] => after,
         _ => &[],
     }
 }
@@ -44,10 +44,10 @@ fn behind_slash(text: &[u8]) -> &[u8]
 /// The subtype that the text begins with, and what stands after its semicolon. Nothing, if what stands there is no token.
 fn split_subtype(text: &[u8]) -> (&[u8], &[u8])
     ensures subtype { result.0.now ≡ if_token (subtype_before text.now) }
-    ensures tail { IsTrue (is_a_token (subtype_before text.now)) → result.1.now ≡ behind is_semicolon text.now }
+    ensures tail { IsTrue (is_a_token (subtype_before text.now)) → result.1.now ≡ after is_semicolon text.now }
 {
-    let (subtype, behind) = split_tokens(text);
-    match behind_semicolon(trim_start(behind)) {
+    let (subtype, after) = split_tokens(text);
+    match after_semicolon(trim_start(after)) {
         Some(tail) => (subtype, tail),
         None => (&[], &[]),
     }
@@ -55,8 +55,8 @@ fn split_subtype(text: &[u8]) -> (&[u8], &[u8])
 
 /// What stands after the semicolon that the text begins with, or nothing if the text is empty. None, if it begins with
 /// another byte.
-fn behind_semicolon(text: &[u8]) -> Option<&[u8]>
-    ensures { option_map (λ t. t.now) result ≡ behind_semicolon_first text.now }
+fn after_semicolon(text: &[u8]) -> Option<&[u8]>
+    ensures { option_map (λ t. t.now) result ≡ after_semicolon_first text.now }
 {
     match text {
         [] => Some(&[]),

@@ -19,8 +19,8 @@ pub(crate) struct Segment<'a> {
 pub(crate) fn first_segment(text: &[u8]) -> Segment<'_>
     ensures { standing_seen result ≡ stands text.now }
 {
-    let (name, behind) = split_name(trim_start(text));
-    match behind {
+    let (name, after) = split_name(trim_start(text));
+    match after {
         [] => Segment {
             written: None,
             rest: &[],
@@ -51,7 +51,7 @@ fn valued<'a>(name: &'a [u8], text: &'a [u8]) -> Segment<'a>
     ensures { standing_seen result ≡ valued name.now text.now }
 {
     match text {
-        [b'"', behind @ ..] => quoted(name, behind),
+        [b'"', after @ ..] => quoted(name, after),
         _ => bare(name, text),
     }
 }

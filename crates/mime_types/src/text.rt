@@ -3,7 +3,7 @@ ghost use Rattle.std.specs.Prelude.{◌≡◌, ◌==◌, ◌≤◌, drop, length
 ghost use Rattle.std.specs.Bool.{OnFalse};
 ghost use Rattle.std.specs.List.{list_all};
 ghost use Rattle.mime_types.specs.Bytes.{is_token};
-ghost use Rattle.mime_types.specs.Text.{before, behind, behind_tokens, front, is_a_token, tokens_before, trim, trim_end, trim_start};
+ghost use Rattle.mime_types.specs.Text.{before, after, after_tokens, front, is_a_token, tokens_before, trim, trim_end, trim_start};
 
 use crate::bytes::{is_token, is_white};
 
@@ -61,7 +61,7 @@ pub(crate) fn rest_at(text: &[u8], at: usize) -> &[u8]
 /// What stands before the first such byte, and after it.
 pub(crate) fn cut(text: &[u8], byte: u8) -> (&[u8], &[u8])
     ensures front { result.0.now ≡ front (λ x. x == byte) text.now }
-    ensures behind { result.1.now ≡ behind (λ x. x == byte) text.now }
+    ensures after { result.1.now ≡ after (λ x. x == byte) text.now }
 {
     let end = find(text, byte);
     if end == text.len() {
@@ -86,35 +86,35 @@ fn find(text: &[u8], byte: u8) -> usize
 /// The bytes of tokens that the text begins with, and what stands after them.
 pub(crate) fn split_tokens(text: &[u8]) -> (&[u8], &[u8])
     ensures tokens { result.0.now ≡ tokens_before text.now }
-    ensures behind { result.1.now ≡ behind_tokens text.now }
+    ensures after { result.1.now ≡ after_tokens text.now }
 {
-    let rest = behind_tokens(text);
+    let rest = after_tokens(text);
     (&text[..text.len() - rest.len()], rest)
 }
 
-fn behind_tokens(text: &[u8]) -> &[u8]
-    ensures { result.now ≡ behind_tokens text.now }
+fn after_tokens(text: &[u8]) -> &[u8]
+    ensures { result.now ≡ after_tokens text.now }
 {
-    let mut rest = behind_fours(text);
-    while let [first, behind @ ..] = rest {
+    let mut rest = after_fours(text);
+    while let [first, after @ ..] = rest {
         if !is_token(*first) {
             break;
         }
-        rest = behind;
+        rest = after;
     }
     rest
 }
 
 /// What stands after as many of them as are passed by fours, which takes half the time.
-fn behind_fours(text: &[u8]) -> &[u8]
-    ensures { behind_tokens result.now ≡ behind_tokens text.now }
+fn after_fours(text: &[u8]) -> &[u8]
+    ensures { after_tokens result.now ≡ after_tokens text.now }
 {
     let mut rest = text;
-    while let [first, second, third, fourth, behind @ ..] = rest {
+    while let [first, second, third, fourth, after @ ..] = rest {
         if !(is_token(*first) & is_token(*second) & is_token(*third) & is_token(*fourth)) {
             break;
         }
-        rest = behind;
+        rest = after;
     }
     rest
 }

@@ -1,7 +1,7 @@
 //! The built-in rows, each with what it shows and its matcher. Their names and numbers follow from this list.
 ghost use Rattle.std.specs.Prelude.{◌≡◌, ◌↔◌, ◌<◌, None, Some, IsTrue, length, map, slice_get};
-ghost use Rattle.infer.specs.BuiltIn.{TellsAccepted};
-ghost use Rattle.infer.specs.Decided.{TellsMayBecome};
+ghost use Rattle.infer.specs.BuiltIn.{DecidesAccepted};
+ghost use Rattle.infer.specs.Decided.{DecidesMayBecome};
 ghost use Rattle.infer.specs.Evidence.{fixed_of};
 ghost use Rattle.infer.specs.Listed.{number_of, row_listed};
 ghost use Rattle.infer.specs.Row.{Accepts};
@@ -189,7 +189,7 @@ pub(crate) fn row_at(i: usize) -> &'static BuiltInRow
 #[tactic(auto, unfolding(crate::specs::Table::signature_of, crate::specs::Table::table))]
 #[inline(always)]
 fn match_row(name: RowName, buf: &[u8]) -> bool
-    ensures { TellsAccepted (signature_of (number_of name)) buf.now result }
+    ensures { DecidesAccepted (signature_of (number_of name)) buf.now result }
 {
     with_rows!(matchers name buf)
 }
@@ -199,7 +199,7 @@ fn match_row(name: RowName, buf: &[u8]) -> bool
 #[inline(always)]
 pub(crate) fn may_become_deep(name: RowName, buf: &[u8]) -> bool
     requires { fixed_of (signature_of (number_of name)) ≡ None }
-    ensures { TellsMayBecome (signature_of (number_of name)) buf.now result }
+    ensures { DecidesMayBecome (signature_of (number_of name)) buf.now result }
 {
     with_rows!(may_become name buf)
 }

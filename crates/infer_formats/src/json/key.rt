@@ -96,8 +96,8 @@ fn past_key<'b>(buf: &'b [u8], key: &[u8]) -> Option<&'b [u8]>
         (λ rest. (left : List ℕ) → BeginsByKey key.now buf.now left ↔ (left ≡ rest.now)) }
 {
     let inside = past_byte(buf, b'{')?;
-    let behind = past_quoted(inside, key)?;
-    past_byte(behind, b':')
+    let after = past_quoted(inside, key)?;
+    past_byte(after, b':')
 }
 
 /// What stands after the byte, which white space may precede.

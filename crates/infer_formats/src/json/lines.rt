@@ -1,7 +1,7 @@
 //! The lines of JSON, and the white space between its texts.
 ghost use Rattle.std.specs.Prelude.{◌↔◌, ◌≤◌, ◌∷◌, [], None, drop, length, IsTrue, MatchOption};
 ghost use Rattle.infer_formats.specs.Json.{blanks, CanBe, IsBlank, next_line, same_line, text};
-ghost use Rattle.infer_formats.specs.JsonStates.{IsBracket, IsNextLine, IsPast, LineTells, StartsLine};
+ghost use Rattle.infer_formats.specs.JsonStates.{IsBracket, IsNextLine, IsPast, LineSays, StartsLine};
 
 use super::reader::{Reading, read_text};
 
@@ -33,7 +33,7 @@ pub(super) enum Line<'a> {
 
 /// Reads the text that `buf` begins with, to the next.
 pub(super) fn read_line(buf: &[u8]) -> Line<'_>
-    ensures { LineTells buf.now result }
+    ensures { LineSays buf.now result }
 {
     match buf {
         [first, rest @ ..] if is_bracket(*first) => match read_text(*first, rest) {

@@ -2,7 +2,7 @@
 ghost use Rattle.std.specs.Prelude.{IsTrue};
 ghost use Rattle.infer_deep.specs.Signatures.{MayBecome};
 ghost use Rattle.infer_formats.specs.Json.{IsJson, IsJsonLines, UpToMark};
-ghost use Rattle.infer_formats.specs.Laws.{BeginsBehindBlanks};
+ghost use Rattle.infer_formats.specs.Laws.{BeginsAfterBlanks};
 
 use super::lines::past_blanks;
 use super::{begins_json, past_mark};
@@ -25,7 +25,7 @@ pub fn may_become_json_lines(buf: &[u8]) -> bool
 
 /// Whether a bracket stands after the byte order mark, if there is one, and white space, or `buf` ends before one does.
 pub(super) fn may_reach_bracket(buf: &[u8]) -> bool
-    ensures { MayBecome (UpToMark BeginsBehindBlanks) buf.now → IsTrue result }
+    ensures { MayBecome (UpToMark BeginsAfterBlanks) buf.now → IsTrue result }
 {
     match past_blanks(past_mark(buf)) {
         [first, ..] => begins_json(*first),

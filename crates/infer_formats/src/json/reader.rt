@@ -1,7 +1,7 @@
 //! A reader of one text: an array or an object.
 ghost use Rattle.std.specs.Prelude.{◌≡◌, ◌↔◌, ◌≤◌, ◌%◌, ◌∷◌, ℕ, None, length, IsTrue};
 ghost use Rattle.infer_formats.specs.Json.{blanks, IsBlank, text};
-ghost use Rattle.infer_formats.specs.JsonStates.{Begun, closing, due_left, EndTells, IsBracket, IsClosedTo, IsNested, left, beginning, PlaceTells, Reads, TellsAsMuch, Tells};
+ghost use Rattle.infer_formats.specs.JsonStates.{Begun, closing, due_left, EndSays, IsBracket, IsClosedTo, IsNested, left, beginning, PlaceSays, Reads, SaysAsMuch, Says};
 ghost use Rattle.infer_formats.specs.declared.json.token.Token.TheVariants.{Chars, Integer};
 ghost use Rattle.infer_formats.specs.declared.json.reader.Due.TheVariants.{After, Colon, First, Key, Value};
 ghost use Rattle.infer_formats.specs.declared.json.reader.Next.TheVariants.{Closed};
@@ -229,7 +229,7 @@ enum Place {
 #[inline(always)]
 fn token_end(token: Token, buf: &[u8], at: usize, due: Due) -> Place
     requires { at ≤ length buf.now }
-    ensures { EndTells token buf.now at due result }
+    ensures { EndSays token buf.now at due result }
 {
     match token {
         Token::Chars => string_end(buf, at, due),
@@ -242,7 +242,7 @@ fn token_end(token: Token, buf: &[u8], at: usize, due: Due) -> Place
 #[inline(always)]
 fn string_end(buf: &[u8], at: usize, due: Due) -> Place
     requires { at ≤ length buf.now }
-    ensures { EndTells Chars buf.now at due result }
+    ensures { EndSays Chars buf.now at due result }
 {
     for i in at..buf.len() {
         match after_char(buf[i]) {
@@ -258,7 +258,7 @@ fn string_end(buf: &[u8], at: usize, due: Due) -> Place
 #[inline(always)]
 fn number_end(buf: &[u8], at: usize, due: Due) -> Place
     requires { at ≤ length buf.now }
-    ensures { EndTells Integer buf.now at due result }
+    ensures { EndSays Integer buf.now at due result }
 {
     for i in at..buf.len() {
         match after_integer(buf[i]) {
@@ -274,7 +274,7 @@ fn number_end(buf: &[u8], at: usize, due: Due) -> Place
 #[inline(always)]
 fn end_of(token: Token, buf: &[u8], at: usize, due: Due) -> Place
     requires { at ≤ length buf.now }
-    ensures { EndTells token buf.now at due result }
+    ensures { EndSays token buf.now at due result }
 {
     let mut token = token;
     for i in at..buf.len() {
@@ -292,7 +292,7 @@ fn end_of(token: Token, buf: &[u8], at: usize, due: Due) -> Place
 #[inline(always)]
 fn past_colon(buf: &[u8], at: usize) -> Place
     requires { at ≤ length buf.now }
-    ensures { TellsAsMuch buf.now (At at Colon) result }
+    ensures { SaysAsMuch buf.now (At at Colon) result }
 {
     if at < buf.len() && buf[at] == b':' {
         Place::At(at + 1, Due::Value)
@@ -305,7 +305,7 @@ fn past_colon(buf: &[u8], at: usize) -> Place
 #[inline(always)]
 fn read_on(next: Next, buf: &[u8], at: usize) -> Place
     requires { at ≤ length buf.now }
-    ensures { (d k : ℕ) → 1 ≤ d → PlaceTells next d k buf.now at result }
+    ensures { (d k : ℕ) → 1 ≤ d → PlaceSays next d k buf.now at result }
 {
     match next {
         Next::Closed => Place::At(at, Due::After),
@@ -322,7 +322,7 @@ fn read_on(next: Next, buf: &[u8], at: usize) -> Place
 /// Reads an array or an object that begins with `first`.
 pub(super) fn read_text(first: u8, rest: &[u8]) -> Reading
     requires { IsBracket first }
-    ensures { Tells first rest.now result }
+    ensures { Says first rest.now result }
 {
     let mut reader = Reader::begin(first);
     let mut due = Due::First;

@@ -1,6 +1,6 @@
 //! The tokens of JSON: strings, numbers and names, byte by byte.
 ghost use Rattle.std.specs.Prelude.{◌↔◌, ◌∷◌, [], None, IsTrue, MatchOption};
-ghost use Rattle.infer_formats.specs.Json.{BeginsToken, BeginsWhole, BehindBlanks, hex, IsStructural, range};
+ghost use Rattle.infer_formats.specs.Json.{BeginsToken, BeginsWhole, AfterBlanks, hex, IsStructural, range};
 ghost use Rattle.infer_formats.specs.JsonStates.{Follows, left, NoToken, Starts};
 ghost use Rattle.infer_formats.specs.declared.json.token.Token.TheVariants.{Chars, Escape, Minus, Zero, Integer, Fraction, Exponent, Power};
 
@@ -9,7 +9,7 @@ use super::lines::past_blanks;
 /// Whether a whole token comes after white space.
 #[tactic(auto, using(crate::proofs::LineLemmas::by_first, crate::proofs::TokenLemmas::no_token, crate::proofs::TokenLemmas::tokens_past))]
 pub(super) fn has_token(buf: &[u8]) -> bool
-    ensures { IsTrue result ↔ BehindBlanks BeginsToken buf.now }
+    ensures { IsTrue result ↔ AfterBlanks BeginsToken buf.now }
 {
     match past_blanks(buf) {
         [first, rest @ ..] => begins_token(*first, rest),

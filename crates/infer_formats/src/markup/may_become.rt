@@ -1,7 +1,7 @@
 //! What more bytes may make the root element.
 ghost use Rattle.std.specs.Prelude.{◌≡◌, ◌↔◌, ◌<◌, ◌≤◌, ℕ, List, length, slice_index, IsTrue};
 ghost use Rattle.infer_deep.specs.Signatures.{MayBecome};
-ghost use Rattle.infer_formats.specs.Markup.{HasClosing, HasInTag, HasRoot, HasRootWith, IsRootElement, IsXmlSpace, MayReachTag, TellsRoot};
+ghost use Rattle.infer_formats.specs.Markup.{HasClosing, HasInTag, HasRoot, HasRootWith, IsRootElement, IsXmlSpace, MayReachTag, DecidesRoot};
 
 use super::names::is_xml_space;
 use super::prolog::{prolog_end, prolog_start};
@@ -30,8 +30,8 @@ pub fn may_have_root_with(buf: &[u8], name: &[u8], text: &[u8]) -> bool
 }
 
 /// Whether the front decides the root element of every buffer that begins so: its tag has ended, or there will be none.
-pub fn tells_root(front: &[u8]) -> bool
-    ensures tells { IsTrue result → TellsRoot front.now }
+pub fn decides_root(front: &[u8]) -> bool
+    ensures says { IsTrue result → DecidesRoot front.now }
     ensures ended { (name rest : List ℕ) → IsRootElement name rest front.now → HasClosing rest
         → IsTrue result }
 {

@@ -2,7 +2,7 @@
 ghost use Rattle.std.specs.Prelude.{◌≡◌, ◌↔◌, Some, ◌+◌, ◌++◌, ◌<◌, ◌≤◌, ℕ, List, Option, None, length, codes, slice_index, IsTrue, MatchOption};
 ghost use Rattle.infer_deep.specs.Places.{FindsPlace};
 ghost use Rattle.infer_formats.specs.Runs.{IsAfterLast, IsRun};
-ghost use Rattle.infer_formats.specs.Markup.{AgreesWithDoctype, BeginsAt, ClosesBehind, ClosesDeclaration, EndsProlog, EndsSubset, IsDoctype, IsEnclosed, IsMisc, IsNameByte, IsPart, IsPastPiece, IsPlainByte, IsSpaceRun, IsXmlSpace, ReachesTag, StartsElement, StartsTag};
+ghost use Rattle.infer_formats.specs.Markup.{AgreesWithDoctype, BeginsAt, ClosesAfter, ClosesDeclaration, EndsProlog, EndsSubset, IsDoctype, IsEnclosed, IsMisc, IsNameByte, IsPart, IsPastPiece, IsPlainByte, IsSpaceRun, IsXmlSpace, ReachesTag, StartsElement, StartsTag};
 
 use super::names::{begins_element, ends_type, is_name_byte, is_xml_space};
 use crate::search::find_closing;
@@ -53,7 +53,7 @@ pub(super) fn prolog_start(buf: &[u8]) -> usize
 
 /// Where the prolog ends, wherever it begins. A buffer that begins with an element has none.
 #[inline(always)]
-pub(super) fn prolog_behind(buf: &[u8]) -> Reached
+pub(super) fn prolog_after(buf: &[u8]) -> Reached
     ensures tag { (p : ℕ) × BeginsAt buf.now p
         × ((at to : ℕ) → ReachesTag buf.now at to p None
         ↔ StartsTag buf.now at to result.place result.doctype) }
@@ -280,7 +280,7 @@ fn plain_end(buf: &[u8], from: usize) -> Option<usize>
 #[tactic(auto, using(crate::proofs::SubsetLemmas::subset_within))]
 fn subset_close(buf: &[u8], bracket: usize) -> Option<usize>
     requires { bracket < length buf.now }
-    ensures { FindsPlace (ClosesBehind buf.now bracket) result }
+    ensures { FindsPlace (ClosesAfter buf.now bracket) result }
 {
     let end = subset_end(buf, bracket + 1)?;
     let close = spaces_end(buf, end + 1);

@@ -1,27 +1,28 @@
 //! What the index asks of a buffer: the least row that widens its answer.
-ghost use Rattle.std.specs.Prelude.{◌≡◌, ◌↔◌, ◌⊎◌, [], IsTrue, None, Some, false};
+ghost use Rattle.std.specs.Prelude.{◌≡◌, ◌↔◌, ◌⊎◌, ℕ, [], IsTrue, List, None, Some, false};
 ghost use Rattle.std.specs.Option.{option_map_or};
 ghost use Rattle.infer_deep.specs.ClassId.{HasClassId};
 ghost use Rattle.infer_deep.specs.Find.{OccursAt};
-ghost use Rattle.infer_formats.specs.FirstKey.{StandsFirst};
+ghost use Rattle.infer_formats.specs.FirstKey.{HasValue, StandsFirst};
+ghost use Rattle.infer_formats.specs.Markup.{HasInTag};
 ghost use Rattle.infer_formats.specs.Json.{IsBlank, IsJson, IsJsonLines};
 ghost use Rattle.infer_formats.specs.Tiff.{HasTag};
 ghost use Rattle.infer_formats.specs.Zip.{IsPackageWith};
-ghost use Rattle.infer_more.specs.Index.{AllApplications, AreClassIds, FindsBelow, HasKeyValue, HasTagText, IsFoundBelow, IsKeyed, IsKeyedBy, IsLeast, IsNamed, IsOfProgram, IsRooted, IsRootedBy, IsTextRow, IsFoundByName, IsTried, IsWayBelow, MayHaveName, all_ascend, all_of, are_texts, ascends, below_at, bucket_at, bucket_of, candidate, candidates, has_byte, is_true_below, keyed_row, named_row, picked, rooted_row, roots_of, name_at, tried_at};
+ghost use Rattle.infer_more.specs.Index.{AllApplications, AreClassIds, FindsBelow, HasText, IsFoundBelow, IsFoundByName, IsKeyed, IsLeast, IsNamed, IsNamedWith, IsOfProgram, IsRooted, IsTextRow, IsTried, IsWayBelow, MayHaveName, all_ascend, all_of, are_texts, ascends, below_at, bucket_at, bucket_of, candidate, candidates, has_byte, is_true_below, name_at, named_row, picked, tried_at};
 ghost use Rattle.infer_evidence.specs.Spans.{stretch};
 ghost use Rattle.infer_more.specs.Wider.{IsWidened, WidensAt};
 ghost use Rattle.infer_more.specs.declared.index.generated.TheConstants.{FURTHER_COUNT};
 
 use crate::index::{
-    Below, ByName, Entry, FURTHER_COUNT, Keyed, Named, Parentless, Rooted, Spot, Texts,
-    law_finds_parentless, name_at, named_without_parent, way_below, without_parent,
+    Below, ByName, Entry, FURTHER_COUNT, Named, Parentless, Spot, Texts, law_finds_parentless,
+    name_at, named_without_parent, way_below, without_parent,
 };
 use crate::signature::widens;
 use infer::rows::ROW_COUNT;
 use infer_deep::doc::class_id;
 use infer_deep::places::stands_at;
 use infer_evidence::Span;
-use infer_formats::json::{Key, Kind, first_dark, first_key, kind_of};
+use infer_formats::json::{Json, Key, first_dark, first_key, json_of};
 use infer_formats::markup::{Root, may_be_rooted, root_of};
 use infer_formats::script::program;
 use infer_formats::text::is_text;
@@ -30,9 +31,6 @@ use infer_formats::zip::package_folder;
 
 /// How many buckets of names there are.
 const BUCKETS: usize = 32;
-
-/// How many buckets of roots there are.
-const ROOT_BUCKETS: usize = 32;
 
 /// How rows past the last are found.
 static NOTHING: Below = Below::Nothing;
@@ -184,9 +182,9 @@ fn least_text(texts: &Texts, buf: &[u8], before: usize) -> usize
     requires { IsTrue (are_texts texts.now) }
     ensures { IsLeast (IsTextRow texts.now buf.now) before result }
 {
-    match kind_of(buf) {
-        Some(Kind::Lines) => before.min(usize::from(texts.lines)),
-        Some(Kind::Text) => before.min(usize::from(texts.json)),
+    match json_of(buf) {
+        Some(Json::Lines) => before.min(usize::from(texts.lines)),
+        Some(Json::Text) => before.min(usize::from(texts.json)),
         None => least_plain(texts, buf, before),
     }
 }
@@ -219,8 +217,8 @@ pub(crate) fn may_have_name(buf: &[u8]) -> bool
 /// The least of the number before and of the rows that are found by the root of markup, or by the first key of an object.
 #[inline(always)]
 fn least_by_name(names: &ByName, buf: &[u8], before: usize) -> usize
-    requires roots { IsTrue (all_ascend rooted_row names.now.roots.now) }
-    requires keys { IsTrue (ascends keyed_row names.now.keys.now) }
+    requires roots { IsTrue (all_ascend named_row names.now.roots.now) }
+    requires keys { IsTrue (ascends named_row names.now.keys.now) }
     ensures { IsLeast (IsFoundByName names.now buf.now) before result }
 {
     infer_formats::laws::leads();
@@ -237,22 +235,22 @@ fn least_by_name(names: &ByName, buf: &[u8], before: usize) -> usize
 /// [`least_by_name`] by the first byte after white space. It is not inlined, since few buffers begin so.
 #[inline(never)]
 fn least_past_space(names: &ByName, buf: &[u8], before: usize) -> usize
-    requires roots { IsTrue (all_ascend rooted_row names.now.roots.now) }
-    requires keys { IsTrue (ascends keyed_row names.now.keys.now) }
+    requires roots { IsTrue (all_ascend named_row names.now.roots.now) }
+    requires keys { IsTrue (ascends named_row names.now.keys.now) }
     ensures { IsLeast (IsFoundByName names.now buf.now) before result }
 {
     infer_formats::laws::leads();
     match first_dark(buf) {
-        Some(dark) => least_behind(dark, names, buf, before),
+        Some(dark) => least_after(dark, names, buf, before),
         None => before,
     }
 }
 
 /// [`least_by_name`] of a buffer with this byte after white space.
 #[inline(always)]
-fn least_behind(dark: u8, names: &ByName, buf: &[u8], before: usize) -> usize
-    requires roots { IsTrue (all_ascend rooted_row names.now.roots.now) }
-    requires keys { IsTrue (ascends keyed_row names.now.keys.now) }
+fn least_after(dark: u8, names: &ByName, buf: &[u8], before: usize) -> usize
+    requires roots { IsTrue (all_ascend named_row names.now.roots.now) }
+    requires keys { IsTrue (ascends named_row names.now.keys.now) }
     requires first { (¬ IsBlank dark) × StandsFirst dark buf.now }
     ensures { IsLeast (IsFoundByName names.now buf.now) before result }
 {
@@ -262,8 +260,8 @@ fn least_behind(dark: u8, names: &ByName, buf: &[u8], before: usize) -> usize
 
 /// [`least_root`] of a buffer with this byte after white space, which need not be markup.
 #[inline(always)]
-fn least_markup(dark: u8, roots: &'static [&'static [Rooted]], buf: &[u8], before: usize) -> usize
-    requires ascend { IsTrue (all_ascend rooted_row roots.now) }
+fn least_markup(dark: u8, roots: &'static [&'static [Named]], buf: &[u8], before: usize) -> usize
+    requires ascend { IsTrue (all_ascend named_row roots.now) }
     requires first { (¬ IsBlank dark) × StandsFirst dark buf.now }
     ensures { IsLeast (IsRooted buf.now roots.now) before result }
 {
@@ -276,8 +274,8 @@ fn least_markup(dark: u8, roots: &'static [&'static [Rooted]], buf: &[u8], befor
 
 /// [`least_key`] of a buffer with this byte after white space, which need not be an object.
 #[inline(always)]
-fn least_object(dark: u8, keys: &[Keyed], buf: &[u8], before: usize) -> usize
-    requires ascend { IsTrue (ascends keyed_row keys.now) }
+fn least_object(dark: u8, keys: &[Named], buf: &[u8], before: usize) -> usize
+    requires ascend { IsTrue (ascends named_row keys.now) }
     requires first { (¬ IsBlank dark) × StandsFirst dark buf.now }
     ensures { IsLeast (IsKeyed buf.now keys.now) before result }
 {
@@ -287,50 +285,77 @@ fn least_object(dark: u8, keys: &[Keyed], buf: &[u8], before: usize) -> usize
     least_key(keys, buf, before)
 }
 
-/// The least of the number before and of the rows with the first key of the object that begins the buffer.
-#[inline(never)]
-fn least_key(keys: &[Keyed], buf: &[u8], before: usize) -> usize
-    requires { IsTrue (ascends keyed_row keys.now) }
-    ensures { IsLeast (IsKeyed buf.now keys.now) before result }
-{
-    match first_key(buf) {
-        Some(key) => least_keyed(keys, &key, before),
-        None => before,
+/// What stands beside a name: the rest of a root's tag, or what follows a key.
+trait Beside {
+    // The text stands there.
+    ghost has: { Self → List ℕ → Type 0 };
+
+    /// Whether the text stands there.
+    fn has(&self, text: &[u8]) -> bool
+        ensures { IsTrue result ↔ has self.now text.now };
+}
+
+impl Beside for Root<'_> {
+    ghost has = { λ root text. HasInTag text root.rest.now };
+
+    fn has(&self, text: &[u8]) -> bool {
+        self.has_in_tag(text)
     }
 }
 
-/// Whether the key is the row's, and its value too.
+impl Beside for Key<'_> {
+    ghost has = { λ key text. HasValue text key.rest.now };
+
+    fn has(&self, text: &[u8]) -> bool {
+        self.has_value(text)
+    }
+}
+
+/// Whether the row has that name, and its text beside it if there is one.
 #[inline(always)]
-fn is_keyed(keyed: &Keyed, key: &Key<'_>) -> bool
-    ensures { IsTrue result ↔ (name_at keyed.now.key ≡ key.now.text.now)
-        × HasKeyValue key.now.rest.now keyed.now.value }
+fn is_named_with<B: Beside>(named: &Named, name: &[u8], beside: &B) -> bool
+    ensures { IsTrue result ↔ (name_at named.now.name ≡ name.now)
+        × HasText (B.has beside.now) named.now.text }
 {
-    if key.text != name_at(keyed.key) {
+    if name != name_at(named.name) {
         return false;
     }
-    match keyed.value {
-        Some(value) => key.has_value(name_at(value)),
+    match named.text {
+        Some(text) => beside.has(name_at(text)),
         None => true,
     }
 }
 
-/// The least of the number before and of the rows with this key, which is that of the first.
-fn least_keyed(keys: &[Keyed], key: &Key<'_>, before: usize) -> usize
-    requires { IsTrue (ascends keyed_row keys.now) }
-    ensures { IsLeast (IsKeyedBy key.now.text.now key.now.rest.now keys.now) before result }
+/// The least of the number before and of the rows with this name, and their text beside it, which is that of the first.
+#[inline(always)]
+fn least_named_with<B: Beside>(names: &[Named], name: &[u8], beside: &B, before: usize) -> usize
+    requires { IsTrue (ascends named_row names.now) }
+    ensures { IsLeast (IsNamedWith (B.has beside.now) name.now names.now) before result }
 {
-    for keyed in keys {
-        if is_keyed(keyed, key) {
-            return before.min(usize::from(keyed.row));
+    for named in names {
+        if is_named_with(named, name, beside) {
+            return before.min(usize::from(named.row));
         }
     }
     before
 }
 
+/// The least of the number before and of the rows with the first key of the object that begins the buffer.
+#[inline(never)]
+fn least_key(keys: &[Named], buf: &[u8], before: usize) -> usize
+    requires { IsTrue (ascends named_row keys.now) }
+    ensures { IsLeast (IsKeyed buf.now keys.now) before result }
+{
+    match first_key(buf) {
+        Some(key) => least_named_with(keys, key.text, &key, before),
+        None => before,
+    }
+}
+
 /// [`least_root`] of a buffer whose first tag may be no tag. It is not inlined, since few buffers begin so.
 #[inline(never)]
-fn least_begun_markup(roots: &'static [&'static [Rooted]], buf: &[u8], before: usize) -> usize
-    requires { IsTrue (all_ascend rooted_row roots.now) }
+fn least_begun_markup(roots: &'static [&'static [Named]], buf: &[u8], before: usize) -> usize
+    requires { IsTrue (all_ascend named_row roots.now) }
     ensures { IsLeast (IsRooted buf.now roots.now) before result }
 {
     infer_formats::laws::leads();
@@ -373,13 +398,14 @@ fn least_named(names: &[Named], name: &[u8], before: usize) -> usize
     before
 }
 
-/// The bucket of a name, by the low five bits of its first byte: the only one in which the name can be.
+/// The bucket of a name, the only one in which it can be: by five bits of its first byte, of which one distinguishes small
+/// letters from others.
 #[inline(always)]
 fn bucket_of(buckets: &'static [&'static [Named]], name: &[u8]) -> &'static [Named]
     ensures { result.now ≡ bucket_of buckets.now name.now }
 {
     match name.first() {
-        Some(first) => bucket_at(buckets, usize::from(*first) % BUCKETS),
+        Some(first) => bucket_at(buckets, usize::from(*first) / 2 % BUCKETS),
         None => &[],
     }
 }
@@ -446,65 +472,14 @@ fn least_folder(folders: &[Named], buf: &[u8], before: usize) -> usize
     }
 }
 
-/// Whether the root element has the row's name, and its text in the tag.
-#[inline(always)]
-fn is_rooted(rooted: &Rooted, root: &Root<'_>) -> bool
-    ensures { IsTrue result ↔ (name_at rooted.now.name ≡ root.now.name.now)
-        × HasTagText root.now.rest.now rooted.now.text }
-{
-    if root.name != name_at(rooted.name) {
-        return false;
-    }
-    match rooted.text {
-        Some(text) => root.has_in_tag(name_at(text)),
-        None => true,
-    }
-}
-
-/// The least of the number before and of the rows with this root, which is that of the first.
-#[inline(always)]
-fn least_rooted(roots: &[Rooted], root: &Root<'_>, before: usize) -> usize
-    requires { IsTrue (ascends rooted_row roots.now) }
-    ensures { IsLeast (IsRootedBy root.now.name.now root.now.rest.now roots.now) before result }
-{
-    for rooted in roots {
-        if is_rooted(rooted, root) {
-            return before.min(usize::from(rooted.row));
-        }
-    }
-    before
-}
-
-/// The bucket of the name of a root, by five bits of its first byte, of which one distinguishes small letters from others.
-#[inline(always)]
-fn roots_of(buckets: &'static [&'static [Rooted]], name: &[u8]) -> &'static [Rooted]
-    ensures { result.now ≡ roots_of buckets.now name.now }
-{
-    match name.first() {
-        Some(first) => roots_at(buckets, usize::from(*first) / 2 % ROOT_BUCKETS),
-        None => &[],
-    }
-}
-
-/// The bucket of that number, and an empty one past the last.
-#[inline(always)]
-fn roots_at(buckets: &'static [&'static [Rooted]], i: usize) -> &'static [Rooted]
-    ensures { result.now ≡ bucket_at buckets.now i }
-{
-    match buckets.get(i) {
-        Some(roots) => roots,
-        None => &[],
-    }
-}
-
 /// The least of the number before and of the rows with the buffer's root.
 #[inline(always)]
-fn least_root(roots: &'static [&'static [Rooted]], buf: &[u8], before: usize) -> usize
-    requires { IsTrue (all_ascend rooted_row roots.now) }
+fn least_root(roots: &'static [&'static [Named]], buf: &[u8], before: usize) -> usize
+    requires { IsTrue (all_ascend named_row roots.now) }
     ensures { IsLeast (IsRooted buf.now roots.now) before result }
 {
     match root_of(buf) {
-        Some(root) => least_rooted(roots_of(roots, root.name), &root, before),
+        Some(root) => least_named_with(bucket_of(roots, root.name), root.name, &root, before),
         None => before,
     }
 }

@@ -17,7 +17,7 @@ pub struct Entry<'a> {
     line: &'a [u8],
     digest: u32,
     lead: Option<Lead>,
-    ghost tells: { (own : Row) → line_of line.now ≡ Some (Some own) → (digest ≡ digest_of own.parent) × IsLead lead own.signature },
+    ghost leads: { (own : Row) → line_of line.now ≡ Some (Some own) → (digest ≡ digest_of own.parent) × IsLead lead own.signature },
 }
 
 /// The first rows of a text, and what it has after them.
@@ -25,7 +25,7 @@ pub struct Entry<'a> {
 pub struct Entries<'a> {
     pub items: [Entry<'a>; 160],
     pub count: usize,
-    pub behind: Option<&'a [u8]>,
+    pub after: Option<&'a [u8]>,
     ghost few: { count ≤ 160 },
 }
 
@@ -64,7 +64,7 @@ impl<'a> Entry<'a> {
 pub fn entries_of(text: &[u8]) -> Entries<'_>
     ensures { row_lines (lines_of text.now)
         ≡ map (λ e. e.line.now) (take result.count result.items)
-        ++ row_lines (left_lines (option_map (λ left. left.now) result.behind)) }
+        ++ row_lines (left_lines (option_map (λ left. left.now) result.after)) }
 {
     let mut items = [nothing(); 160];
     let mut count = 0;
@@ -73,17 +73,17 @@ pub fn entries_of(text: &[u8]) -> Entries<'_>
         if count == 160 {
             break;
         }
-        let (line, behind) = next_line(left);
+        let (line, after) = next_line(left);
         if let Some(entry) = entry_of(line) {
             items[count] = entry;
             count += 1;
         }
-        rest = behind;
+        rest = after;
     }
     Entries {
         items,
         count,
-        behind: rest,
+        after: rest,
     }
 }
 

@@ -2,7 +2,7 @@
 ghost use Rattle.std.specs.Prelude.{◌≡◌, ◌↔◌, ◌≤◌, ℕ, IfErr, IsTrue, List, Option, Some, false, is_ok, is_some, length, option_map};
 ghost use Rattle.std.specs.Str.{IsAscii};
 ghost use Rattle.infer_notation.specs.Reasons.{is_of_token};
-ghost use Rattle.infer_notation.specs.Words.{behind_blanks};
+ghost use Rattle.infer_notation.specs.Words.{after_blanks};
 ghost use Rattle.infer_more.specs.Line.{IsFlawIn, Row, fields_listed, fields_of, is_none, is_remark, line_of, parent_of, row_of};
 ghost use Rattle.infer_more.specs.Text.{Answers, IsLineAnswer, found_shows};
 
@@ -51,7 +51,7 @@ pub fn is_remark(text: &[u8]) -> bool
 /// Whether the line describes a type or none, and else what is wrong with it.
 pub fn check(line: &[u8]) -> Result<(), Flaw>
     ensures described { is_ok result ≡ is_some (line_of line.now) }
-    ensures flaw { IfErr result (IsFlawIn (behind_blanks line.now)) }
+    ensures flaw { IfErr result (IsFlawIn (after_blanks line.now)) }
     ensures inside { IfErr result (λ flaw. flaw.left ≤ length line.now) }
 {
     let text = skip_blanks(line);

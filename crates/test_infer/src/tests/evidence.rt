@@ -39,8 +39,8 @@ fn has(range: &Range, place: usize) -> bool {
 
 /// Where a byte of the range stands.
 fn place_in(range: &Range, k: usize) -> usize {
-    let behind = k.saturating_mul(range.step as usize);
-    range.place.saturating_add(behind)
+    let after = k.saturating_mul(range.step as usize);
+    range.place.saturating_add(after)
 }
 
 fn is_named(evidence: &Evidence, place: usize) -> bool {
@@ -292,7 +292,7 @@ fn no_row(rt: HostRuntime) -> Result<(), Fail> {
     Ok(())
 }
 
-/// The place of the first byte, how many they are, and how far each other stands behind the one before.
+/// The place of the first byte, how many they are, and how far each other stands after the one before.
 type Places = (usize, usize, u32);
 
 fn is_of(range: &Range, places: Places) -> bool {
@@ -342,7 +342,7 @@ const SEARCHES: [Searched; 9] = [
         len: 300,
         ranges: &[(3, 25, 4), (101, 2, 3), (108, 48, 4)],
     },
-    // It would end behind the first 1024 bytes.
+    // It would end after the first 1024 bytes.
     Searched {
         texts: &[(1022, b"%PDF")],
         len: 3000,
@@ -402,6 +402,49 @@ fn found(rt: HostRuntime) -> Result<(), Fail> {
     assert!(rt; infer::evidence(buf.as_slice(), &mut evidence) == Some(rows::PDF));
     assert!(rt; are_of(&evidence, rows::PDF, &[(700, 4, 1)]) == Some(1));
     assert!(rt; evidence.least() == 704 && !evidence.is_exact());
+    Ok(())
+}
+
+/// Ranges that are asked for in this order, by place and length; how many bytes at the front are found to be asked for; and
+/// places that are found to be, and that are not.
+type Asked<'a> = (&'a [(usize, usize)], usize, &'a [usize], &'a [usize]);
+
+const ASKED: [Asked<'static>; 5] = [
+    (&[], 0, &[], &[0, 63, 64]),
+    (&[(0, 1)], 1, &[0], &[1]),
+    (&[(0, 1), (0, 6)], 6, &[0, 5], &[6]),
+    (&[(2, 3)], 0, &[2, 4], &[1, 5]),
+    (&[(100, 2)], 0, &[100], &[99, 102]),
+];
+
+fn asking_for(ranges: &[(usize, usize)]) -> Evidence {
+    let mut evidence = Evidence::new();
+    for (place, len) in ranges {
+        evidence.ask(Range::new(*place, *len, None));
+    }
+    evidence
+}
+
+/// How many of the places are found to be asked for.
+fn found_again(evidence: &Evidence, places: &[usize]) -> usize {
+    let mut count = 0;
+    for place in places {
+        if evidence.is_asked(*place) && count < places.len() {
+            count += 1;
+        }
+    }
+    count
+}
+
+/// An evidence finds what it asks for already. No clause says so: one that finds nothing is right, and asks again.
+#[test]
+fn asked_already(rt: HostRuntime) -> Result<(), Fail> {
+    for (i, (ranges, front, asked, free)) in ASKED.iter().enumerate() {
+        let evidence = asking_for(ranges);
+        assert_eq!(rt; evidence.front(), *front, "case {i}");
+        assert_eq!(rt; found_again(&evidence, asked), asked.len(), "case {i}");
+        assert_eq!(rt; found_again(&evidence, free), 0, "case {i}");
+    }
     Ok(())
 }
 

@@ -1,7 +1,7 @@
 //! What no clause says: that a line is as others write it, and that a room that is short holds the front of it.
 use infer_label::{Form, Look, Note, Options, write_line, write_note};
 
-/// A line, in a room with marks behind it.
+/// A line, in a room with marks after it.
 fn told(options: Options<'_>, name: &[u8], buf: &[u8], room: &mut [u8]) -> usize {
     for byte in room.iter_mut() {
         *byte = b'~';
@@ -44,7 +44,7 @@ fn each_form_has_its_line(rt: HostRuntime) {
     }
 }
 
-/// A room of each size holds the front of the line, and nothing is written behind it.
+/// A room of each size holds the front of the line, and nothing is written after it.
 #[test]
 fn a_short_room_holds_the_front(rt: HostRuntime) {
     let mut whole = [0; 128];

@@ -301,7 +301,7 @@ fn a_long_header(rt: HostRuntime) -> Result<(), Fail> {
     Ok(())
 }
 
-/// What is written so often behind `text/html`, and whether the text of the MIME type is `text/html` alone.
+/// What is written so often after `text/html`, and whether the text of the MIME type is `text/html` alone.
 const REPEATED: &[(&[u8], usize, bool)] = &[
     (b";", 100_000, true),
     (b" ; \t;a;=;a=", 1_000, true),

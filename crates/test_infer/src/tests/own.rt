@@ -87,7 +87,7 @@ fn pieces(rt: HostRuntime) -> Result<(), Fail> {
     Ok(())
 }
 
-// By the format's specification the subsystem stands 92 bytes behind the signature, and 10 is an EFI application.
+// By the format's specification the subsystem stands 92 bytes after the signature, and 10 is an EFI application.
 #[test]
 fn later_header(rt: HostRuntime) -> Result<(), Fail> {
     let types = Types::new(PIECES).ok().ok_or("it describes types")?;

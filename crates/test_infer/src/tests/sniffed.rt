@@ -159,7 +159,7 @@ fn as_others_compute_in_contexts(rt: HostRuntime) -> Result<(), Fail> {
     Ok(())
 }
 
-/// The text of the supplied type, which is empty if there is none, a buffer, and whether no bytes behind it change its type.
+/// The text of the supplied type, which is empty if there is none, a buffer, and whether no bytes after it change its type.
 const DECIDED: &[(&[u8], &[u8], bool)] = &[
     (b"", b"bM some text\n", false),
     (b"", b"GIF89a\x7F\x8D\xC1", true),
@@ -242,7 +242,7 @@ fn is_written(found: &MimeType<'_>, wanted: &[u8]) -> bool {
     }
 }
 
-/// Boxes that end in their own head or far behind the buffer, and other lengths that no file has, with what is told of sounds and
+/// Boxes that end in their own head or far after the buffer, and other lengths that no file has, with what is told of sounds and
 /// films. A box counts if its length is one of whole words that are there; no rule looks at the other lengths.
 const HOSTILE: &[(&[u8], &[u8])] = &[
     (b"\0\0\0\0ftypmp42\0\0\0\0", b"video/mp4"),

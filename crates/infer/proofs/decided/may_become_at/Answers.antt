@@ -1,4 +1,4 @@
-use Rattle.infer.proofs.Common.{◌≡◌, None, TellsMayBecome, subst, sym, refl}
+use Rattle.infer.proofs.Common.{◌≡◌, None, DecidesMayBecome, subst, sym, refl}
 use Rattle.infer.proofs.DecidedLemmas.{told_of_row}
 use Rattle.infer.proofs.TableLemmas.{named_signature}
 use Rattle.infer.specs.Evidence.{fixed_of}
@@ -7,7 +7,7 @@ use Rattle.infer.proofs.decided.may_become_at.Goals as goal
 pub returns-in-Some : goal.returns-in-Some
 returns-in-Some c =
     told_of_row c.open.ensures c.args.buf.now c.may_become.result c.args.row
-    (subst (λ s. TellsMayBecome s c.args.buf.now c.may_become.result) (sym c.in-Some.ensures.some) c.may_become.ensures)
+    (subst (λ s. DecidesMayBecome s c.args.buf.now c.may_become.result) (sym c.in-Some.ensures.some) c.may_become.ensures)
 
 pub may_become_deep-requires : goal.may_become_deep-requires
 may_become_deep-requires c =
@@ -16,4 +16,4 @@ may_become_deep-requires c =
 pub returns-in-None : goal.returns-in-None
 returns-in-None c =
     told_of_row c.open.ensures c.args.buf.now c.may_become_deep.result c.args.row
-    (subst (λ s. TellsMayBecome s c.args.buf.now c.may_become_deep.result) (sym (named_signature c.args.row c.row_at.result.now c.row_at.ensures)) c.may_become_deep.ensures)
+    (subst (λ s. DecidesMayBecome s c.args.buf.now c.may_become_deep.result) (sym (named_signature c.args.row c.row_at.result.now c.row_at.ensures)) c.may_become_deep.ensures)

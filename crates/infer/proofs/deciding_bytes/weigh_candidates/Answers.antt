@@ -8,7 +8,7 @@ returns-clause-first c = first_accepting c.leads.ensures c.blank.ensures c.args.
 
 pub returns-clause-decides : goal.returns-clause-decides
 returns-clause-decides c = λ b bytes agrees.
-    let told = c.weigh_rows.ensures.tells b bytes agrees in
+    let told = c.weigh_rows.ensures.proves b bytes agrees in
     let asked = c.ask.ensures.same c.args.buf.now b told.0 in
     let first = c.new.ensures.reads c.args.buf.now b asked.1 0 (omega arith) (omega arith) in
     let here : c.candidates_at.result.now ≡ candidates_of c.args.buf.now = search rules in

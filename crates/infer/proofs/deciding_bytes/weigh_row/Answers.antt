@@ -9,11 +9,11 @@ returns-in-Some-clause-answer c =
     let answer = c.weigh.ensures.answer in
     (λ yes. same.0 (answer.0 yes), λ h. answer.1 (same.1 h))
 
-pub returns-in-Some-clause-tells : goal.returns-in-Some-clause-tells
-returns-in-Some-clause-tells c = λ b bytes agrees.
+pub returns-in-Some-clause-proves : goal.returns-in-Some-clause-proves
+returns-in-Some-clause-proves c = λ b bytes agrees.
     let here = row_fixed c.args.row _ c.in-Some.ensures.some c.args.buf.now in
     let there = row_fixed c.args.row _ c.in-Some.ensures.some b in
-    let told = c.weigh.ensures.tells b agrees in
+    let told = c.weigh.ensures.proves b agrees in
     (told.0, (λ h. here.0 (told.1.0 (there.1 h)), λ h. there.0 (told.1.1 (here.1 h))))
 
 pub returns-in-Some-clause-few : goal.returns-in-Some-clause-few

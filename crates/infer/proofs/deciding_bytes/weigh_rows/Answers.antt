@@ -17,9 +17,9 @@ returns-then-eq-clause-first c =
     subst (IsFirstAmong (RowHas (Accepts c.args.buf.now)) c.args.rows.now) (sym (here c))
     (found_among (RowHas (Accepts c.args.buf.now)) c.args.rows.now c.loop-row.row-index 0 c.loop-row-test.true (held c).0 c.loop-row.invariant.refused)
 
-pub returns-then-eq-clause-tells : goal.returns-then-eq-clause-tells
-returns-then-eq-clause-tells c = λ b bytes agrees.
-    let before = c.loop-row.invariant.tells b bytes agrees in (
+pub returns-then-eq-clause-proves : goal.returns-then-eq-clause-proves
+returns-then-eq-clause-proves c = λ b bytes agrees.
+    let before = c.loop-row.invariant.proves b bytes agrees in (
       before.0,
       subst (IsFirstAmong (RowHas (Accepts b)) c.args.rows.now) (sym (here c))
           (found_among (RowHas (Accepts b)) c.args.rows.now c.loop-row.row-index 0 c.loop-row-test.true ((held c).1 b bytes before.0) before.1),
@@ -41,10 +41,10 @@ returns-then-weigh_row-clause-first c =
     found_among (RowHas (Accepts c.args.buf.now)) c.args.rows.now c.loop-row.row-index 0 c.loop-row-test.true (c.weigh_row.ensures.answer.0 c.if-weigh_row.true)
     c.loop-row.invariant.refused
 
-pub returns-then-weigh_row-clause-tells : goal.returns-then-weigh_row-clause-tells
-returns-then-weigh_row-clause-tells c = λ b bytes agrees.
-    let told = c.weigh_row.ensures.tells b bytes agrees in
-    let before = c.loop-row.invariant.tells b bytes told.0 in (
+pub returns-then-weigh_row-clause-proves : goal.returns-then-weigh_row-clause-proves
+returns-then-weigh_row-clause-proves c = λ b bytes agrees.
+    let told = c.weigh_row.ensures.proves b bytes agrees in
+    let before = c.loop-row.invariant.proves b bytes told.0 in (
       before.0,
       found_among (RowHas (Accepts b)) c.args.rows.now c.loop-row.row-index 0 c.loop-row-test.true (told.1.1 (c.weigh_row.ensures.answer.0 c.if-weigh_row.true)) before.1,
     )
@@ -61,9 +61,9 @@ pub loop-row-preserved : goal.loop-row-preserved
 loop-row-preserved c =
     let here = refuted_by c.if-weigh_row.false c.weigh_row.ensures.answer in record {
       refused = none_more (RowHas (Accepts c.args.buf.now)) _ _ _ c.loop-row-test.true c.loop-row.invariant.refused here;
-      tells = λ b bytes agrees.
-          let told = c.weigh_row.ensures.tells b bytes agrees in
-          let before = c.loop-row.invariant.tells b bytes told.0 in
+      proves = λ b bytes agrees.
+          let told = c.weigh_row.ensures.proves b bytes agrees in
+          let before = c.loop-row.invariant.proves b bytes told.0 in
           (before.0, none_more (RowHas (Accepts b)) _ _ _ c.loop-row-test.true before.1 (refuted_too told.1 here));
       inside = λ of. c.weigh_row.ensures.inside (c.loop-row.invariant.inside of);
       few = let before = c.loop-row.invariant.few in
@@ -75,9 +75,9 @@ loop-row-preserved c =
 pub returns-clause-first : goal.returns-clause-first
 returns-clause-first c = none_of_all (RowHas (Accepts c.args.buf.now)) _ c.loop-row.row-index (grind arith) c.loop-row.invariant.refused
 
-pub returns-clause-tells : goal.returns-clause-tells
-returns-clause-tells c = λ b bytes agrees.
-    let before = c.loop-row.invariant.tells b bytes agrees in
+pub returns-clause-proves : goal.returns-clause-proves
+returns-clause-proves c = λ b bytes agrees.
+    let before = c.loop-row.invariant.proves b bytes agrees in
     (before.0, none_of_all (RowHas (Accepts b)) c.args.rows.now c.loop-row.row-index (grind arith) before.1)
 
 pub returns-clause-few : goal.returns-clause-few

@@ -1,7 +1,7 @@
 use Rattle.std.proofs.Common.{None, Some, option_map, refl, rules}
 use Rattle.mime_types.specs.Seen.{mime_of}
 use Rattle.mime_sniff.specs.Computed.{supply_of}
-use Rattle.infer_c.specs.Mime.{IsContextOf, supply_told}
+use Rattle.infer_c.specs.Mime.{IsContextOf, supply_said}
 use Rattle.infer_c.proofs.MimeLemmas.{computed_by, supply_is, text_of_found}
 use Rattle.infer_c.proofs.mime.write_computed.Goals as goal
 
@@ -17,7 +17,7 @@ returns-in-Sniffed c =
       c.supplied-supplied.ensures.says,
       c.context.result,
       place,
-      computed_by _ _ (supply_of supplied) (supply_told (option_map mime_of supplied.mime_type) c.args.flags) c.args.buf.now (Some told) c.unwrap_or-context.ensures is c.in-Sniffed.ensures,
+      computed_by _ _ (supply_of supplied) (supply_said (option_map mime_of supplied.mime_type) c.args.flags) c.args.buf.now (Some told) c.unwrap_or-context.ensures is c.in-Sniffed.ensures,
       refl,
       c.write_text.ensures.length,
       c.write_text.ensures.written,
@@ -35,7 +35,7 @@ returns-in-Same c =
       c.supplied-supplied.ensures.says,
       c.context.result,
       place,
-      computed_by _ _ (supply_of supplied) (supply_told (option_map mime_of supplied.mime_type) c.args.flags) c.args.buf.now None c.unwrap_or-context.ensures is c.in-Same.ensures,
+      computed_by _ _ (supply_of supplied) (supply_said (option_map mime_of supplied.mime_type) c.args.flags) c.args.buf.now None c.unwrap_or-context.ensures is c.in-Same.ensures,
       text_of_found c.args.content_type.now supplied.mime_type w.0 c.supplied-supplied.ensures.tail w.1,
       w.2,
       w.3,

@@ -2,8 +2,8 @@ use Rattle.infer_evidence.proofs.Common.{arith, refl}
 use Rattle.infer_evidence.proofs.SearchLemmas.{stands_same}
 use Rattle.infer_evidence.proofs.search.accept_search.Goals as goal
 
-pub returns-in-Some-clause-tells : goal.returns-in-Some-clause-tells
-returns-in-Some-clause-tells c = λ b agrees.
+pub returns-in-Some-clause-proves : goal.returns-in-Some-clause-proves
+returns-in-Some-clause-proves c = λ b agrees.
     let asked = c.ask_held.ensures.same c.args.buf.now b agrees in
     let long = c.ask_least.ensures.long c.args.buf.now b asked.0 in (
       long.0,
@@ -11,8 +11,8 @@ returns-in-Some-clause-tells c = λ b agrees.
           (c.new.ensures.reads c.args.buf.now b asked.1),
     )
 
-pub returns-in_default-clause-tells : goal.returns-in_default-clause-tells
-returns-in_default-clause-tells c =
+pub returns-in_default-clause-proves : goal.returns-in_default-clause-proves
+returns-in_default-clause-proves c =
     let stands = c.requires.1.stands in
     let high = c.requires.1.high in
     let fits = stands.fits in

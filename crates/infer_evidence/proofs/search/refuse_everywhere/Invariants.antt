@@ -5,7 +5,7 @@ use Rattle.infer_evidence.proofs.search.refuse_everywhere.Given as goal
 
 abbrev pub invariant-loop-start : goal.invariant-loop-start
 invariant-loop-start l = record {
-  tells : (c : List ℕ) → AgreesOn l.evidence l.buf c → IsSame l.buf c l.run → AgreesOn l.fn.evidence l.buf c × ((p : ℕ) → p < l.start → ¬ OccursAt c l.text p);
+  proves : (c : List ℕ) → AgreesOn l.evidence l.buf c → IsSame l.buf c l.run → AgreesOn l.fn.evidence l.buf c × ((p : ℕ) → p < l.start → ¬ OccursAt c l.text p);
   inside : IsOf l.fn.evidence l.buf → IsOf l.evidence l.buf;
   within : EndsBy l.run l.end;
   few : l.evidence.count + 1 ≤ max l.most (l.fn.evidence.count + 1);

@@ -3,20 +3,20 @@ use Rattle.std.proofs.Common.{rules}
 use Rattle.infer_evidence.proofs.weighing.refuse.Goals as goal
 use Rattle.infer_evidence.proofs.weighing.refuse.Goals.{else-least-buf-via-else-least-buf, else-least-buf-via-then-least-buf+in-None-1}
 
-pub returns-in-Some-clause-tells : goal.returns-in-Some-clause-tells
-returns-in-Some-clause-tells g c =
-    λ b agrees. let same = c.ask.ensures.same c.args.buf.now b agrees in (same.0, λ h. c.in-Some.ensures.tells b same.1 h.1)
+pub returns-in-Some-clause-proves : goal.returns-in-Some-clause-proves
+returns-in-Some-clause-proves g c =
+    λ b agrees. let same = c.ask.ensures.same c.args.buf.now b agrees in (same.0, λ h. c.in-Some.ensures.proves b same.1 h.1)
 
-pub returns-in-Some-lacking-clause-tells : goal.returns-in-Some-lacking-clause-tells
-returns-in-Some-lacking-clause-tells g c = λ b agrees.
+pub returns-in-Some-lacking-clause-proves : goal.returns-in-Some-lacking-clause-proves
+returns-in-Some-lacking-clause-proves g c = λ b agrees.
     let asked = c.ask-2.ensures.same c.args.buf.now b agrees in
     let exact = c.ask_exact.ensures.exact c.args.buf.now b asked.0 in
     let found = c.in-Some-lacking.ensures.among in
-    let tells = c.refused.ensures.tells b (asked.1, λ e. exact.1) in
-    (exact.0, λ h. tells ((found.4 b).1 (subst (λ p. g.P.AsPart.asks p b) found.3 (h.1 found.0 found.1 found.2))))
+    let proves = c.refused.ensures.proves b (asked.1, λ e. exact.1) in
+    (exact.0, λ h. proves ((found.4 b).1 (subst (λ p. g.P.AsPart.asks p b) found.3 (h.1 found.0 found.1 found.2))))
 
-pub returns-else-least-buf-clause-tells : goal.returns-else-least-buf-clause-tells
-returns-else-least-buf-clause-tells g c = λ b agrees.
+pub returns-else-least-buf-clause-proves : goal.returns-else-least-buf-clause-proves
+returns-else-least-buf-clause-proves g c = λ b agrees.
     let exact = c.ask_exact.ensures.exact c.args.buf.now b agrees in (
       exact.0,
       elim c.else-least-buf.branch [

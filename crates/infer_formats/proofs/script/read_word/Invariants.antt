@@ -1,4 +1,4 @@
--- the bytes so far are those of a word, its name begins behind the last "/", and "=" is told
+-- the bytes so far are those of a word, its name begins after the last "/", and "=" is told
 use Rattle.infer_formats.proofs.Common.{◌≡◌, ◌↔◌, ℕ, ◌-◌, ◌<◌, ◌≤◌, IsTrue, get_or, IsWordByte, HasEquals}
 use Rattle.infer_formats.proofs.script.read_word.Given as goal
 

@@ -1,9 +1,9 @@
-use Rattle.infer_formats.proofs.ZipLemmas.{folder_tells, none_begins}
+use Rattle.infer_formats.proofs.ZipLemmas.{folder_says, none_begins}
 use Rattle.infer_formats.proofs.zip.package_folder.Goals as goal
 
 pub returns-in-Some : goal.returns-in-Some
 returns-in-Some c = λ folder application.
-    folder_tells c.args.buf.now folder application c.in-Some.place
+    folder_says c.args.buf.now folder application c.in-Some.place
     (c.may_begin_any_package.ensures.0 c.if-not-may_begin_any_package.false) (c.has_part.ensures.0 c.if-not-has_part.false) c.in-Some.ensures
 
 pub returns-in-None : goal.returns-in-None

@@ -2,11 +2,11 @@
 use Rattle.infer_more.proofs.Common.{take}
 use Rattle.infer_evidence.specs.Evidence.{IsOf}
 use Rattle.infer_more.specs.Index.{all_of}
-use Rattle.infer_more.specs.Evidence.{IsRuledOut, Tells}
+use Rattle.infer_more.specs.Evidence.{IsRuledOut, Proves}
 use Rattle.infer_more.proofs.deciding_bytes.rule_out_each.Given as goal
 
 abbrev pub invariant-loop-named : goal.invariant-loop-named
 invariant-loop-named g l = record {
-  tells : Tells l.fn.evidence l.evidence l.asked.buf.now (λ c. IsRuledOut l.asked (all_of (λ e. g.R.Ruled.rows e c) (take l.named-index l.list)) c);
+  proves : Proves l.fn.evidence l.evidence l.asked.buf.now (λ c. IsRuledOut l.asked (all_of (λ e. g.R.Ruled.rows e c) (take l.named-index l.list)) c);
   inside : IsOf l.fn.evidence l.asked.buf.now → IsOf l.evidence l.asked.buf.now;
 }

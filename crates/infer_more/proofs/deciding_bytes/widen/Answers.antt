@@ -13,10 +13,10 @@ returns-then-widens-clause-first c =
     let within = (c.weigh_at-widens.ensures.answer.0 c.if-widens.true).0 in
     first_found c.args.parent c.args.buf.now _ c.least_widening.ensures (omega (arith, within, length-further))
 
-pub returns-then-widens-clause-tells : goal.returns-then-widens-clause-tells
-returns-then-widens-clause-tells c = λ b bytes agrees.
-    let before = c.rule_out_all.ensures.tells b bytes agrees in
-    let told = c.weigh_at-widens.ensures.tells b bytes before.0 in
+pub returns-then-widens-clause-proves : goal.returns-then-widens-clause-proves
+returns-then-widens-clause-proves c = λ b bytes agrees.
+    let before = c.rule_out_all.ensures.proves b bytes agrees in
+    let told = c.weigh_at-widens.ensures.proves b bytes before.0 in
     (told.0, first_alike c.args.parent c.args.buf.now b _ c.least_widening.ensures before.1 told.1 (c.weigh_at-widens.ensures.answer.0 c.if-widens.true))
 
 pub returns-else-widens-clause-first : goal.returns-else-widens-clause-first
@@ -25,8 +25,8 @@ returns-else-widens-clause-first c =
     none_alike c.args.parent c.args.buf.now c.args.buf.now _ own (least_late (WidensAt c.args.parent c.args.buf.now) _ own.least) (λ h. h, λ h. h)
     (refuted_by c.if-widens.false c.weigh_at-widens.ensures.answer)
 
-pub returns-else-widens-clause-tells : goal.returns-else-widens-clause-tells
-returns-else-widens-clause-tells c = λ b bytes agrees.
-    let before = c.rule_out_all.ensures.tells b bytes agrees in
-    let told = c.weigh_at-widens.ensures.tells b bytes before.0 in
+pub returns-else-widens-clause-proves : goal.returns-else-widens-clause-proves
+returns-else-widens-clause-proves c = λ b bytes agrees.
+    let before = c.rule_out_all.ensures.proves b bytes agrees in
+    let told = c.weigh_at-widens.ensures.proves b bytes before.0 in
     (told.0, none_alike c.args.parent c.args.buf.now b _ c.least_widening.ensures before.1 told.1 (refuted_by c.if-widens.false c.weigh_at-widens.ensures.answer))

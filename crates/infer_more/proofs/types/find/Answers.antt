@@ -18,8 +18,8 @@ loop-found-preserved c = λ rows e.
     let P = Answers (option_map (λ e. e.now) c.args.extension) c.args.buf.now in
     let rest = c.loop-found.rest.now in
     let line = c.next_line.result.0.now in
-    let is = subst (λ o. MatchOption o (lines_of rest ≡ line ∷ []) (λ r. (lines_of rest ≡ line ∷ lines_of r.now) × (length r.now < length rest))) c.in-Some-behind.is c.next_line.ensures in
-    let later = answer_later P rest line (lines_of c.in-Some-behind.more.now) inv.0 is.0 inv.1 c.in_default.ensures in
+    let is = subst (λ o. MatchOption o (lines_of rest ≡ line ∷ []) (λ r. (lines_of rest ≡ line ∷ lines_of r.now) × (length r.now < length rest))) c.in-Some-after.is c.next_line.ensures in
+    let later = answer_later P rest line (lines_of c.in-Some-after.more.now) inv.0 is.0 inv.1 c.in_default.ensures in
     (later.0, later.1, λ t h. inv.2 t (later.2 t h))
 
 pub returns-in-None : goal.returns-in-None

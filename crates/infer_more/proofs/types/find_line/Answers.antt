@@ -6,11 +6,11 @@ use Rattle.infer_more.proofs.types.find_line.Goals as goal
 
 pub returns-then-is_some : goal.returns-then-is_some
 returns-then-is_some c = λ described.
-    let l = c.loop-behind in
+    let l = c.loop-after in
     let extension = option_map (λ e. e.now) c.args.extension in
     let b = c.args.buf.now in
     let all = lines_of c.args.text.now in
-    let rest = c.loop-behind.rest.now in
+    let rest = c.loop-after.rest.now in
     let line = c.next_line.result.0.now in
     let lines = some_lines (lines_of rest) line c.next_line.result.1 (length rest) c.next_line.ensures in
     let told = line_described rest line lines.0 lines.1 (l.invariant.described described) in
@@ -19,24 +19,24 @@ returns-then-is_some c = λ described.
 
 pub returns-in-None : goal.returns-in-None
 returns-in-None c = λ described.
-    let l = c.loop-behind in
+    let l = c.loop-after in
     let extension = option_map (λ e. e.now) c.args.extension in
     let b = c.args.buf.now in
     let all = lines_of c.args.text.now in
-    let rest = c.loop-behind.rest.now in
+    let rest = c.loop-after.rest.now in
     let line = c.next_line.result.0.now in
     let is = subst (λ o. MatchOption o (lines_of rest ≡ line ∷ []) (λ r. (lines_of rest ≡ line ∷ lines_of r.now) × (length r.now < length rest))) c.in-None.is c.next_line.ensures in
     let told = line_described rest line [] is (l.invariant.described described) in
     let not = told_not extension b line told.0 told.1 c.answer_of.result (sym c.is_some.ensures ∙ c.if-is_some.false) c.answer_of.ensures in
     at_end extension b (l.number + 1) all (past_line extension b l.number all line [] (subst (Later extension b l.number all) is (l.invariant.later described)) not)
 
-pub loop-behind-preserved : goal.loop-behind-preserved
-loop-behind-preserved c =
-    let l = c.loop-behind in
+pub loop-after-preserved : goal.loop-after-preserved
+loop-after-preserved c =
+    let l = c.loop-after in
     let extension = option_map (λ e. e.now) c.args.extension in
     let b = c.args.buf.now in
     let all = lines_of c.args.text.now in
-    let rest = c.loop-behind.rest.now in
+    let rest = c.loop-after.rest.now in
     let line = c.next_line.result.0.now in
     let more = c.in-Some.more.now in
     let is = subst (λ o. MatchOption o (lines_of rest ≡ line ∷ []) (λ r. (lines_of rest ≡ line ∷ lines_of r.now) × (length r.now < length rest))) c.in-Some.is c.next_line.ensures in

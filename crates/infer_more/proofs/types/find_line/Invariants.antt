@@ -4,12 +4,12 @@ use Rattle.infer_more.proofs.AnswerLineLemmas.{Later}
 use Rattle.infer_more.proofs.types.find_line.Given as goal
 
 -- the first of the lines to come that answers is the first of all
-abbrev pub invariant-loop-behind : goal.invariant-loop-behind
-invariant-loop-behind l = record {
+abbrev pub invariant-loop-after : goal.invariant-loop-after
+invariant-loop-after l = record {
   few : l.number + length l.rest ≤ length l.text + 1;
   described : IsTrue (is_some (rows_of l.text)) → IsTrue (is_some (rows_of l.rest));
   later : IsTrue (is_some (rows_of l.text)) → Later (option_map (λ e. e.now) l.extension) l.buf l.number (lines_of l.text) (lines_of l.rest);
 }
 
-abbrev pub decreases-loop-behind : goal.decreases-loop-behind
-decreases-loop-behind l = length l.rest
+abbrev pub decreases-loop-after : goal.decreases-loop-after
+decreases-loop-after l = length l.rest

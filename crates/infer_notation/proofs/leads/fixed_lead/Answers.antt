@@ -10,7 +10,7 @@ loop-rest-init c = record {
 
 pub loop-rest-preserved : goal.loop-rest-preserved
 loop-rest-preserved c =
-    let left = c.rest_at.ensures ∙ ap (drop c.in-Some.count) c.behind_first.ensures ∙ drop-drop c.in-Some.count 1 c.loop-rest.rest.now in
+    let left = c.rest_at.ensures ∙ ap (drop c.in-Some.count) c.after_first.ensures ∙ drop-drop c.in-Some.count 1 c.loop-rest.rest.now in
     let next = c.in-Some.ensures.found c.args.text.now c.loop-rest.invariant.read in
     record {
       begins = c.skip_blanks-rest-in-Some.ensures.ends;

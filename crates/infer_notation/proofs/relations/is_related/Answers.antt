@@ -4,7 +4,7 @@ use Rattle.infer_notation.specs.Relations.{IsSeen, group_listed, items_of, named
 use Rattle.infer_formats.specs.Relation.{names}
 use Rattle.infer_notation.specs.Tokens.{token_listed}
 use Rattle.infer_notation.specs.Words.{found_by}
-use Rattle.infer_notation.proofs.FlawLemmas.{behind_next, flaw_behind}
+use Rattle.infer_notation.proofs.FlawLemmas.{after_next, flaw_after}
 use Rattle.infer_notation.proofs.SeenLemmas.{IsLeft, left_items, seen_first, seen_last, seen_next, unseen_first, untaken_first}
 use Rattle.infer_notation.proofs.relations.is_related.Goals as goal
 
@@ -29,33 +29,33 @@ loop-rest-init c =
     record {
       seen = seen_first c.args.text.now c.args.buf.now (group_listed g) (option_map (λ t. t.now) c.in_ok-first.rest) c.in-Some.takes (map token_listed c.in-Some.tokens.now) c.in_ok-any.any
           c.in_ok-first.ensures.found named c.in_ok-any.ensures.seen;
-      behind = behind_next c.args.text.now c.args.text.now c.in_ok-first.rest refl (omega arith) c.in_ok-first.ensures.read c.in_ok-first.ensures.left;
+      after = after_next c.args.text.now c.args.text.now c.in_ok-first.rest refl (omega arith) c.in_ok-first.ensures.read c.in_ok-first.ensures.left;
     }
 
 pub loop-rest-preserved-then-any : goal.loop-rest-preserved-then-any
 loop-rest-preserved-then-any c =
     let l = c.loop-rest in
-    let before = rw c.in-Some-rest.is at l.invariant.behind in
+    let before = rw c.in-Some-rest.is at l.invariant.after in
     let seen = subst (λ g. IsSeen (items_of c.in-Some.takes g) c.args.buf.now (Some c.in_ok-fits.fits)) c.read-in-Some-rest.ensures c.in_ok-fits.ensures.seen in
     let same : (l.any || c.in_ok-fits.fits) ≡ l.any = rw c.if-any.true refl in
-    let next = seen_next c.in-Some-rest.more.now c.args.buf.now (group_listed c.in_ok-group.group) (option_map (λ t. t.now) c.in_ok-group.behind) c.in-Some.takes l.any c.in_ok-fits.fits c.in_ok-group.ensures.found seen in
+    let next = seen_next c.in-Some-rest.more.now c.args.buf.now (group_listed c.in_ok-group.group) (option_map (λ t. t.now) c.in_ok-group.after) c.in-Some.takes l.any c.in_ok-fits.fits c.in_ok-group.ensures.found seen in
     record {
       seen = λ x left. l.invariant.seen x (subst (λ o. IsLeft l.any (left_items c.in-Some.takes (option_map (λ t. t.now) o)) c.args.buf.now x) (sym c.in-Some-rest.is)
-          (next x (subst (λ any. IsLeft any (left_items c.in-Some.takes (option_map (λ t. t.now) c.in_ok-group.behind)) c.args.buf.now x) (sym same) left)));
-      behind = behind_next c.args.text.now c.in-Some-rest.more.now c.in_ok-group.behind before.0 before.1 c.in_ok-group.ensures.read c.in_ok-group.ensures.left;
+          (next x (subst (λ any. IsLeft any (left_items c.in-Some.takes (option_map (λ t. t.now) c.in_ok-group.after)) c.args.buf.now x) (sym same) left)));
+      after = after_next c.args.text.now c.in-Some-rest.more.now c.in_ok-group.after before.0 before.1 c.in_ok-group.ensures.read c.in_ok-group.ensures.left;
     }
 
 pub loop-rest-preserved : goal.loop-rest-preserved
 loop-rest-preserved c =
     let l = c.loop-rest in
-    let before = rw c.in-Some-rest.is at l.invariant.behind in
+    let before = rw c.in-Some-rest.is at l.invariant.after in
     let seen = subst (λ g. IsSeen (items_of c.in-Some.takes g) c.args.buf.now (Some c.in_ok-fits.fits)) c.read-in-Some-rest.ensures c.in_ok-fits.ensures.seen in
     let same : (l.any || c.in_ok-fits.fits) ≡ c.in_ok-fits.fits = rw c.if-any.false refl in
-    let next = seen_next c.in-Some-rest.more.now c.args.buf.now (group_listed c.in_ok-group.group) (option_map (λ t. t.now) c.in_ok-group.behind) c.in-Some.takes l.any c.in_ok-fits.fits c.in_ok-group.ensures.found seen in
+    let next = seen_next c.in-Some-rest.more.now c.args.buf.now (group_listed c.in_ok-group.group) (option_map (λ t. t.now) c.in_ok-group.after) c.in-Some.takes l.any c.in_ok-fits.fits c.in_ok-group.ensures.found seen in
     record {
       seen = λ x left. l.invariant.seen x (subst (λ o. IsLeft l.any (left_items c.in-Some.takes (option_map (λ t. t.now) o)) c.args.buf.now x) (sym c.in-Some-rest.is)
-          (next x (subst (λ any. IsLeft any (left_items c.in-Some.takes (option_map (λ t. t.now) c.in_ok-group.behind)) c.args.buf.now x) (sym same) left)));
-      behind = behind_next c.args.text.now c.in-Some-rest.more.now c.in_ok-group.behind before.0 before.1 c.in_ok-group.ensures.read c.in_ok-group.ensures.left;
+          (next x (subst (λ any. IsLeft any (left_items c.in-Some.takes (option_map (λ t. t.now) c.in_ok-group.after)) c.args.buf.now x) (sym same) left)));
+      after = after_next c.args.text.now c.in-Some-rest.more.now c.in_ok-group.after before.0 before.1 c.in_ok-group.ensures.read c.in_ok-group.ensures.left;
     }
 
 pub returns-clause-seen : goal.returns-clause-seen
@@ -65,10 +65,10 @@ returns-clause-seen c =
 
 pub returns-in_err-group-clause-flaw : goal.returns-in_err-group-clause-flaw
 returns-in_err-group-clause-flaw c =
-    let before = rw c.in-Some-rest.is at c.loop-rest.invariant.behind in
-    let flaw = flaw_behind c.args.text.now c.in-Some-rest.more.now _ before.1 before.0 c.in_err-group.ensures.flaw in search rules
+    let before = rw c.in-Some-rest.is at c.loop-rest.invariant.after in
+    let flaw = flaw_after c.args.text.now c.in-Some-rest.more.now _ before.1 before.0 c.in_err-group.ensures.flaw in search rules
 
 pub returns-in_err-fits-clause-flaw : goal.returns-in_err-fits-clause-flaw
 returns-in_err-fits-clause-flaw c =
-    let before = rw c.in-Some-rest.is at c.loop-rest.invariant.behind in
-    let flaw = flaw_behind c.args.text.now c.in-Some-rest.more.now _ before.1 before.0 c.in_err-fits.ensures.flaw in search rules
+    let before = rw c.in-Some-rest.is at c.loop-rest.invariant.after in
+    let flaw = flaw_after c.args.text.now c.in-Some-rest.more.now _ before.1 before.0 c.in_err-fits.ensures.flaw in search rules

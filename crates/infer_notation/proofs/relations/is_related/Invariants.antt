@@ -8,7 +8,7 @@ use Rattle.infer_notation.proofs.relations.is_related.Given as goal
 abbrev pub invariant-loop-rest : goal.invariant-loop-rest
 invariant-loop-rest l = record {
   seen : (x : Option Bool) → IsLeft l.any (left_items l.takes (option_map (λ t. t.now) l.rest)) l.buf x → IsSeen (relations_of l.text) l.buf x;
-  behind : IfSome l.rest (λ more. (unread l.text ≡ unread more.now) × (length more.now ≤ length l.text));
+  after : IfSome l.rest (λ more. (unread l.text ≡ unread more.now) × (length more.now ≤ length l.text));
 }
 
 abbrev pub decreases-loop-rest : goal.decreases-loop-rest

@@ -17,7 +17,7 @@ loop-rest-init c = record {
 pub loop-rest-preserved : goal.loop-rest-preserved
 loop-rest-preserved c =
     let buf = c.args.buf.now in
-    let left = c.rest_at.ensures ∙ ap (drop c.in-Ok.count) c.behind_first.ensures ∙ drop-drop c.in-Ok.count 1 c.loop-rest.rest.now in
+    let left = c.rest_at.ensures ∙ ap (drop c.in-Ok.count) c.after_first.ensures ∙ drop-drop c.in-Ok.count 1 c.loop-rest.rest.now in
     record {
       begins = c.skip_blanks-rest-in-Ok.ensures.ends;
       read = c.loop-rest.invariant.read ∙ c.in-Ok.ensures.read ∙ ap unread (sym left) ∙ sym (flaws.past_blanks c.rest_at.result.now)

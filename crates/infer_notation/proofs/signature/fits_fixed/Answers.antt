@@ -12,19 +12,19 @@ loop-rest-init c = record {
 pub loop-rest-preserved : goal.loop-rest-preserved
 loop-rest-preserved c =
     let buf = c.args.buf.now in
-    let left = c.rest_at-behind.ensures ∙ ap (drop c.in-Ok.count) c.behind_first.ensures ∙ drop-drop c.in-Ok.count 1 c.loop-rest.rest.now in
+    let left = c.rest_at-after.ensures ∙ ap (drop c.in-Ok.count) c.after_first.ensures ∙ drop-drop c.in-Ok.count 1 c.loop-rest.rest.now in
     record {
       begins = c.skip_blanks-rest-in-Ok.ensures.ends;
-      same = ap (given buf c.in-Ok.more 0) c.skip_blanks-rest-in-Ok.ensures.value ∙ given_blanks buf c.in-Ok.more c.rest_at-behind.result.now ∙ ap (given buf c.in-Ok.more 0) left ∙ sym c.in-Ok.ensures.found ∙ c.loop-rest.invariant.same;
+      same = ap (given buf c.in-Ok.more 0) c.skip_blanks-rest-in-Ok.ensures.value ∙ given_blanks buf c.in-Ok.more c.rest_at-after.result.now ∙ ap (given buf c.in-Ok.more 0) left ∙ sym c.in-Ok.ensures.found ∙ c.loop-rest.invariant.same;
     }
 
 pub returns-then-is_refused : goal.returns-then-is_refused
 returns-then-is_refused c = λ alternatives e.
     let buf = c.args.buf.now in
     let yes = c.if-is_refused.true in
-    let left = c.rest_at-behind.ensures ∙ ap (drop c.in-Ok.count) c.behind_first.ensures ∙ drop-drop c.in-Ok.count 1 c.loop-rest.rest.now in
+    let left = c.rest_at-after.ensures ∙ ap (drop c.in-Ok.count) c.after_first.ensures ∙ drop-drop c.in-Ok.count 1 c.loop-rest.rest.now in
     let is = ap (given buf c.in-Ok.more 0) left ∙ sym c.in-Ok.ensures.found ∙ c.loop-rest.invariant.same ∙ ap (option_map (λ alternatives. accepts alternatives buf)) e in
-    refused buf c.rest_at-behind.result.now c.in-Ok.more (accepts alternatives buf) (c.is_refused.ensures.any yes) (c.is_refused.ensures.last yes) (c.is_refused.ensures.wanted yes) (c.is_refused.ensures.none yes) is
+    refused buf c.rest_at-after.result.now c.in-Ok.more (accepts alternatives buf) (c.is_refused.ensures.any yes) (c.is_refused.ensures.last yes) (c.is_refused.ensures.wanted yes) (c.is_refused.ensures.none yes) is
 
 pub returns-in-Err : goal.returns-in-Err
 returns-in-Err c = λ alternatives e.

@@ -13,10 +13,10 @@ pub returns-in-Ok-clause-found : goal.returns-in-Ok-clause-found
 returns-in-Ok-clause-found c =
     let front = c.skip_blanks-front.result.now in
     let some : 0 < length front = search rules in
-    let behind = c.rest_at.ensures ∙ ap (drop c.in-Ok.count) c.behind_first.ensures in (
+    let after = c.rest_at.ensures ∙ ap (drop c.in-Ok.count) c.after_first.ensures in (
       next_token c.args.text.now front (token_listed c.in-Ok.token) c.in-Ok.count c.skip_blanks-front.ensures.value some (c.skip_blanks-front.ensures.ends some) c.in-Ok.ensures.value
-          ∙ ap (λ r. option_map (λ ts. token_listed c.in-Ok.token ∷ ts) (tokens_of r)) (sym behind),
-      rw behind (let fits = c.skip_blanks-front.ensures.fits in omega (arith, length-drop 1 front, length-drop c.in-Ok.count (drop 1 front))),
+          ∙ ap (λ r. option_map (λ ts. token_listed c.in-Ok.token ∷ ts) (tokens_of r)) (sym after),
+      rw after (let fits = c.skip_blanks-front.ensures.fits in omega (arith, length-drop 1 front, length-drop c.in-Ok.count (drop 1 front))),
     )
 
 pub returns-in-Err-clause-none : goal.returns-in-Err-clause-none
@@ -29,9 +29,9 @@ pub returns-in-Ok-clause-read : goal.returns-in-Ok-clause-read
 returns-in-Ok-clause-read c =
     let front = c.skip_blanks-front.result.now in
     let some : 0 < length front = search rules in
-    let behind = c.rest_at.ensures ∙ ap (drop c.in-Ok.count) c.behind_first.ensures in
+    let after = c.rest_at.ensures ∙ ap (drop c.in-Ok.count) c.after_first.ensures in
     sym (flaws.past_blanks c.args.text.now) ∙ ap unread (sym c.skip_blanks-front.ensures.value)
-    ∙ flaws.past_token front (token_listed c.in-Ok.token) c.in-Ok.count some (c.skip_blanks-front.ensures.ends some) c.in-Ok.ensures.value ∙ ap unread (sym behind)
+    ∙ flaws.past_token front (token_listed c.in-Ok.token) c.in-Ok.count some (c.skip_blanks-front.ensures.ends some) c.in-Ok.ensures.value ∙ ap unread (sym after)
 
 pub returns-in-Err-clause-flaw : goal.returns-in-Err-clause-flaw
 returns-in-Err-clause-flaw c =

@@ -2,7 +2,7 @@ use Rattle.std.proofs.Common.{Any, None, refl, subst, sym}
 use Rattle.std.proofs.lemmas.Bool.{false≢true}
 use Rattle.std.specs.Bool.{OnFalse, OnTrue}
 use Rattle.mime_sniff.specs.Growth.{MayScript}
-use Rattle.mime_sniff.specs.Rule.{Accepts, TellsFirst}
+use Rattle.mime_sniff.specs.Rule.{Accepts, FindsFirst}
 use Rattle.mime_sniff.specs.Standard.{scriptable}
 use Rattle.mime_sniff.proofs.DecidedLemmas.{NeverAccepted, may_below, never_accepted, never_full, no_rule, some_rule}
 use Rattle.mime_sniff.proofs.computed.may_be_scriptable.Goals as goal
@@ -16,7 +16,7 @@ returns-in-Some-clause-full c full = (
 pub returns-in-None-clause-right : goal.returns-in-None-clause-right
 returns-in-None-clause-right c =
     never_full c.args.buf.now c.if-buf-ge-HEADER_LENGTH.true
-    (subst (λ h. TellsFirst (Accepts h) scriptable None) c.header-header.ensures c.in-None.ensures)
+    (subst (λ h. FindsFirst (Accepts h) scriptable None) c.header-header.ensures c.in-None.ensures)
 
 pub returns-in-None-clause-full : goal.returns-in-None-clause-full
 returns-in-None-clause-full c full = (

@@ -6,4 +6,4 @@ use Rattle.mime_sniff.proofs.settled.of_unscripted.Goals as goal
 
 pub returns : goal.returns
 returns c =
-    settle_both c.args.header.now texts (images ++ (media ++ (archives ++ text_rule ∷ []))) _ _ _ c.or_else.ensures c.of_texts.ensures c.of_behind_texts.ensures
+    settle_both c.args.header.now texts (images ++ (media ++ (archives ++ text_rule ∷ []))) _ _ _ c.or_else.ensures c.of_texts.ensures c.of_after_texts.ensures

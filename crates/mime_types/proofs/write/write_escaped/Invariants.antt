@@ -4,7 +4,7 @@ use Rattle.mime_types.specs.Serialize.{escaped}
 use Rattle.mime_types.specs.Wrote.{Wrote}
 use Rattle.mime_types.proofs.write.write_escaped.Given as goal
 
--- what is written behind the bytes so far is written behind all of them
+-- what is written after the bytes so far is written after all of them
 abbrev pub invariant-loop-byte : goal.invariant-loop-byte
 invariant-loop-byte l = record {
   within : l.end ≤ length l.out;

@@ -10,16 +10,16 @@ loop-byte-preserved c =
     let i = c.loop-byte.byte-index in
     let out = c.write_byte.new.out in
     let one = c.to_ascii_lowercase.result ∷ [] in
-    let behind = lower (drop (i + 1) t) in
+    let after = lower (drop (i + 1) t) in
     let next : i + 1 ≡ suc i = omega arith in
-    let whole : c.to_ascii_lowercase.result ∷ behind ≡ lower (drop i t) =
-    ap (λ x. x ∷ behind) c.to_ascii_lowercase.ensures.value
+    let whole : c.to_ascii_lowercase.result ∷ after ≡ lower (drop i t) =
+    ap (λ x. x ∷ after) c.to_ascii_lowercase.ensures.value
     ∙ (ap (λ n. lower (get_or t i 0 ∷ drop n t)) next ∙ ap lower (sym (drop-cons t i 0 c.loop-byte-test.true))) in
     let same : length out ≡ length c.loop-byte.out = omega arith in
     record {
       within = within_room c.loop-byte.out out c.loop-byte.end c.in_ok-end.end one c.write_byte.result same c.in_ok-end.was c.write_byte.ensures;
       all = λ d o rest. c.loop-byte.invariant.all d o
-          (then_wrote one behind _ whole c.write_byte.result c.loop-byte.out out d c.loop-byte.end c.in_ok-end.end o same c.in_ok-end.was c.write_byte.ensures
+          (then_wrote one after _ whole c.write_byte.result c.loop-byte.out out d c.loop-byte.end c.in_ok-end.end o same c.in_ok-end.was c.write_byte.ensures
           rest);
     }
 

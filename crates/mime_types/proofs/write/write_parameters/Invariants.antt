@@ -5,7 +5,7 @@ use Rattle.mime_types.specs.Parameters.{parameters}
 use Rattle.mime_types.specs.Wrote.{Wrote}
 use Rattle.mime_types.proofs.write.write_parameters.Given as goal
 
--- what is written behind the parameters so far is written behind all of them
+-- what is written after the parameters so far is written after all of them
 abbrev pub invariant-loop-parameter : goal.invariant-loop-parameter
 invariant-loop-parameter l = record {
   within : l.end ≤ length l.out;

@@ -2,7 +2,7 @@ use infer_formats::id3::{is_behind_id3, may_be_behind_id3};
 
 // Written by hand from sections 3.1 and 6.2 of the tag's main structure.
 #[test]
-fn behind_tags(rt: HostRuntime) {
+fn after_tags(rt: HostRuntime) {
     let cases: [(&[u8], bool, bool); 8] = [
         (b"ID3\x04\0\0\0\0\0\0fLaC", true, true),
         (b"ID3\x04\0\0\0\0\0\x02..fLaC", true, true),

@@ -3,7 +3,7 @@ use infer_formats::json::{
     may_have_first_key_with,
 };
 
-// By hand. What stands behind the colon may be anything.
+// By hand. What stands after the colon may be anything.
 #[test]
 fn first_keys(rt: HostRuntime) {
     let cases: [(&[u8], bool, bool); 17] = [

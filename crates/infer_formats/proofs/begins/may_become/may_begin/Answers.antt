@@ -8,11 +8,11 @@ returns-then-may_stand_at c = λ h. c.if-may_stand_at.true
 pub returns-then-may_stand_at-2 : goal.returns-then-may_stand_at-2
 returns-then-may_stand_at-2 c = λ h. elim (begins_known c.args.text.now c.args.buf.now h) as (λ k. IsTrue c.may_stand_at-then-may_stand_at-2.result) [
   | inl first ↦ absurd (false≢true (sym c.if-may_stand_at.false ∙ c.may_stand_at.ensures.1 first))
-  | inr behind ↦ c.may_stand_at-then-may_stand_at-2.ensures.1 behind.1
+  | inr after ↦ c.may_stand_at-then-may_stand_at-2.ensures.1 after.1
 ]
 
 pub returns-else-may_stand_at-2 : goal.returns-else-may_stand_at-2
 returns-else-may_stand_at-2 c = λ h. elim (begins_known c.args.text.now c.args.buf.now h) as (λ k. IsTrue c.may_stand_at-else-may_stand_at.result) [
   | inl first ↦ absurd (false≢true (sym c.if-may_stand_at.false ∙ c.may_stand_at.ensures.1 first))
-  | inr behind ↦ c.may_stand_at-else-may_stand_at.ensures.1 behind.0
+  | inr after ↦ c.may_stand_at-else-may_stand_at.ensures.1 after.0
 ]

@@ -3,4 +3,4 @@ use Rattle.infer_formats.proofs.json.key.past_key.Goals as goal
 
 pub returns : goal.returns
 returns c =
-    key_read c.args.key.now c.args.buf.now c.in_ok-inside.inside.now c.in_ok-behind.behind.now c.in_ok-inside.ensures c.in_ok-behind.ensures c.past_byte-2.result c.past_byte-2.ensures
+    key_read c.args.key.now c.args.buf.now c.in_ok-inside.inside.now c.in_ok-after.after.now c.in_ok-inside.ensures c.in_ok-after.ensures c.past_byte-2.result c.past_byte-2.ensures

@@ -6,6 +6,6 @@ returns-in_err-end g c =
     let b = c.args.buf.now in
     let opening = c.args.opening.now in
     let closing = c.args.closing.now in
-    let behind : c.args.place + length opening ≡ c.args.place + g.row.N = omega arith in
+    let after : c.args.place + length opening ≡ c.args.place + g.row.N = omega arith in
     subst (FindsPlace (IsEnclosed b opening closing c.args.place)) (sym c.from_residual.ensures)
-    (λ q (o, (e, first, is)). c.in_err-end.ensures e (subst (λ k. IsWithin OccursAt b closing k (length b) e) behind first.here))
+    (λ q (o, (e, first, is)). c.in_err-end.ensures e (subst (λ k. IsWithin OccursAt b closing k (length b) e) after first.here))

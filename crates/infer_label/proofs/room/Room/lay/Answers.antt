@@ -1,6 +1,6 @@
 use Rattle.std.proofs.Common.{◌≡◌, ◌≤◌, ◌<◌, ◌∙◌, ◌^◌, ℕ, ap, arith, length, refl, rules}
 use Rattle.infer_label.specs.Writes.{saturated}
-use Rattle.infer_label.proofs.RoomLemmas.{laid_behind, laid_full, length_laid}
+use Rattle.infer_label.proofs.RoomLemmas.{laid_after, laid_full, length_laid}
 use Rattle.infer_label.proofs.room.Room.lay.Goals as goal
 
 reaches : (n text room start : ℕ) → n ≡ saturated text → room ≡ start → room ≤ n → start ≤ text
@@ -15,5 +15,5 @@ returns-then-self-clause-laid c = λ start text holds.
 
 pub returns-clause-laid : goal.returns-clause-laid
 returns-clause-laid c = λ start text holds.
-    laid_behind text c.args.bytes.now start c.args.self.now.out.now c.fill.new.room c.args.self.now.len _ holds.begins (counts _ _ _ holds.length c.if-self.false (search rules))
+    laid_after text c.args.bytes.now start c.args.self.now.out.now c.fill.new.room c.args.self.now.len _ holds.begins (counts _ _ _ holds.length c.if-self.false (search rules))
     c.if-self.false refl (ap length holds.begins ∙ length_laid text start) c.fill.ensures

@@ -1,4 +1,4 @@
-use Rattle.infer_more.proofs.Common.{◌≡◌, ◌<◌, [], length, ap, arith, subst, sym, ◌∙◌, false≢true, min, IsLeast, named_row, Named, name_at}
+use Rattle.infer_more.proofs.Common.{◌≡◌, ◌<◌, [], None, length, ap, arith, subst, sym, ◌∙◌, false≢true, min, IsLeast, named_row, Named, name_at}
 use Rattle.infer_more.proofs.LeastLemmas.{none_more, rows_first, rows_past}
 use Rattle.infer_more.proofs.index.search.least_named.Goals as goal
 
@@ -16,4 +16,4 @@ loop-named-preserved c =
     (λ q. false≢true (sym c.if-is_named.false ∙ c.is_named.ensures.1 q))
 
 pub returns : goal.returns
-returns c = rows_past named_row (λ (e : Named). (name_at e.name) ≡ c.args.name.now) c.args.names.now (record { row = 0; name = record { start = 0; count = 0 } }) c.args.before (λ j less. c.loop-named.invariant j _ (omega arith))
+returns c = rows_past named_row (λ (e : Named). (name_at e.name) ≡ c.args.name.now) c.args.names.now (record { row = 0; name = record { start = 0; count = 0 }; text = None }) c.args.before (λ j less. c.loop-named.invariant j _ (omega arith))

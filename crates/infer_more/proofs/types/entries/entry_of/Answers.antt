@@ -8,7 +8,7 @@ use Rattle.infer_more.proofs.types.entries.entry_of.Goals as goal
 
 pub invariant_of-result : goal.invariant_of-result
 invariant_of-result c = record {
-  tells = λ own e.
+  leads = λ own e.
       let fields = fields_listed c.split-fields.result in
       let row = row_in c.args.line.now c.skip_blanks-text.result.now own fields c.skip_blanks-text.ensures.value (sym c.is_remark.ensures ∙ c.if-is_remark.false) c.split-fields.ensures e in
       let said = says fields own row in (
