@@ -188,7 +188,8 @@ static void put_told(struct labeller *labeller, const char *name, size_t name_si
         put_reasons(options, labeller->front, front->size, lines);
 }
 
-/* What a kind is called: a folder as a text with how to walk it, and in a MIME type's place by the words of `file`. */
+/* What a kind is called: a folder as a text with how to walk it, where none is walked, and in a MIME type's place by the words of
+ * `file`. */
 static const char *kind_text(const struct options *options, const char *kind) {
     static const char *const kinds[][2] = {
         {"folder", "inode/directory"}, {"fifo", "inode/fifo"},        {"socket", "inode/socket"},
@@ -198,7 +199,7 @@ static const char *kind_text(const struct options *options, const char *kind) {
     for (size_t i = 0; options->line.form == INFER_LABEL_MIME && i < sizeof kinds / sizeof *kinds; i++)
         if (strcmp(kind, kinds[i][0]) == 0)
             return kinds[i][1];
-    bool is_hint = options->line.form == INFER_LABEL_TEXT && strcmp(kind, "folder") == 0;
+    bool is_hint = options->line.form == INFER_LABEL_TEXT && !options->is_walk && strcmp(kind, "folder") == 0;
     return is_hint ? "folder (-r walks it)" : kind;
 }
 
