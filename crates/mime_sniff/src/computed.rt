@@ -107,6 +107,7 @@ fn told(answer: Option<&'static str>) -> Computed
     }
 }
 
+#[tactic(auto, using(std::proofs::lemmas::List::take_min))]
 fn header(buf: &[u8]) -> &[u8]
     ensures { result.now ≡ header buf.now }
 {

@@ -64,6 +64,7 @@ fn first_rule(header: &[u8]) -> Option<&'static str>
 }
 
 /// The type of the first rule before MP4.
+#[tactic(auto, using(crate::proofs::GoLemmas::by_documents, crate::proofs::GoLemmas::by_images, crate::proofs::GoLemmas::by_sounds))]
 fn of_earlier(header: &[u8]) -> Option<&'static str>
     ensures { FindsFirst (Accepts header.now) earlier (option_map (λ t. t.now) result) }
 {
@@ -77,6 +78,7 @@ fn of_earlier(header: &[u8]) -> Option<&'static str>
 }
 
 /// The type of the first rule of documents, of those with the first byte.
+#[tactic(auto, using(std::proofs::lemmas::Bool::Decides::nat_tests, crate::proofs::GoLemmas::documents_is, crate::proofs::RuleLemmas::finds_empty, crate::proofs::RuleLemmas::finds_led))]
 fn of_documents(header: &[u8]) -> Option<&'static str>
     ensures { FindsFirst (Accepts header.now) documents (option_map (λ t. t.now) result) }
 {
@@ -86,6 +88,7 @@ fn of_documents(header: &[u8]) -> Option<&'static str>
     first_type(table::documents(header[0]), header)
 }
 
+#[tactic(auto, using(crate::proofs::GoLemmas::between_is, crate::proofs::RuleLemmas::finds_direct))]
 fn of_between(header: &[u8]) -> Option<&'static str>
     ensures { FindsFirst (Accepts header.now) between (option_map (λ t. t.now) result) }
 {
@@ -93,6 +96,7 @@ fn of_between(header: &[u8]) -> Option<&'static str>
 }
 
 /// The type of the first rule before text, of those with the first byte.
+#[tactic(auto, using(std::proofs::lemmas::Bool::Decides::nat_tests, crate::proofs::GoLemmas::later_is, crate::proofs::RuleLemmas::finds_empty, crate::proofs::RuleLemmas::finds_led))]
 fn of_later(header: &[u8]) -> Option<&'static str>
     ensures { FindsFirst (Accepts header.now) later (option_map (λ t. t.now) result) }
 {

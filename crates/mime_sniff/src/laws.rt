@@ -2,6 +2,7 @@
 ghost use Rattle.mime_sniff.specs.Laws.{ComputesOne, DecidedStays, DecidesWhenFull, Escalates, EscalatesForGood, EscalatesSo, HasOneType, HeaderComputes, HeaderDecides, KeepsHeader, OctetsStay, RowsStay, SharesRows, StaysIfForbidden, StaysOfItsKind, GivesNoScript};
 
 /// No buffer has two content types.
+#[tactic(auto, using(crate::proofs::FirstLemmas::one_first))]
 pub fn one_type()
     ensures { HasOneType }
 {}
@@ -22,6 +23,7 @@ pub fn header_computes()
 {}
 
 /// However a resource is cut into pieces, a [`Sniffer`](crate::Sniffer) keeps the first 1445 bytes of the whole.
+#[tactic(auto, using(crate::proofs::SnifferLemmas::keeps_header))]
 pub fn keeps_header()
     ensures { KeepsHeader }
 {}
@@ -71,6 +73,7 @@ pub fn of_its_kind()
 {}
 
 /// Where sniffing is forbidden, a supplied type that says something stays, whatever the bytes are.
+#[tactic(auto, using(crate::proofs::ComputedLemmas::stays_of_kind))]
 pub fn stays_if_forbidden()
     ensures { StaysIfForbidden }
 {}
@@ -82,6 +85,7 @@ pub fn gives_no_script()
 
 /// HTML is what the library takes for it, and so are BMP, JPEG, AIFF, WAVE and gzip: the standard's rows accept the same buffers.
 /// HTML is asked of the library. The others are a few bytes each, and stay rows of their tables.
+#[tactic(auto, using(crate::proofs::SharedLemmas::shares_aiff, crate::proofs::SharedLemmas::shares_bmp, crate::proofs::SharedLemmas::shares_gz, crate::proofs::SharedLemmas::shares_html, crate::proofs::SharedLemmas::shares_jpeg, crate::proofs::SharedLemmas::shares_wav))]
 pub fn shares_rows()
     ensures { SharesRows }
 {}

@@ -121,30 +121,35 @@ fn of_text_or_binary(header: &[u8]) -> Option<Option<&'static str>>
     or_else(of_marks(header), of_text(header))
 }
 
+#[tactic(auto, using(crate::proofs::GrowthLemmas::settle_direct, crate::proofs::StandardLemmas::documents_is))]
 fn of_documents(header: &[u8]) -> Option<Option<&'static str>>
     ensures { IfSome result (λ told. FindForGood header.now documents (option_map (λ t. t.now) told)) }
 {
     settled_type(table::documents(), header)
 }
 
+#[tactic(auto, using(crate::proofs::GrowthLemmas::settle_direct, crate::proofs::StandardLemmas::texts_is))]
 fn of_texts(header: &[u8]) -> Option<Option<&'static str>>
     ensures { IfSome result (λ told. FindForGood header.now texts (option_map (λ t. t.now) told)) }
 {
     settled_type(table::texts(), header)
 }
 
+#[tactic(auto, using(crate::proofs::GrowthLemmas::settle_direct, crate::proofs::StandardLemmas::archives_is))]
 fn of_archives(header: &[u8]) -> Option<Option<&'static str>>
     ensures { IfSome result (λ told. FindForGood header.now archives (option_map (λ t. t.now) told)) }
 {
     settled_type(table::archives(), header)
 }
 
+#[tactic(auto, using(crate::proofs::GrowthLemmas::settle_direct, crate::proofs::StandardLemmas::fonts_is))]
 fn of_fonts(header: &[u8]) -> Option<Option<&'static str>>
     ensures { IfSome result (λ told. FindForGood header.now fonts (option_map (λ t. t.now) told)) }
 {
     settled_type(table::fonts(), header)
 }
 
+#[tactic(auto, using(crate::proofs::GrowthLemmas::settle_direct, crate::proofs::StandardLemmas::marks_is))]
 fn of_marks(header: &[u8]) -> Option<Option<&'static str>>
     ensures { IfSome result (λ told. FindForGood header.now marks (option_map (λ t. t.now) told)) }
 {
@@ -152,6 +157,7 @@ fn of_marks(header: &[u8]) -> Option<Option<&'static str>>
 }
 
 /// A byte of binary data stays, and one may come as long as there is none.
+#[tactic(auto, using(crate::proofs::GrowthLemmas::binary_grown, crate::proofs::StandardLemmas::by_binary))]
 fn of_text(header: &[u8]) -> Option<Option<&'static str>>
     ensures { IfSome result (λ told. FindForGood header.now (text_rule ∷ []) (option_map (λ t. t.now) told)) }
 {
@@ -161,6 +167,7 @@ fn of_text(header: &[u8]) -> Option<Option<&'static str>>
     None
 }
 
+#[tactic(auto, using(std::proofs::lemmas::Bool::Decides::nat_tests, crate::proofs::GrowthLemmas::settle_led, crate::proofs::StandardLemmas::images_is))]
 fn of_images(header: &[u8]) -> Option<Option<&'static str>>
     ensures { IfSome result (λ told. FindForGood header.now images (option_map (λ t. t.now) told)) }
 {
@@ -170,6 +177,7 @@ fn of_images(header: &[u8]) -> Option<Option<&'static str>>
     settled_type(images(header[0]), header)
 }
 
+#[tactic(auto, using(std::proofs::lemmas::Bool::Decides::nat_tests, crate::proofs::GrowthLemmas::settle_led, crate::proofs::StandardLemmas::sounds_is))]
 fn of_sounds(header: &[u8]) -> Option<Option<&'static str>>
     ensures { IfSome result (λ told. FindForGood header.now sounds (option_map (λ t. t.now) told)) }
 {

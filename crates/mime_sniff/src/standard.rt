@@ -48,6 +48,7 @@ pub(crate) fn or_octets(told: Option<&'static str>) -> Option<&'static str>
     }
 }
 
+#[tactic(auto, using(crate::proofs::FirstLemmas::finds_left, crate::proofs::FirstLemmas::finds_right))]
 fn of_anything(header: &[u8]) -> Option<&'static str>
     ensures { FindsFirst (Accepts header.now) (scriptable ++ unscripted) (option_map (λ t. t.now) result) }
 {
@@ -57,6 +58,7 @@ fn of_anything(header: &[u8]) -> Option<&'static str>
     of_unscripted(header)
 }
 
+#[tactic(auto, using(crate::proofs::FirstLemmas::finds_left, crate::proofs::FirstLemmas::finds_right))]
 pub(crate) fn of_scriptable(header: &[u8]) -> Option<&'static str>
     ensures { FindsFirst (Accepts header.now) scriptable (option_map (λ t. t.now) result) }
 {
@@ -66,12 +68,14 @@ pub(crate) fn of_scriptable(header: &[u8]) -> Option<&'static str>
     of_documents(header)
 }
 
+#[tactic(auto, using(crate::proofs::RuleLemmas::finds_direct, crate::proofs::StandardLemmas::documents_is))]
 fn of_documents(header: &[u8]) -> Option<&'static str>
     ensures { FindsFirst (Accepts header.now) documents (option_map (λ t. t.now) result) }
 {
     first_type(table::documents(), header)
 }
 
+#[tactic(auto, using(crate::proofs::RuleLemmas::finds_direct, crate::proofs::StandardLemmas::texts_is))]
 fn of_texts(header: &[u8]) -> Option<&'static str>
     ensures { FindsFirst (Accepts header.now) texts (option_map (λ t. t.now) result) }
 {
@@ -96,6 +100,7 @@ fn of_unscripted(header: &[u8]) -> Option<&'static str>
     of_text(header)
 }
 
+#[tactic(auto, using(crate::proofs::RuleLemmas::finds_direct, crate::proofs::StandardLemmas::archives_is))]
 pub(crate) fn of_archives(header: &[u8]) -> Option<&'static str>
     ensures { FindsFirst (Accepts header.now) archives (option_map (λ t. t.now) result) }
 {
@@ -103,6 +108,7 @@ pub(crate) fn of_archives(header: &[u8]) -> Option<&'static str>
 }
 
 /// Text, if no byte is one of binary data.
+#[tactic(auto, using(crate::proofs::StandardLemmas::by_binary, crate::proofs::StandardLemmas::by_text))]
 fn of_text(header: &[u8]) -> Option<&'static str>
     ensures { FindsFirst (Accepts header.now) (text_rule ∷ []) (option_map (λ t. t.now) result) }
 {
@@ -112,12 +118,14 @@ fn of_text(header: &[u8]) -> Option<&'static str>
     Some("text/plain")
 }
 
+#[tactic(auto, using(crate::proofs::RuleLemmas::finds_direct, crate::proofs::StandardLemmas::marks_is))]
 fn of_marks(header: &[u8]) -> Option<&'static str>
     ensures { FindsFirst (Accepts header.now) marks (option_map (λ t. t.now) result) }
 {
     first_type(table::marks(), header)
 }
 
+#[tactic(auto, using(crate::proofs::FirstLemmas::finds_left, crate::proofs::FirstLemmas::finds_right))]
 fn of_text_or_binary(header: &[u8]) -> Option<&'static str>
     ensures { FindsFirst (Accepts header.now) text_or_binary_rules (option_map (λ t. t.now) result) }
 {
@@ -128,6 +136,7 @@ fn of_text_or_binary(header: &[u8]) -> Option<&'static str>
 }
 
 /// The type of the first rule of images, of those with the first byte.
+#[tactic(auto, using(std::proofs::lemmas::Bool::Decides::nat_tests, crate::proofs::StandardLemmas::images_is, crate::proofs::RuleLemmas::finds_empty, crate::proofs::RuleLemmas::finds_led))]
 pub(crate) fn of_images(header: &[u8]) -> Option<&'static str>
     ensures { FindsFirst (Accepts header.now) images (option_map (λ t. t.now) result) }
 {
@@ -138,6 +147,7 @@ pub(crate) fn of_images(header: &[u8]) -> Option<&'static str>
 }
 
 /// The type of the first rule of sounds, of those with the first byte.
+#[tactic(auto, using(std::proofs::lemmas::Bool::Decides::nat_tests, crate::proofs::StandardLemmas::sounds_is, crate::proofs::RuleLemmas::finds_empty, crate::proofs::RuleLemmas::finds_led))]
 pub(crate) fn of_sounds(header: &[u8]) -> Option<&'static str>
     ensures { FindsFirst (Accepts header.now) sounds (option_map (λ t. t.now) result) }
 {
@@ -147,6 +157,7 @@ pub(crate) fn of_sounds(header: &[u8]) -> Option<&'static str>
     first_type(sounds(header[0]), header)
 }
 
+#[tactic(auto, using(crate::proofs::RuleLemmas::finds_direct, crate::proofs::StandardLemmas::fonts_is))]
 fn of_fonts(header: &[u8]) -> Option<&'static str>
     ensures { FindsFirst (Accepts header.now) fonts (option_map (λ t. t.now) result) }
 {

@@ -1,5 +1,0 @@
-use Rattle.std.proofs.Common.{option_map}
-use Rattle.mime_sniff.proofs.settled.text_or_binary.Goals as goal
-
-pub returns-in-Some : goal.returns-in-Some
-returns-in-Some c more = (option_map (λ t. t.now) c.in-Some.told, c.in-Some.ensures more, c.or_octets.ensures)
