@@ -53,6 +53,7 @@ pub(crate) fn is_named(parameter: &Parameter<'_>, name: &[u8]) -> bool
 }
 
 /// Whether the name is a token, and the value may stand in quotes.
+#[tactic(auto, using(crate::proofs::FirstLemmas::quotable_seen, crate::proofs::FirstLemmas::token_in_lower))]
 fn is_valid(parameter: &Parameter<'_>) -> bool
     ensures { result ≡ is_valid (parameter_seen parameter.now) }
 {

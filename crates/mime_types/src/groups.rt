@@ -154,6 +154,7 @@ fn is_word<const N: usize>(text: &[u8], word: &[u8; N]) -> bool
 }
 
 /// Whether the byte is the small letter, or the capital one.
+#[tactic(auto, using(crate::proofs::LetterLemmas::letter_alike))]
 #[inline(always)]
 fn is_letter(byte: u8, letter: u8) -> bool
     requires { IsTrue (is_small letter) }
@@ -185,6 +186,7 @@ pub(crate) fn is_alike(text: &[u8], word: &[u8]) -> bool
 }
 
 /// Whether the text ends so, in any ASCII case. The ending is in lower case.
+#[tactic(auto, using(crate::proofs::TextLemmas::ending))]
 fn ends_in(text: &[u8], ending: &[u8]) -> bool
     requires { lower ending.now ≡ ending.now }
     ensures { IsTrue result ↔ ((start : List ℕ) × (lower text.now ≡ start ++ ending.now)) }

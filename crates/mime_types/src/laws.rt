@@ -4,6 +4,7 @@ ghost use Rattle.mime_types.specs.Laws.{CombinesOnce, EndsSayNothing, HasPieces,
 ghost use Rattle.mime_types.specs.declared.write.TheConstants.{MOST_PARAMETERS};
 
 /// No text says two MIME types.
+#[tactic(auto, using(crate::proofs::ReadLemmas::equal_mime))]
 pub fn one_mime()
     ensures { SaysOne }
 {}
@@ -26,6 +27,7 @@ pub fn pieces_of_commas()
 {}
 
 /// An empty last piece may be left out, as some readers do: the others say the same MIME types, and forbid the same.
+#[tactic(auto, using(crate::proofs::ExtractedLemmas::said_without_last, crate::proofs::PiecesLemmas::forbids))]
 pub fn last_left_out()
     ensures { LeavesLastOut }
 {}
@@ -44,6 +46,7 @@ pub fn ends_say_nothing()
 
 /// What several values say, the one that is made of them says alone. So whoever hands on several headers as one, with `, `
 /// between them, changes nothing.
+#[tactic(auto, using(crate::proofs::TrimLemmas::ends_say_nothing))]
 pub fn combines_once()
     ensures { CombinesOnce }
 {}

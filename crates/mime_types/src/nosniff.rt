@@ -103,6 +103,7 @@ fn blanks_before(text: &[u8]) -> &[u8]
     &[]
 }
 
+#[tactic(auto, using(crate::proofs::BlankLemmas::all_blank, crate::proofs::BlankLemmas::ends_after))]
 fn blanks_after(text: &[u8]) -> &[u8]
     ensures { result.now ≡ take (length text.now - suffix_len is_blank text.now) text.now }
 {

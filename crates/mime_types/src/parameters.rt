@@ -24,6 +24,7 @@ impl<'a> Parameters<'a> {
     ghost use Rattle.mime_types.specs.Seen.{parameter_seen, written_seen};
 
     /// All of what stands after a subtype.
+    #[tactic(auto, using(crate::proofs::WrittenLemmas::all_left, crate::proofs::WrittenLemmas::none_written))]
     pub(crate) fn new(tail: &'a [u8]) -> Self
         ensures all { left result ≡ parameters tail.now }
         ensures text { text_read result ≡ tail.now }

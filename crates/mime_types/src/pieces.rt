@@ -30,6 +30,7 @@ impl<'a> Pieces<'a> {
     }
 
     /// The next one. Behind the last there is none, however often it is asked for.
+    #[tactic(auto, using(crate::proofs::PiecesLemmas::piece_after))]
     pub fn next(&mut self) -> Option<&'a [u8]>
         ensures { MatchOption result ((pieces_left self.old ≡ []) × (pieces_left self.new ≡ []))
             (λ piece. pieces_left self.old ≡ piece.now ∷ pieces_left self.new) }

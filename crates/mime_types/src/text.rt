@@ -20,6 +20,7 @@ pub(crate) fn trim_start(text: &[u8]) -> &[u8]
 }
 
 /// The text without white space at its end.
+#[tactic(auto, using(crate::proofs::TextLemmas::all_white, crate::proofs::TextLemmas::ends_after))]
 pub(crate) fn trim_end(text: &[u8]) -> &[u8]
     ensures { result.now ≡ trim_end text.now }
 {
@@ -106,6 +107,7 @@ fn after_tokens(text: &[u8]) -> &[u8]
 }
 
 /// What stands after as many of them as are passed by fours, which takes half the time.
+#[tactic(auto, using(crate::proofs::TokenLemmas::four_pass))]
 fn after_fours(text: &[u8]) -> &[u8]
     ensures { after_tokens result.now ≡ after_tokens text.now }
 {
@@ -120,6 +122,7 @@ fn after_fours(text: &[u8]) -> &[u8]
 }
 
 /// Whether the text is a token.
+#[tactic(auto, using(std::proofs::lemmas::Bool::Decides::nat_tests))]
 pub(crate) fn is_a_token(text: &[u8]) -> bool
     ensures { result ≡ is_a_token text.now }
 {

@@ -227,6 +227,7 @@ impl<'a> Extracted<'a> {
     }
 }
 
+#[tactic(auto, using(crate::proofs::WroteLemmas::text_none, crate::proofs::WroteLemmas::text_one, crate::proofs::WroteLemmas::wrote_rest, crate::proofs::WroteLemmas::wrote_same))]
 fn write_carried(out: &mut [u8], at: usize, carried: Option<Parameter<'_>>) -> Option<usize>
     requires { at ≤ length out.old }
     ensures { Wrote out.old out.new at (parameters_text (option_to_list (option_map parameter_seen carried.entry))) result }
