@@ -33,6 +33,7 @@ pub fn begins_and_has_all(buf: &[u8], text: &[u8], u: &[u8], v: &[u8], w: &[u8])
     begins(buf, text) && has(buf, u) && has(buf, v) && (w.is_empty() || has(buf, w))
 }
 
+#[tactic(auto, using(crate::proofs::BeginsLemmas::finds_somewhere))]
 fn has(buf: &[u8], text: &[u8]) -> bool
     ensures { IsTrue result ↔ ((p : ℕ) × OccursAt buf.now text.now p) }
 {

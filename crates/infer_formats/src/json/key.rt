@@ -46,6 +46,7 @@ pub fn first_key(buf: &[u8]) -> Option<Key<'_>>
 }
 
 /// The first byte that is no white space, as "{" of an object.
+#[tactic(auto, using(crate::proofs::FirstKeyLemmas::next_past, crate::proofs::KeyLemmas::dark_past))]
 pub fn first_dark(buf: &[u8]) -> Option<u8>
     ensures { MatchOption result ((x : ℕ) → (¬ IsBlank x) → ¬ StandsFirst x buf.now)
         (λ dark. (¬ IsBlank dark) × StandsFirst dark buf.now) }

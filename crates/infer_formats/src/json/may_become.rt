@@ -24,6 +24,7 @@ pub fn may_become_json_lines(buf: &[u8]) -> bool
 }
 
 /// Whether a bracket stands after the byte order mark, if there is one, and white space, or `buf` ends before one does.
+#[tactic(auto, using(crate::proofs::JsonLeadLemmas::first_reached))]
 pub(super) fn may_reach_bracket(buf: &[u8]) -> bool
     ensures { MayBecome (UpToMark BeginsAfterBlanks) buf.now → IsTrue result }
 {

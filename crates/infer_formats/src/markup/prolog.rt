@@ -257,6 +257,7 @@ fn doctype_at(buf: &[u8], place: usize) -> Option<Doctype>
 
 /// Where the ">" is that closes the declaration: the first from that place on, or after an internal subset if "[" stands
 /// before it.
+#[tactic(auto, using(crate::proofs::SubsetLemmas::closes_after))]
 fn declaration_close(buf: &[u8], from: usize) -> Option<usize>
     requires { from ≤ length buf.now }
     ensures { FindsPlace (ClosesDeclaration buf.now from) result }
@@ -307,6 +308,7 @@ fn subset_end(buf: &[u8], from: usize) -> Option<usize>
 
 /// What follows on the byte of an internal subset that stands there, or on what begins by it and has an end of its own. `None`
 /// if that does not end.
+#[tactic(auto, using(crate::proofs::SubsetLemmas::opens_none, crate::proofs::SubsetLemmas::past_quoted, crate::proofs::SubsetLemmas::past_ticked))]
 fn past_piece(buf: &[u8], place: usize) -> Option<usize>
     requires whole { place < length buf.now }
     ensures { IsPastPiece buf.now place result }
@@ -320,6 +322,7 @@ fn past_piece(buf: &[u8], place: usize) -> Option<usize>
 }
 
 /// [`past_piece`] of a "<".
+#[tactic(auto, using(crate::proofs::SubsetLemmas::opens_no_tag, crate::proofs::SubsetLemmas::past_comment, crate::proofs::SubsetLemmas::past_instruction))]
 fn past_opening(buf: &[u8], place: usize) -> Option<usize>
     requires whole { place < length buf.now }
     requires opens { slice_index buf.now place ≡ 0x3C }

@@ -8,6 +8,7 @@ use crate::numbers::byte_or;
 use infer_deep::places::may_stand_at;
 
 /// Whether some bytes after `buf`, or none, may make it subtitles of SubRip. Of the first cue two bytes are asked.
+#[tactic(auto, using(crate::proofs::SubtitlesLemmas::subrip_known))]
 pub fn may_become_subrip(buf: &[u8]) -> bool
     ensures { MayBecome IsSubRip buf.now → IsTrue result }
 {
