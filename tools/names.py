@@ -34,13 +34,13 @@ TEXTS = (
     "flatpakrepo fodg fodp fods fodt fontconfig gcurve geojson gff3 ggr gitpatch gjs glade gltf gml gnucash "
     "gnumeric gnuplot gpgsec gpl gpx gresource groovy gschema gtkbuilder gv gx hqx hs html http icontheme ics igs "
     "imy inf info iptables ipynb it87 jad jarmf jl jnlp js json kml la ldif ldml lingts lisp ll lua ly lyx m m3u8 "
-    "m4u mbox meta4 metainfo metalink microdvd mif mimeinfo minisig mk ml mml model/obj modulefile mol2 mpd mpl2 "
+    "m4 m4u mbox meta4 metainfo metalink microdvd mif mimeinfo minisig mk ml mml model/obj modulefile mol2 mpd mpl2 "
     "mpsub msbuild mscx mtl mup musicxml ncx ndjson news nex nft nsc nzb openssh opf opml osm owx p7c param pc pcd "
     "pdbmol pem pfa pgp php pkginfo pkgmeta pl plist po pom ppd ppk ps ps1 pubkey puml py pysu qml qti r raku raml "
-    "rb rdf rkt rng rq rss rtf sam sami sbml scala scc sch scm sdp sed sfd sgf sh sig sitemap sla smil spec srt srx "
-    "ssa ssh2pub sshpub sshsig stp subviewer svg t2t tcl tei tex texi texlua tgif toc tres tscn ttl ttml ttx ui "
-    "unit usda uu vault vcf vcfg vnt vpnpcf vtt wordml wreg wsdl x3d xbel xbm xhtml xib xkbrules xliff xmcd xmi xml "
-    "xmp xpm xpm2 xsd xslt xspf yaml"
+    "rb rdf rkt rng roff rq rss rtf sam sami sbml scala scc sch scm sdp sed sfd sgf sh sig sitemap sla smil spec "
+    "srt srx ssa ssh2pub sshpub sshsig stp subviewer svg t2t tcl tei tex texi texlua tgif toc tres tscn ttl ttml "
+    "ttx ui unit usda uu vault vcf vcfg vnt vpnpcf vtt wordml wreg wsdl x3d xbel xbm xhtml xib xkbrules xliff xmcd "
+    "xmi xml xmp xpm xpm2 xsd xslt xspf yaml"
 ).split()
 # How many rows are looked for at once.
 ROWS = 128

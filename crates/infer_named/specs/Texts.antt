@@ -26,24 +26,24 @@ texts =
     ∷ codes "imy" ∷ codes "inf" ∷ codes "info" ∷ codes "iptables" ∷ codes "ipynb" ∷ codes "it87" ∷ codes "jad" ∷ codes "jarmf"
     ∷ codes "jl" ∷ codes "jnlp" ∷ codes "js" ∷ codes "json" ∷ codes "kml" ∷ codes "la" ∷ codes "ldif" ∷ codes "ldml"
     ∷ codes "lingts" ∷ codes "lisp" ∷ codes "ll" ∷ codes "lua" ∷ codes "ly" ∷ codes "lyx" ∷ codes "m" ∷ codes "m3u8"
-    ∷ codes "m4u" ∷ codes "mbox" ∷ codes "meta4" ∷ codes "metainfo" ∷ codes "metalink" ∷ codes "microdvd" ∷ codes "mif" ∷ codes "mimeinfo"
-    ∷ codes "minisig" ∷ codes "mk" ∷ codes "ml" ∷ codes "mml" ∷ codes "model/obj" ∷ codes "modulefile" ∷ codes "mol2" ∷ codes "mpd"
-    ∷ codes "mpl2" ∷ codes "mpsub" ∷ codes "msbuild" ∷ codes "mscx" ∷ codes "mtl" ∷ codes "mup" ∷ codes "musicxml" ∷ codes "ncx"
-    ∷ codes "ndjson" ∷ codes "news" ∷ codes "nex" ∷ codes "nft" ∷ codes "nsc" ∷ codes "nzb" ∷ codes "openssh" ∷ codes "opf"
-    ∷ codes "opml" ∷ codes "osm" ∷ codes "owx" ∷ codes "p7c" ∷ codes "param" ∷ codes "pc" ∷ codes "pcd" ∷ codes "pdbmol"
-    ∷ codes "pem" ∷ codes "pfa" ∷ codes "pgp" ∷ codes "php" ∷ codes "pkginfo" ∷ codes "pkgmeta" ∷ codes "pl" ∷ codes "plist"
-    ∷ codes "po" ∷ codes "pom" ∷ codes "ppd" ∷ codes "ppk" ∷ codes "ps" ∷ codes "ps1" ∷ codes "pubkey" ∷ codes "puml"
-    ∷ codes "py" ∷ codes "pysu" ∷ codes "qml" ∷ codes "qti" ∷ codes "r" ∷ codes "raku" ∷ codes "raml" ∷ codes "rb"
-    ∷ codes "rdf" ∷ codes "rkt" ∷ codes "rng" ∷ codes "rq" ∷ codes "rss" ∷ codes "rtf" ∷ codes "sam" ∷ codes "sami"
-    ∷ codes "sbml" ∷ codes "scala" ∷ codes "scc" ∷ codes "sch" ∷ codes "scm" ∷ codes "sdp" ∷ codes "sed" ∷ codes "sfd"
-    ∷ codes "sgf" ∷ codes "sh" ∷ codes "sig" ∷ codes "sitemap" ∷ codes "sla" ∷ codes "smil" ∷ codes "spec" ∷ codes "srt"
-    ∷ codes "srx" ∷ codes "ssa" ∷ codes "ssh2pub" ∷ codes "sshpub" ∷ codes "sshsig" ∷ codes "stp" ∷ codes "subviewer" ∷ codes "svg"
-    ∷ codes "t2t" ∷ codes "tcl" ∷ codes "tei" ∷ codes "tex" ∷ codes "texi" ∷ codes "texlua" ∷ codes "tgif" ∷ codes "toc"
-    ∷ codes "tres" ∷ codes "tscn" ∷ codes "ttl" ∷ codes "ttml" ∷ codes "ttx" ∷ codes "ui" ∷ codes "unit" ∷ codes "usda"
-    ∷ codes "uu" ∷ codes "vault" ∷ codes "vcf" ∷ codes "vcfg" ∷ codes "vnt" ∷ codes "vpnpcf" ∷ codes "vtt" ∷ codes "wordml"
-    ∷ codes "wreg" ∷ codes "wsdl" ∷ codes "x3d" ∷ codes "xbel" ∷ codes "xbm" ∷ codes "xhtml" ∷ codes "xib" ∷ codes "xkbrules"
-    ∷ codes "xliff" ∷ codes "xmcd" ∷ codes "xmi" ∷ codes "xml" ∷ codes "xmp" ∷ codes "xpm" ∷ codes "xpm2" ∷ codes "xsd"
-    ∷ codes "xslt" ∷ codes "xspf" ∷ codes "yaml" ∷ []
+    ∷ codes "m4" ∷ codes "m4u" ∷ codes "mbox" ∷ codes "meta4" ∷ codes "metainfo" ∷ codes "metalink" ∷ codes "microdvd" ∷ codes "mif"
+    ∷ codes "mimeinfo" ∷ codes "minisig" ∷ codes "mk" ∷ codes "ml" ∷ codes "mml" ∷ codes "model/obj" ∷ codes "modulefile" ∷ codes "mol2"
+    ∷ codes "mpd" ∷ codes "mpl2" ∷ codes "mpsub" ∷ codes "msbuild" ∷ codes "mscx" ∷ codes "mtl" ∷ codes "mup" ∷ codes "musicxml"
+    ∷ codes "ncx" ∷ codes "ndjson" ∷ codes "news" ∷ codes "nex" ∷ codes "nft" ∷ codes "nsc" ∷ codes "nzb" ∷ codes "openssh"
+    ∷ codes "opf" ∷ codes "opml" ∷ codes "osm" ∷ codes "owx" ∷ codes "p7c" ∷ codes "param" ∷ codes "pc" ∷ codes "pcd"
+    ∷ codes "pdbmol" ∷ codes "pem" ∷ codes "pfa" ∷ codes "pgp" ∷ codes "php" ∷ codes "pkginfo" ∷ codes "pkgmeta" ∷ codes "pl"
+    ∷ codes "plist" ∷ codes "po" ∷ codes "pom" ∷ codes "ppd" ∷ codes "ppk" ∷ codes "ps" ∷ codes "ps1" ∷ codes "pubkey"
+    ∷ codes "puml" ∷ codes "py" ∷ codes "pysu" ∷ codes "qml" ∷ codes "qti" ∷ codes "r" ∷ codes "raku" ∷ codes "raml"
+    ∷ codes "rb" ∷ codes "rdf" ∷ codes "rkt" ∷ codes "rng" ∷ codes "roff" ∷ codes "rq" ∷ codes "rss" ∷ codes "rtf"
+    ∷ codes "sam" ∷ codes "sami" ∷ codes "sbml" ∷ codes "scala" ∷ codes "scc" ∷ codes "sch" ∷ codes "scm" ∷ codes "sdp"
+    ∷ codes "sed" ∷ codes "sfd" ∷ codes "sgf" ∷ codes "sh" ∷ codes "sig" ∷ codes "sitemap" ∷ codes "sla" ∷ codes "smil"
+    ∷ codes "spec" ∷ codes "srt" ∷ codes "srx" ∷ codes "ssa" ∷ codes "ssh2pub" ∷ codes "sshpub" ∷ codes "sshsig" ∷ codes "stp"
+    ∷ codes "subviewer" ∷ codes "svg" ∷ codes "t2t" ∷ codes "tcl" ∷ codes "tei" ∷ codes "tex" ∷ codes "texi" ∷ codes "texlua"
+    ∷ codes "tgif" ∷ codes "toc" ∷ codes "tres" ∷ codes "tscn" ∷ codes "ttl" ∷ codes "ttml" ∷ codes "ttx" ∷ codes "ui"
+    ∷ codes "unit" ∷ codes "usda" ∷ codes "uu" ∷ codes "vault" ∷ codes "vcf" ∷ codes "vcfg" ∷ codes "vnt" ∷ codes "vpnpcf"
+    ∷ codes "vtt" ∷ codes "wordml" ∷ codes "wreg" ∷ codes "wsdl" ∷ codes "x3d" ∷ codes "xbel" ∷ codes "xbm" ∷ codes "xhtml"
+    ∷ codes "xib" ∷ codes "xkbrules" ∷ codes "xliff" ∷ codes "xmcd" ∷ codes "xmi" ∷ codes "xml" ∷ codes "xmp" ∷ codes "xpm"
+    ∷ codes "xpm2" ∷ codes "xsd" ∷ codes "xslt" ∷ codes "xspf" ∷ codes "yaml" ∷ []
 
 -- with what the files of a type begin, as lists that readings have
 unfoldable pub lead_lists : List (List (List ℕ))
@@ -52,13 +52,16 @@ lead_lists =
     ∷ ((0x25 ∷ 0x20 ∷ []) ∷ codes "%%" ∷ codes "%!" ∷ (0x25 ∷ 0x09 ∷ []) ∷ (0x25 ∷ 0x0A ∷ []) ∷ codes ":-" ∷ codes "/*" ∷ [])
     ∷ (codes "%" ∷ [])
     ∷ (codes "%" ∷ codes "##" ∷ (0x23 ∷ 0x20 ∷ []) ∷ (0x23 ∷ 0x0A ∷ []) ∷ codes "#!" ∷ codes "fu" ∷ codes "cl" ∷ [])
+    ∷ (codes "'" ∷ (0x23 ∷ 0x20 ∷ []) ∷ [])
     ∷ (codes "(*" ∷ [])
     ∷ (codes "/" ∷ codes "%{" ∷ codes "%o" ∷ codes "%%" ∷ [])
     ∷ (codes "/*" ∷ codes "//" ∷ (0x22 ∷ []) ∷ [])
     ∷ (codes "/*" ∷ codes "GR" ∷ codes "IN" ∷ codes "OU" ∷ [])
+    ∷ (codes "//" ∷ codes "/*" ∷ [])
     ∷ (codes "//" ∷ codes "/*" ∷ codes "@" ∷ codes "#i" ∷ codes "#d" ∷ codes "#p" ∷ [])
     ∷ (codes ";" ∷ codes "ta" ∷ codes "so" ∷ codes "de" ∷ codes "@" ∷ [])
     ∷ (codes "<" ∷ [])
     ∷ (codes "<" ∷ codes "_" ∷ codes "#" ∷ [])
+    ∷ (codes "d" ∷ [])
     ∷ (codes "us" ∷ codes "#!" ∷ (0x23 ∷ 0x20 ∷ []) ∷ codes "my" ∷ codes "BE" ∷ codes "no" ∷ codes "pa" ∷ codes "##" ∷ (0x23 ∷ 0x0A ∷ []) ∷ codes "re" ∷ [])
     ∷ []

@@ -74,7 +74,7 @@ fn as_a_model_joins(rt: HostRuntime) -> Result<(), Fail> {
 }
 
 /// Each begins as the document of its type has it.
-const TEXTS: [(&[u8], &str); 8] = [
+const TEXTS: [(&[u8], &str); 10] = [
     (b"StartFontMetrics 4.1\n", "application/x-font-afm"),
     (b"CCMX   \n", "application/x-ccmx"),
     (b"BEGIN:IMELODY\nVERSION:1.2\n", "text/x-imelody"),
@@ -86,6 +86,8 @@ const TEXTS: [(&[u8], &str); 8] = [
     (b"%!PS-AdobeFont-1.0: Utopia\n", "application/x-font-type1"),
     (b"#!/usr/bin/env gjs\n", "text/javascript"),
     (b"QtiPlot 0.9.8 project file\n", "application/x-qtiplot"),
+    (b".\\\" a page of a manual\n", "text/troff"),
+    (b"dnl a file of macros\n", "text/x-m4"),
 ];
 
 #[test]
