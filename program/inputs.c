@@ -214,8 +214,9 @@ static void step(struct inputs *inputs, struct batch *batch) {
     bool is_asked = entry->d_type == DT_DIR || entry->d_type == DT_UNKNOWN;
     int at = level->folder ? level->folder->fd : AT_FDCWD;
     const char *name = inputs->path.bytes + (level->folder ? level->path_size : 0);
-    if (is_asked && fstatat(at, name, &about, AT_SYMLINK_NOFOLLOW) != 0)
-        add_path(inputs, batch)->fault = errno;
+    int fault = is_asked && fstatat(at, name, &about, AT_SYMLINK_NOFOLLOW) != 0 ? errno : 0;
+    if (fault)
+        add_path(inputs, batch)->fault = fault;
     else if (!is_asked || !S_ISDIR(about.st_mode))
         add_entry(inputs, batch, entry);
     else if (is_loop(level, &about))
