@@ -498,7 +498,10 @@ static void names(void) {
     named_is("b/PHOTO.PNG~", 12, png, 8, INFER_AGREE, "image/png", "image/png");
     named_is("photo", 5, png, 8, INFER_BYTES_ALONE, "image/png", "");
     named_is("photo.png\0.txt", 14, png, 8, INFER_BYTES_ALONE, "image/png", "");
-    named_is("photo.png", 9, NULL, 0, INFER_CONTRADICTS, "", "image/png");
+    named_is("photo.png", 9, NULL, 0, INFER_NOTHING, "", "image/png");
+    named_is("photo.png", 9, "\0", 1, INFER_CONTRADICTS, "", "image/png");
+    named_is("photo.png", 9, "text\n", 5, INFER_CONTRADICTS, "text/plain", "image/png");
+    named_is("scene.blend", 11, "text\n", 5, INFER_BYTES_ALONE, "text/plain", "application/x-blender");
     named_is("disk.iso", 8, "\0\0\0\0", 4, INFER_NAME_ALONE, "application/x-cd-image", "application/x-cd-image");
     named_is("x.unknown", 9, "\0\1", 2, INFER_NOTHING, "", "");
     named_is(NULL, 0, NULL, 0, INFER_NOTHING, "", "");

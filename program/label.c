@@ -178,7 +178,7 @@ static void put_told(struct labeller *labeller, const char *name, size_t name_si
     put_line(labeller, name, name_size, front, &told, options->is_columns ? &labeller->line : lines);
     item->is_known = told.is_known || front->size == 0;
     bool is_asked = options->is_lies || options->is_colored || options->is_columns;
-    item->is_lie = is_asked && told.standing == INFER_CONTRADICTS && front->size > 0 && !is_open(labeller, name, name_size, front);
+    item->is_lie = is_asked && told.standing == INFER_CONTRADICTS && !is_open(labeller, name, name_size, front);
     item->is_told = !options->is_lies || item->is_lie;
     if (!options->is_columns)
         return;

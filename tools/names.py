@@ -19,43 +19,29 @@ COPIES = ("~", ".bak", ".orig", ".old")
 KINDS = {"Signature": set(), "Text": {"empty", "marked"}, "Bytes": {"marked", "binary"}, "Nothing": {"empty", "marked", "binary"}}
 # Who names a type, from those whose types more files have.
 ORIGINS = ("Row", "Known", "Own")
-LINE = re.compile(r"(?P<loose>loose )?(?P<part>extension|whole) (?P<text>\S+): (?P<readings>.*)")
+LINE = re.compile(r"(?P<usage>strict |loose )?(?P<part>extension|whole) (?P<text>\S+): (?P<readings>.*)")
 READING = re.compile(r"(?P<mime_type>\S+) \((?:row (?P<row>\S+)|(?P<known>known)|own)\), (?P<asks>signature|text|bytes|nothing)(?P<sets>(?:; .*)?)")
+# Rows that are named together.
+SETS = re.compile(r"(?P<name>texts|tame|free): (?P<rows>.+)")
 # A row whose files have no name of their own, and why.
 NAMELESS = re.compile(r"nameless (?P<row>\S+): .+")
 LEAD = re.compile(r'"(?:[ !#-\[\]-~]|\\(?:x[0-9A-Fa-f]{2}|0(?![0-9])|[nrt"\\]))+"')
 ROW = re.compile(r'Row\("(.*)"\)')
 WIDTH = 99
-# The rows of texts, which are named together.
-TEXTS = (
-    "3dmodel abook abw afm age agekey amf application/x-pem-key asc asx asxref atom aup awk bdf bib bookmarks "
-    "busconfig catmeta ccmx cdx clj cloudcfg cmap cml cms csh csr cue dae dart dbk dbusintro dbusservice dep5 "
-    "desktop dia diashape dif diff docker dsc dtsi dxf elisp eml eps escript execline exs fb2 fish fl flatpakref "
-    "flatpakrepo fodg fodp fods fodt fontconfig gcurve geojson gff3 ggr gitpatch gjs glade gltf gml gnucash "
-    "gnumeric gnuplot gpgsec gpl gpx gresource groovy gschema gtkbuilder gv gx hqx hs html http icontheme ics igs "
-    "imy inf info iptables ipynb it87 jad jarmf jl jnlp js json kml la ldif ldml lingts lisp ll lua ly lyx m m3u8 "
-    "m4 m4u mbox meta4 metainfo metalink microdvd mif mimeinfo minisig mk ml mml model/obj modulefile mol2 mpd mpl2 "
-    "mpsub msbuild mscx mtl mup musicxml ncx ndjson news nex nft nsc nzb openssh opf opml osm owx p7c param pc pcd "
-    "pdbmol pem pfa pgp php pkginfo pkgmeta pl plist po pom ppd ppk ps ps1 pubkey puml py pysu qml qti r raku raml "
-    "rb rdf rkt rng roff rq rss rtf sam sami sbml scala scc sch scm sdp sed sfd sgf sh sig sitemap sla smil spec "
-    "srt srx ssa ssh2pub sshpub sshsig stp subviewer svg t2t tcl tei tex texi texlua tgif toc tres tscn ttl ttml "
-    "ttx ui unit usda uu vault vcf vcfg vnt vpnpcf vtt wordml wreg wsdl x3d xbel xbm xhtml xib xkbrules xliff xmcd "
-    "xmi xml xmp xpm xpm2 xsd xslt xspf yaml"
-).split()
 # How many rows are looked for at once.
 ROWS = 128
 # How many rows a range has at most.
 MOST_OF_RUN = 255
 KEYS_CODE = """//! Made by `tools/tables` from names.txt: the keys in the order of their slots, where the slots begin, and the readings.
 use crate::table::Origin::{{Known, Own, Row}};
-use crate::table::{{Asks, Key, NamedType, Part, Reading, is_loose, keys, origin, readings, span}};
+use crate::table::{{Asks, Key, NamedType, Part, Reading, Usage, keys, origin, readings, span}};
 
 /// Where the keys of each slot begin, and where those of the last end.
 pub(crate) static STARTS: [u16; {starts_count}] = [
 {starts}
 ];
 
-/// How a key is used, what it is of a name, where its text stands and how long it is, and where its readings stand and how many
+/// For what a key is in use, what it is of a name, where its text stands and how long it is, and where its readings stand and how many
 /// they are.
 pub(crate) static KEYS: [Key; {count}] = keys![
 {keys}
@@ -96,6 +82,12 @@ pub(crate) static RANGES: [Span; {ranges_count}] = spans![
 {ranges}
 ];
 
+/// The rows of texts that no program runs and no browser renders.
+pub(crate) static TAME: Span = span!({tame});
+
+/// The rows of files that people name as they like: texts and programs.
+pub(crate) static FREE: Span = span!({free});
+
 static LEADS: &[&[&[u8]]] = lists![
 {leads}
 ];
@@ -122,7 +114,16 @@ any = []
 -- the rows of texts
 abbrev pub texts : List (List ℕ)
 texts =
-    {rows} ∷ []
+    {texts} ∷ []
+
+-- those that no program runs and no browser renders
+unfoldable pub tame : List (List ℕ)
+tame =
+    {tame} ∷ []
+
+-- the rows of files that people name as they like: texts and programs
+unfoldable pub free : List (List ℕ)
+free = {free}
 
 -- with what the files of a type begin, as lists that readings have
 unfoldable pub lead_lists : List (List (List ℕ))
@@ -214,11 +215,12 @@ named_{number} = refl
 """
 KEYS_HEAD = "-- Made by `tools/tables` from names.txt: the keys of all slots, {} a file.\n"
 KEYS_TERM = """-- Made by `tools/tables` from names.txt: the keys of slots {} to {}.
-use Rattle.std.specs.Prelude.{{List, [], ◌∷◌, codes, false, true}}
+use Rattle.std.specs.Prelude.{{List, [], ◌∷◌, codes}}
 use Rattle.infer_named.specs.Key.{{Key, key, named, reading, {}}}
 use Rattle.infer_named.specs.Texts.{{any, none, texts}}
 use Rattle.infer_named.specs.declared.table.Asks.TheVariants.{{{}}}
 use Rattle.infer_named.specs.declared.table.Part.TheVariants.{{{}}}
+use Rattle.infer_named.specs.declared.table.Usage.TheVariants.{{{}}}
 
 unfoldable pub keys : List Key
 keys =
@@ -240,7 +242,7 @@ class Reading(NamedTuple):
 class Name(NamedTuple):
     text: str
     part: str
-    is_loose: bool
+    usage: str
     readings: tuple
 
 
@@ -248,8 +250,21 @@ class Wrong(Exception):
     """A line of names.txt that is none, with what is wrong."""
 
 
+@kept
+def sets_named():
+    """The rows that are named together, by the name of each set."""
+    found = {line["name"]: line["rows"].split() for line in map(SETS.fullmatch, text_of(NAMES).splitlines()) if line}
+    return {name: tuple(it for word in rows for it in (found["texts"] if word == "texts" else [word])) for name, rows in found.items()}
+
+
 def rows_of(words):
-    return tuple(it for word in words.split() for it in (TEXTS if word == "texts" else [word]))
+    return tuple(it for word in words.split() for it in (sets_named()["texts"] if word == "texts" else [word]))
+
+
+def usage_of(word, part, readings):
+    """For what a name is in use: a whole name and that of a text for files of its types alone, as one that the line says."""
+    has_text = any(it.asks == "Text" or "txt" in (*it.agrees, *it.begins, *it.finer) for it in readings)
+    return word.title() if word else "Strict" if part == "whole" or has_text else "Plain"
 
 
 def reading(text):
@@ -300,11 +315,18 @@ def name(line):
     if found["part"] == "extension" and (text.count(".") > 1 or text.startswith("so.") or f".{text}" in COPIES):
         raise Wrong("no name has this extension")
     readings = tuple(map(reading, found["readings"].split(" | ")))
+    usage = usage_of((found["usage"] or "").strip(), found["part"], readings)
     for number, it in enumerate(readings):
         # The only reading of a loose name may say no more than what type the name has.
-        if is_hidden(it, readings[:number], found["loose"]) and (len(readings) > 1 or not found["loose"]):
+        if is_hidden(it, readings[:number], usage == "Loose") and (len(readings) > 1 or usage != "Loose"):
             raise Wrong(f"no bytes are left to {it.mime_type}")
-    return Name(text, found["part"].title(), bool(found["loose"]), readings)
+    return Name(text, found["part"].title(), usage, readings)
+
+
+def head_of(line):
+    """What a line names, without for what it is in use."""
+    found = LINE.fullmatch(line)
+    return f"{found['part']} {found['text']}" if found else ""
 
 
 def text_named(line):
@@ -330,7 +352,7 @@ def names_lines():
     sets = [it for line in lines for it in re.findall("; (?:agrees|begins|finer) ([^;|]*)", line)]
     for line in lines_of_rows({row for it in sets for row in rows_of(it)} | set(nameless())):
         head, _, its = line.partition(": ")
-        place = next((at for at, it in enumerate(lines) if it.removeprefix("loose ").startswith(f"{head}: ")), None)
+        place = next((at for at, it in enumerate(lines) if head_of(it) == head), None)
         if place is None:
             lines.insert(bisect.bisect(lines, text_named(line), key=text_named), line)
         else:
@@ -342,8 +364,7 @@ def names_lines():
 
 def place_of(line):
     """Where the last line of a name stands: one that is added, where its row does."""
-    head = line.partition(": ")[0].removeprefix("loose ")
-    numbers = [number for number, it in enumerate(text_of(NAMES).splitlines(), 1) if it.removeprefix("loose ").startswith(f"{head}: ") or it == line]
+    numbers = [number for number, it in enumerate(text_of(NAMES).splitlines(), 1) if head_of(it) == head_of(line) or it == line]
     if numbers:
         return NAMES, numbers[-1]
     extensions = [it.split("\t")[2] for it in text_of(FURTHER).splitlines()]
@@ -355,7 +376,7 @@ def listed():
     """The names in order. It ends with the first line that is wrong."""
     names, known = [], {}
     for line in names_lines():
-        if line.startswith("#") or NAMELESS.fullmatch(line):
+        if line.startswith("#") or NAMELESS.fullmatch(line) or SETS.fullmatch(line):
             continue
         try:
             names.append(name(line))
@@ -385,9 +406,10 @@ def place_of_row(number):
 def check():
     """Ends with the first line of names.txt that is wrong, and with a row that has no name."""
     listed()
-    for it in TEXTS:
-        if it not in known_rows():
-            refuse("tools/names.py", line_of("tools/names.py", f" {it} "), f"TEXTS has {it}, and no row has the extension or the MIME type")
+    for name, rows in sets_named().items():
+        for it in rows:
+            if it not in known_rows():
+                refuse(NAMES, line_of(NAMES, f"{name}: "), f"{name} has {it}, and no row has the extension or the MIME type")
     takers()
 
 
@@ -426,7 +448,7 @@ def other_extensions(known):
     mean several types is none of them."""
     for it in sorted(listed()):
         own = it.readings[0].origin
-        if it.part == "Extension" and not it.is_loose and len(it.readings) == 1 and "." not in it.text and it.text not in known:
+        if it.part == "Extension" and it.usage != "Loose" and len(it.readings) == 1 and "." not in it.text and it.text not in known:
             found = ROW.fullmatch(own)
             if found and found[1] in known and found[1] in it.readings[0].agrees:
                 yield it.text, found[1]
@@ -450,7 +472,8 @@ def types():
 
 @kept
 def sets():
-    return in_order(lambda it: (it.agrees, it.begins, it.finer))
+    of_readings = in_order(lambda it: (it.agrees, it.begins, it.finer))
+    return of_readings | {it: number for number, it in enumerate((sets_named()["tame"], sets_named()["free"]), len(of_readings))}
 
 
 @kept
@@ -504,7 +527,8 @@ def starts():
 def rows():
     """The texts of the rows that sets and types have, each with its number: those of texts first, which sets have together."""
     named = {it for rows in sets() for it in rows} | {found[1] for _, origin in types() if (found := ROW.fullmatch(origin))}
-    return {it: number for number, it in enumerate([*TEXTS, *sorted(named.difference(TEXTS))])}
+    texts = sets_named()["texts"]
+    return {it: number for number, it in enumerate([*texts, *sorted(named.difference(texts))])}
 
 
 def ranges(numbers):
@@ -541,7 +565,7 @@ def keys_code():
     keys, readings = [], []
     for it in in_slots():
         spans = f"{key_texts().span(it.text)} {len(readings)} {len(it.readings)}"
-        keys.append(f'    {"Loose" if it.is_loose else "Strict"} {it.part} {spans};')
+        keys.append(f"    {it.usage} {it.part} {spans};")
         readings += map(reading_text, it.readings)
     return KEYS_CODE.format(
         starts=numbers_text(starts()), starts_count=SLOTS + 1, keys="\n".join(keys), count=len(keys),
@@ -583,7 +607,7 @@ def sets_code():
     return SETS_CODE.format(
         rows="\n".join(f"    {row_texts().span(it)};" for it in rows()), rows_count=len(rows()),
         ranges="\n".join(f"    {start} {count};" for start, count in found), ranges_count=len(found),
-        leads="\n".join(f"    {leads_text(found)}" for found in leads()),
+        leads="\n".join(f"    {leads_text(found)}" for found in leads()), **{it: set_spans()[sets_named()[it]] for it in ("tame", "free")},
     )
 
 
@@ -592,7 +616,7 @@ def codes(texts):
 
 
 def rows_term(rows):
-    if rows == tuple(TEXTS):
+    if rows == sets_named()["texts"]:
         return "texts"
     return codes(f'"{it}"' for it in rows) if rows else "none"
 
@@ -620,7 +644,7 @@ def reading_term(it):
 
 def key_term(it):
     readings = " ∷ ".join([*map(reading_term, it.readings), "[]"])
-    return f'key {it.part} (codes "{it.text}") {"true" if it.is_loose else "false"} ({readings})'
+    return f'key {it.part} (codes "{it.text}") {it.usage} ({readings})'
 
 
 def listed_terms(terms):
@@ -635,7 +659,7 @@ def of_group(number):
 def group_term(number):
     first, keys = number * GROUP, of_group(number)
     readings = [reading for it in keys for reading in it.readings]
-    used = ({origin_term(it.origin).strip("(").split()[0] for it in readings}, {it.asks for it in readings}, {it.part for it in keys})
+    used = ({origin_term(it.origin).strip("(").split()[0] for it in readings}, {it.asks for it in readings}, {it.part for it in keys}, {it.usage for it in keys})
     return KEYS_TERM.format(first, first + GROUP - 1, *(", ".join(sorted(it)) for it in used), listed_terms(map(key_term, keys)))
 
 
@@ -695,9 +719,12 @@ def named_proof():
 
 
 def texts_term():
-    """The definition of sets with the rows of texts, eight a line, and of the leads."""
-    lines = [" ∷ ".join(f'codes "{it}"' for it in part) for part in parts(TEXTS, 8)]
-    return TEXTS_TERM.format(rows="\n    ∷ ".join(lines), leads=listed_terms(map(leads_term, leads())))
+    """The definition of sets with rows of texts, eight a line, and of the leads."""
+    free = sets_named()["free"][: -len(sets_named()["texts"])]
+    eight = lambda rows: "\n    ∷ ".join(" ∷ ".join(f'codes "{it}"' for it in part) for part in parts(rows, 8))
+    return TEXTS_TERM.format(
+        texts=eight(sets_named()["texts"]), tame=eight(sets_named()["tame"]), free=" ∷ ".join([*(f'codes "{it}"' for it in free), "texts"]), leads=listed_terms(map(leads_term, leads())),
+    )
 
 
 def made():

@@ -19,25 +19,24 @@ STANDINGS = ["agree", "name refines", "bytes refine", "bytes alone", "name alone
 COPIES = [b"~", b".bak", b".orig", b".old"]
 MAKERS = [b"makefile", b"gnumakefile", b"dockerfile", b"containerfile"]
 WHITE = b"\t\n\x0c\r "
-TEXTS = (
-    "3dmodel abook abw afm age agekey amf application/x-pem-key asc asx asxref atom aup awk bdf bib bookmarks busconfig "
-    "catmeta ccmx cdx clj cloudcfg cmap cml cms csh csr cue dae dart dbk dbusintro dbusservice dep5 desktop dia diashape dif "
-    "diff docker dsc dtsi dxf elisp eml eps escript execline exs fb2 fish fl flatpakref flatpakrepo fodg fodp fods fodt "
-    "fontconfig gcurve geojson gff3 ggr gitpatch gjs glade gltf gml gnucash gnumeric gnuplot gpgsec gpl gpx gresource groovy "
-    "gschema gtkbuilder gv gx hqx hs html http icontheme ics igs imy inf info iptables ipynb it87 jad jarmf jl jnlp js json "
-    "kml la ldif ldml lingts lisp ll lua ly lyx m m3u8 m4 m4u mbox meta4 metainfo metalink microdvd mif mimeinfo minisig mk "
-    "ml mml model/obj modulefile mol2 mpd mpl2 mpsub msbuild mscx mtl mup musicxml ncx ndjson news nex nft nsc nzb openssh "
-    "opf opml osm owx p7c param pc pcd pdbmol pem pfa pgp php pkginfo pkgmeta pl plist po pom ppd ppk ps ps1 pubkey puml py "
-    "pysu qml qti r raku raml rb rdf rkt rng roff rq rss rtf sam sami sbml scala scc sch scm sdp sed sfd sgf sh sig sitemap "
-    "sla smil spec srt srx ssa ssh2pub sshpub sshsig stp subviewer svg t2t tcl tei tex texi texlua tgif toc tres tscn ttl "
-    "ttml ttx ui unit usda uu vault vcf vcfg vnt vpnpcf vtt wordml wreg wsdl x3d xbel xbm xhtml xib xkbrules xliff xmcd xmi "
-    "xml xmp xpm xpm2 xsd xslt xspf yaml"
-).split()
 
 
 def lines_of(path):
     with open(os.path.join(TOP, path), encoding="utf-8") as it:
         return [line.rstrip("\n") for line in it if not line.startswith("#")]
+
+
+def sets_named():
+    """The rows that are named together: texts, the tame ones among them, and those of files that people name as they like."""
+    found = {}
+    for line in lines_of("crates/infer_named/names.txt"):
+        name, _, rest = line.partition(": ")
+        if name in ("texts", "tame", "free"):
+            found[name] = {row for it in rest.split() for row in found.get(it, [it])}
+    return found
+
+
+TOGETHER = sets_named()
 
 
 def reading(text):
@@ -51,19 +50,21 @@ def reading(text):
         if word == "leads":
             leads = [ast.literal_eval(f"b{it}") for it in re.findall(r'"(?:[^"\\]|\\.)+"', rest)]
         else:
-            sets[word] = {row for it in rest.split() for row in (TEXTS if it == "texts" else [it])}
+            sets[word] = {row for it in rest.split() for row in (TOGETHER["texts"] if it == "texts" else [it])}
     return mime_type, asks, sets, leads
 
 
 def table():
-    """The readings of each key, and whether it is loose."""
+    """For what each key is in use, and its readings."""
     keys = {}
     for line in lines_of("crates/infer_named/names.txt"):
-        if line.startswith("nameless "):
-            continue
         head, _, rest = line.partition(": ")
-        *loose, part, text = head.split(" ")
-        keys[part, text.encode()] = bool(loose), [reading(it) for it in rest.split(" | ")]
+        *usage, part, text = head.split(" ") if " " in head else ["", ""]
+        if part not in ("whole", "extension"):
+            continue
+        readings = [reading(it) for it in rest.split(" | ")]
+        is_of_text = any(asks == "text" or "txt" in set().union(*sets.values()) for _, asks, sets, _ in readings)
+        keys[part, text.encode()] = usage[0] if usage else "strict" if part == "whole" or is_of_text else "plain", readings
     return keys
 
 
@@ -96,24 +97,33 @@ def lead_of(buf):
     return buf.lstrip(WHITE)[:2]
 
 
+def is_any_text(reading):
+    """Whether any plain text is of the reading's type."""
+    _, asks, sets, leads = reading
+    return asks == "text" and not leads and "txt" in sets["agrees"] | sets["begins"]
+
+
 def join(keys, name, buf, wider):
     """The standing and the MIME type that is told, by the wider answer's extension and MIME type, or none."""
     key, theirs = key_of(keys, name), wider[1] if wider else ""
     if key is None:
         return ("bytes alone", theirs) if wider else ("nothing", "")
-    is_loose, readings = keys[key]
+    usage, readings = keys[key]
     fitting = [it for it in readings if not it[3] or any(lead_of(buf).startswith(lead) for lead in it[3])]
     if wider:
         for mime_type, _, sets, _ in fitting:
             for word, standing, told in (("agrees", "agree", theirs), ("begins", "name refines", mime_type), ("finer", "bytes refine", theirs)):
                 if sets[word] & {*wider}:
                     return standing, told
-        return ("bytes alone" if is_loose else "contradicts"), theirs
-    if is_loose:
+        if TOGETHER["tame"] & {*wider} and any(map(is_any_text, readings)):
+            return "bytes refine", theirs
+        is_free = usage == "loose" or usage == "plain" and TOGETHER["free"] & {*wider}
+        return ("bytes alone" if is_free else "contradicts"), theirs
+    if usage == "loose":
         return "nothing", ""
     # Without a row the bytes are no text.
     admitted = {"signature": False, "text": not buf or 0 not in buf, "bytes": bool(buf), "nothing": True}
-    return next((("name alone", it[0]) for it in fitting if admitted[it[1]]), ("contradicts", ""))
+    return next((("name alone", it[0]) for it in fitting if admitted[it[1]]), ("contradicts" if buf else "nothing", ""))
 
 
 def samples():

@@ -1,5 +1,5 @@
 -- Laws of names and bytes.
-use Rattle.std.proofs.Common.{All, ◌++◌, ◌<◌, ◌==◌, ◌||◌, drop, take, nat_eq, arith, ◌≡◌, ◌≢◌, ◌⊎◌, ◌&&◌, ◌∙◌, ℕ, Bool, true, false, IsTrue, List, [], ◌∷◌, Option, None, Some, ap, sym, subst, refl, length, not, option_map, inl, inr, if◌then◌else◌}
+use Rattle.std.proofs.Common.{All, ◌++◌, ◌<◌, ◌==◌, ◌||◌, drop, take, nat_eq, arith, ◌≡◌, ◌≢◌, ◌⊎◌, ◌&&◌, ◌∙◌, ℕ, Bool, true, false, IsTrue, List, [], ◌∷◌, Option, None, Some, ap, sym, subst, refl, is_some, length, not, option_map, inl, inr, if◌then◌else◌}
 use Rattle.std.proofs.lemmas.Bool.{and_parts, cases_Bool, eqb-true}
 use Rattle.std.proofs.lemmas.List.{get_or_append_left, length-append}
 use Rattle.std.proofs.lemmas.List.Elements.{filter-append}
@@ -15,14 +15,15 @@ use Rattle.infer_more.specs.Table.{further}
 use Rattle.infer_more.specs.Wider.{IsWiderAnswer, Widens, shown_at, wider}
 use Rattle.infer.specs.Triple.{Triple}
 use Rattle.infer_named.specs.Asks.{admits}
-use Rattle.infer_named.specs.Join.{Answer, answer, fits, is_among, join, joined_with, joined_without, of_bytes, of_name, reading_of, reading_without, takes}
-use Rattle.infer_named.specs.Key.{Key, Reading}
-use Rattle.infer_named.specs.Bytes.{HasZero, IsKind, lead_of, shown, unmarked, without_white}
-use Rattle.infer_named.specs.Laws.{AnswersLast, AnswersLastByKind, ChangesOnce, DecidedAnswersLast, KindsLast, LeadStays, LeadsLast, LiesStayVisible, NothingIsInvented, OnlyTheKeyCounts, OnlyThreeCount, SilenceIsExact, TheBytesWin, has_no_lead, has_no_leads, is_silent, takes_bytes}
+use Rattle.infer_named.specs.Join.{Answer, answer, fits, has_no_leads, is_among, join, is_finer_text, is_free, joined_with, joined_without, of_bytes, of_name, reading_of, reading_without, takes, untaken}
+use Rattle.infer_named.specs.Key.{Key, Reading, is_loose}
+use Rattle.infer_named.specs.Bytes.{HasZero, IsKind, is_empty, lead_of, shown, unmarked, without_white}
+use Rattle.infer_named.specs.Laws.{AnswersLast, AnswersLastByKind, ChangesOnce, DecidedAnswersLast, KindsLast, LeadStays, LeadsLast, LiesStayVisible, NothingIsInvented, OnlyTheKeyCounts, OnlyThreeCount, SilenceIsExact, TheBytesWin, has_no_lead, is_silent, is_unfilled, takes_bytes}
 use Rattle.infer_named.specs.Named.{key_of}
 use Rattle.infer_named.specs.declared.bytes.Kind.{Kind}
 use Rattle.infer_named.specs.declared.bytes.Kind.TheVariants.{Binary, Empty, Marked, Text}
-use Rattle.infer_named.specs.declared.join.Standing.TheVariants.{Agree, BytesRefine, Contradicts, NameAlone, NameRefines, Nothing}
+use Rattle.infer_named.specs.declared.join.Standing.{Standing}
+use Rattle.infer_named.specs.declared.join.Standing.TheVariants.{Agree, BytesAlone, BytesRefine, Contradicts, NameAlone, NameRefines, Nothing}
 
 -- what is found passes
 pub found_passes : {A : Type 0} (p : A → Bool) (xs : List A) (x : A) → find p xs ≡ Some x → IsTrue (p x)
@@ -42,42 +43,54 @@ theirs_by true b r t h = refl
 theirs_by false true r t h = absurd (cc)
 theirs_by false false r t h = refl
 
-theirs_with : (l : Bool) (t : Triple) (o : Option Reading) → IsTrue (takes_bytes (joined_with l t o).standing) → (joined_with l t o).told ≡ Some (of_bytes t)
-theirs_with l t (Some r) h = theirs_by (is_among t r.agrees) (is_among t r.begins) r t h
-theirs_with true t None h = refl
-theirs_with false t None h = refl
+theirs_untaken : (finer free : Bool) (t : Triple) → (untaken finer free t).told ≡ Some (of_bytes t)
+theirs_untaken true free t = refl
+theirs_untaken false true t = refl
+theirs_untaken false false t = refl
+
+theirs_with : (k : Key) (t : Triple) (o : Option Reading) → IsTrue (takes_bytes (joined_with k t o).standing) → (joined_with k t o).told ≡ Some (of_bytes t)
+theirs_with k t (Some r) h = theirs_by (is_among t r.agrees) (is_among t r.begins) r t h
+theirs_with k t None h = theirs_untaken (is_finer_text t k.readings) (is_free k.usage t) t
 
 refined_by : (a b : Bool) (r : Reading) (t : Triple) → (by_sets a b r t).standing ≡ NameRefines → IsTrue b × ((by_sets a b r t).told ≡ Some (of_name r.named))
 refined_by true b r t e = absurd (cc)
 refined_by false true r t e = (refl, refl)
 refined_by false false r t e = absurd (cc)
 
-refined_with : (l : Bool) (t : Triple) (o : Option Reading) → (joined_with l t o).standing ≡ NameRefines
-    → (r : Reading) × (o ≡ Some r) × IsTrue (is_among t r.begins) × ((joined_with l t o).told ≡ Some (of_name r.named))
-refined_with l t (Some r) e = let (begins, told) = refined_by (is_among t r.agrees) (is_among t r.begins) r t e in (r, refl, begins, told)
-refined_with true t None e = absurd (cc)
-refined_with false t None e = absurd (cc)
+-- what no reading takes has one of three standings
+untaken_stands : (finer free : Bool) (t : Triple) (s : Standing) → s ≢ BytesRefine → s ≢ BytesAlone → s ≢ Contradicts → (untaken finer free t).standing ≢ s
+untaken_stands true free t s refine alone contradict e = refine (sym e)
+untaken_stands false true t s refine alone contradict e = alone (sym e)
+untaken_stands false false t s refine alone contradict e = contradict (sym e)
 
--- without a type of the bytes
-abbrev alone_with : (l : Bool) (o : Option Reading) → Answer
-alone_with l o = if l then answer Nothing None else joined_without o
+refined_with : (k : Key) (t : Triple) (o : Option Reading) → (joined_with k t o).standing ≡ NameRefines
+    → (r : Reading) × (o ≡ Some r) × IsTrue (is_among t r.begins) × ((joined_with k t o).told ≡ Some (of_name r.named))
+refined_with k t (Some r) e = let (begins, told) = refined_by (is_among t r.agrees) (is_among t r.begins) r t e in (r, refl, begins, told)
+refined_with k t None e =
+    absurd (untaken_stands (is_finer_text t k.readings) (is_free k.usage t) t NameRefines (λ s. absurd (cc)) (λ s. absurd (cc)) (λ s. absurd (cc)) e)
 
-theirs_alone : (l : Bool) (o : Option Reading) → IsTrue (takes_bytes (alone_with l o).standing) → (alone_with l o).told ≡ None
-theirs_alone true o h = absurd (cc)
-theirs_alone false (Some r) h = absurd (cc)
-theirs_alone false None h = refl
+-- without a type of the bytes, by whether the key is loose, and whether there are no bytes
+abbrev alone_with : (l n : Bool) (o : Option Reading) → Answer
+alone_with l n o = if l then answer Nothing None else joined_without n o
 
-not_refined_alone : (l : Bool) (o : Option Reading) → (alone_with l o).standing ≢ NameRefines
-not_refined_alone true o e = absurd (cc)
-not_refined_alone false (Some r) e = absurd (cc)
-not_refined_alone false None e = absurd (cc)
+theirs_alone : (l n : Bool) (o : Option Reading) → IsTrue (takes_bytes (alone_with l n o).standing) → (alone_with l n o).told ≡ None
+theirs_alone true n o h = absurd (cc)
+theirs_alone false n (Some r) h = absurd (cc)
+theirs_alone false true None h = absurd (cc)
+theirs_alone false false None h = refl
+
+not_refined_alone : (l n : Bool) (o : Option Reading) → (alone_with l n o).standing ≢ NameRefines
+not_refined_alone true n o e = absurd (cc)
+not_refined_alone false n (Some r) e = absurd (cc)
+not_refined_alone false true None e = absurd (cc)
+not_refined_alone false false None e = absurd (cc)
 
 theirs : (k : Option Key) (t : Option Triple) (kind : Kind) (lead : List ℕ) → IsTrue (takes_bytes (join k t kind lead).standing)
     → (join k t kind lead).told ≡ option_map of_bytes t
 theirs None (Some t) kind lead h = refl
 theirs None None kind lead h = absurd (cc)
-theirs (Some k) (Some t) kind lead h = theirs_with k.is_loose t (reading_of k.readings t lead) h
-theirs (Some k) None kind lead h = theirs_alone k.is_loose (reading_without k.readings kind lead) h
+theirs (Some k) (Some t) kind lead h = theirs_with k t (reading_of k.readings t lead) h
+theirs (Some k) None kind lead h = theirs_alone (is_loose k.usage) (is_empty kind) (reading_without k.readings kind lead) h
 
 refined : (k : Option Key) (t : Option Triple) (kind : Kind) (lead : List ℕ) → (join k t kind lead).standing ≡ NameRefines
     → (key : Key) × (r : Reading) × (x : Triple) × (k ≡ Some key) × (t ≡ Some x)
@@ -85,8 +98,8 @@ refined : (k : Option Key) (t : Option Triple) (kind : Kind) (lead : List ℕ) �
 refined None (Some t) kind lead e = absurd (cc)
 refined None None kind lead e = absurd (cc)
 refined (Some k) (Some t) kind lead e =
-    let (r, found, begins, told) = refined_with k.is_loose t (reading_of k.readings t lead) e in (k, r, t, refl, refl, found, begins, told)
-refined (Some k) None kind lead e = absurd (not_refined_alone k.is_loose (reading_without k.readings kind lead) e)
+    let (r, found, begins, told) = refined_with k t (reading_of k.readings t lead) e in (k, r, t, refl, refl, found, begins, told)
+refined (Some k) None kind lead e = absurd (not_refined_alone (is_loose k.usage) (is_empty kind) (reading_without k.readings kind lead) e)
 
 pub bytes_win : TheBytesWin
 bytes_win k t kind lead = record { theirs = theirs k t kind lead; refined = refined k t kind lead }
@@ -97,23 +110,24 @@ not_alone_by true b r t e = absurd (cc)
 not_alone_by false true r t e = absurd (cc)
 not_alone_by false false r t e = absurd (cc)
 
-not_alone_with : (l : Bool) (t : Triple) (o : Option Reading) → (joined_with l t o).standing ≢ NameAlone
-not_alone_with l t (Some r) e = not_alone_by (is_among t r.agrees) (is_among t r.begins) r t e
-not_alone_with true t None e = absurd (cc)
-not_alone_with false t None e = absurd (cc)
+not_alone_with : (k : Key) (t : Triple) (o : Option Reading) → (joined_with k t o).standing ≢ NameAlone
+not_alone_with k t (Some r) e = not_alone_by (is_among t r.agrees) (is_among t r.begins) r t e
+not_alone_with k t None e =
+    untaken_stands (is_finer_text t k.readings) (is_free k.usage t) t NameAlone (λ s. absurd (cc)) (λ s. absurd (cc)) (λ s. absurd (cc)) e
 
-alone_by : (l : Bool) (o : Option Reading) → (alone_with l o).standing ≡ NameAlone
-    → (r : Reading) × (l ≡ false) × (o ≡ Some r) × ((alone_with l o).told ≡ Some (of_name r.named))
-alone_by true o e = absurd (cc)
-alone_by false (Some r) e = (r, refl, refl, refl)
-alone_by false None e = absurd (cc)
+alone_by : (l n : Bool) (o : Option Reading) → (alone_with l n o).standing ≡ NameAlone
+    → (r : Reading) × (l ≡ false) × (o ≡ Some r) × ((alone_with l n o).told ≡ Some (of_name r.named))
+alone_by true n o e = absurd (cc)
+alone_by false n (Some r) e = (r, refl, refl, refl)
+alone_by false true None e = absurd (cc)
+alone_by false false None e = absurd (cc)
 
 pub nothing_invented : NothingIsInvented
 nothing_invented None (Some t) kind lead e = absurd (cc)
 nothing_invented None None kind lead e = absurd (cc)
-nothing_invented (Some k) (Some t) kind lead e = absurd (not_alone_with k.is_loose t (reading_of k.readings t lead) e)
+nothing_invented (Some k) (Some t) kind lead e = absurd (not_alone_with k t (reading_of k.readings t lead) e)
 nothing_invented (Some k) None kind lead e =
-    let (r, strict, found, told) = alone_by k.is_loose (reading_without k.readings kind lead) e in
+    let (r, strict, found, told) = alone_by (is_loose k.usage) (is_empty kind) (reading_without k.readings kind lead) e in
     let passes = found_passes (λ r. fits lead r && admits r.asks kind) k.readings r found in
     (k, r, refl, strict, refl, found, (and_parts (fits lead r) (admits r.asks kind) passes).1, told)
 
@@ -123,31 +137,37 @@ not_silent_by true b r t e = absurd (cc)
 not_silent_by false true r t e = absurd (cc)
 not_silent_by false false r t e = absurd (cc)
 
-not_silent_with : (l : Bool) (t : Triple) (o : Option Reading) → (joined_with l t o).standing ≢ Nothing
-not_silent_with l t (Some r) e = not_silent_by (is_among t r.agrees) (is_among t r.begins) r t e
-not_silent_with true t None e = absurd (cc)
-not_silent_with false t None e = absurd (cc)
+not_silent_with : (k : Key) (t : Triple) (o : Option Reading) → (joined_with k t o).standing ≢ Nothing
+not_silent_with k t (Some r) e = not_silent_by (is_among t r.agrees) (is_among t r.begins) r t e
+not_silent_with k t None e =
+    untaken_stands (is_finer_text t k.readings) (is_free k.usage t) t Nothing (λ s. absurd (cc)) (λ s. absurd (cc)) (λ s. absurd (cc)) e
 
-silent_alone : (l : Bool) (o : Option Reading) → (alone_with l o).standing ≡ Nothing → IsTrue l
-silent_alone true o e = refl
-silent_alone false (Some r) e = absurd (cc)
-silent_alone false None e = absurd (cc)
+silent_alone : (l n : Bool) (o : Option Reading) → (alone_with l n o).standing ≡ Nothing → IsTrue (l || (n && not (is_some o)))
+silent_alone true n o e = refl
+silent_alone false n (Some r) e = absurd (cc)
+silent_alone false true None e = refl
+silent_alone false false None e = absurd (cc)
 
-alone_silent : (l : Bool) (o : Option Reading) → IsTrue l → (alone_with l o).standing ≡ Nothing
-alone_silent true o h = refl
-alone_silent false o h = absurd (cc)
+alone_silent : (l n : Bool) (o : Option Reading) → IsTrue (l || (n && not (is_some o))) → (alone_with l n o).standing ≡ Nothing
+alone_silent true n o h = refl
+alone_silent false true (Some r) h = absurd (cc)
+alone_silent false false (Some r) h = absurd (cc)
+alone_silent false true None h = refl
+alone_silent false false None h = absurd (cc)
 
-silent_to : (k : Option Key) (t : Option Triple) (kind : Kind) (lead : List ℕ) → (join k t kind lead).standing ≡ Nothing → (t ≡ None) × IsTrue (is_silent k)
+silent_to : (k : Option Key) (t : Option Triple) (kind : Kind) (lead : List ℕ) → (join k t kind lead).standing ≡ Nothing
+    → (t ≡ None) × IsTrue (is_silent k || is_unfilled k kind lead)
 silent_to None (Some t) kind lead e = absurd (cc)
 silent_to None None kind lead e = (refl, refl)
-silent_to (Some k) (Some t) kind lead e = absurd (not_silent_with k.is_loose t (reading_of k.readings t lead) e)
-silent_to (Some k) None kind lead e = (refl, silent_alone k.is_loose (reading_without k.readings kind lead) e)
+silent_to (Some k) (Some t) kind lead e = absurd (not_silent_with k t (reading_of k.readings t lead) e)
+silent_to (Some k) None kind lead e = (refl, silent_alone (is_loose k.usage) (is_empty kind) (reading_without k.readings kind lead) e)
 
-silent_from : (k : Option Key) (t : Option Triple) (kind : Kind) (lead : List ℕ) → (t ≡ None) × IsTrue (is_silent k) → (join k t kind lead).standing ≡ Nothing
+silent_from : (k : Option Key) (t : Option Triple) (kind : Kind) (lead : List ℕ) → (t ≡ None) × IsTrue (is_silent k || is_unfilled k kind lead)
+    → (join k t kind lead).standing ≡ Nothing
 silent_from None (Some t) kind lead h = absurd (let e = h.0 in cc)
 silent_from None None kind lead h = refl
 silent_from (Some k) (Some t) kind lead h = absurd (let e = h.0 in cc)
-silent_from (Some k) None kind lead h = alone_silent k.is_loose (reading_without k.readings kind lead) h.1
+silent_from (Some k) None kind lead h = alone_silent (is_loose k.usage) (is_empty kind) (reading_without k.readings kind lead) h.1
 
 pub silence_exact : SilenceIsExact
 silence_exact k t kind lead = (silent_to k t kind lead, silent_from k t kind lead)
@@ -165,13 +185,13 @@ none_takes t lead (r ∷ readings) h =
       ]
     ]
 
-contradicted : (l : Bool) (t : Triple) (o : Option Reading) → l ≡ false → o ≡ None → joined_with l t o ≡ answer Contradicts (Some (of_bytes t))
-contradicted l t (Some r) strict e = absurd (cc)
-contradicted true t None strict e = absurd (cc)
-contradicted false t None strict e = refl
+contradicted : (k : Key) (t : Triple) (o : Option Reading) → is_free k.usage t ≡ false → is_finer_text t k.readings ≡ false → o ≡ None
+    → joined_with k t o ≡ answer Contradicts (Some (of_bytes t))
+contradicted k t (Some r) claimed other e = absurd (cc)
+contradicted k t None claimed other e = rw (claimed, other) refl
 
 pub lies_visible : LiesStayVisible
-lies_visible k t kind lead strict h = contradicted k.is_loose t (reading_of k.readings t lead) strict (none_takes t lead k.readings h)
+lies_visible k t kind lead claimed other h = contradicted k t (reading_of k.readings t lead) claimed other (none_takes t lead k.readings h)
 
 -- without leads
 fits_any : (lead : List ℕ) (r : Reading) (leads : List (List ℕ)) → r.leads ≡ leads → IsTrue (has_no_leads leads) → fits lead r ≡ true
@@ -193,10 +213,10 @@ same_find p q (r ∷ readings) h same =
 any_lead : (k : Key) (t : Option Triple) (kind : Kind) (lead other : List ℕ) → IsTrue (list_all (λ r. has_no_leads r.leads) k.readings)
     → join (Some k) t kind lead ≡ join (Some k) t kind other
 any_lead k (Some t) kind lead other h =
-    ap (joined_with k.is_loose t) (same_find (λ r. fits lead r && takes t r) (λ r. fits other r && takes t r) k.readings h
+    ap (joined_with k t) (same_find (λ r. fits lead r && takes t r) (λ r. fits other r && takes t r) k.readings h
     (λ r none. ap (λ f. f && takes t r) (fits_any lead r r.leads refl none ∙ sym (fits_any other r r.leads refl none))))
 any_lead k None kind lead other h =
-    ap (alone_with k.is_loose) (same_find (λ r. fits lead r && admits r.asks kind) (λ r. fits other r && admits r.asks kind) k.readings h
+    ap (alone_with (is_loose k.usage) (is_empty kind)) (same_find (λ r. fits lead r && admits r.asks kind) (λ r. fits other r && admits r.asks kind) k.readings h
     (λ r none. ap (λ f. f && admits r.asks kind) (fits_any lead r r.leads refl none ∙ sym (fits_any other r r.leads refl none))))
 
 any_kind : (k : Option Key) (t : Triple) (kind other : Kind) (lead : List ℕ) → join k (Some t) kind lead ≡ join k (Some t) other lead

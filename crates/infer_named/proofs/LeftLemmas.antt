@@ -9,7 +9,8 @@ use Rattle.infer.specs.Triple.{Triple}
 use Rattle.infer_more.specs.Wider.{shown}
 use Rattle.infer_named.specs.Asks.{admits}
 use Rattle.infer_named.specs.Join.{answer, fits, is_among, joined_with, joined_without, reading_of, reading_without, takes}
-use Rattle.infer_named.specs.Key.{Key, Reading}
+use Rattle.infer_named.specs.Bytes.{is_empty}
+use Rattle.infer_named.specs.Key.{Key, Reading, is_loose}
 use Rattle.infer_named.specs.Laws.{EachReadingIsFound, IsToldAlone, IsToldOfRow, are_left, are_told, first_lead, has_form, has_name, is_first, is_key_right, is_left, is_name_only, may_lead, row_of, wrong_keys}
 use Rattle.infer_named.specs.Names.{is_key}
 use Rattle.infer_named.specs.Table.{keys}
@@ -64,10 +65,10 @@ module _ (k : Key) (before : List Reading) (r : Reading) (rest : List Reading) (
         lead = lead;
         is_shown = found_in (λ t. is_among t (row ∷ [])) shown t e;
         found = found;
-        is = λ kind. ap (joined_with k.is_loose t) found;
+        is = λ kind. ap (joined_with k t) found;
       }
 
-  told_alone : (kind : Kind) → k.is_loose ≡ false → IsTrue (may_lead kind lead && is_first (λ e. fits lead e && admits e.asks kind) before r) → IsToldAlone k r
+  told_alone : (kind : Kind) → is_loose k.usage ≡ false → IsTrue (may_lead kind lead && is_first (λ e. fits lead e && admits e.asks kind) before r) → IsToldAlone k r
   told_alone kind firm h =
       let (may, first) = and_parts (may_lead kind lead) (is_first (λ e. fits lead e && admits e.asks kind) before r) h in
       let found : reading_without k.readings kind lead ≡ Some r
@@ -77,17 +78,17 @@ module _ (k : Key) (before : List Reading) (r : Reading) (rest : List Reading) (
         lead = lead;
         may_be = may;
         found = found;
-        is = ap₂ (λ is_loose o. if is_loose then answer Nothing None else joined_without o) firm found;
+        is = ap₂ (λ loose o. if loose then answer Nothing None else joined_without (is_empty kind) o) firm found;
       }
 
-  left_told : IsTrue (is_left k.is_loose before r) → IsToldOfRow k r ⊎ IsToldAlone k r
+  left_told : IsTrue (is_left (is_loose k.usage) before r) → IsToldOfRow k r ⊎ IsToldAlone k r
   left_told h =
       let by_kind : Kind → Bool = λ kind. may_lead kind lead && is_first (λ e. fits lead e && admits e.asks kind) before r in
       let by_row : List ℕ → Bool = λ row. option_map_or (λ t. is_first (λ e. fits lead e && takes t e) before r) (row_of row) false in
       let kinds = Empty ∷ Binary ∷ Marked ∷ [] in
-      elim (cases_Bool (not k.is_loose && list_any by_kind kinds)) [
-        | inl on ↦ (let (firm, some) = and_parts (not k.is_loose) (list_any by_kind kinds) on in
-            let (kind, first) = some_passes by_kind kinds some in inr (told_alone kind (strict k.is_loose firm) first))
+      elim (cases_Bool (not (is_loose k.usage) && list_any by_kind kinds)) [
+        | inl on ↦ (let (firm, some) = and_parts (not (is_loose k.usage)) (list_any by_kind kinds) on in
+            let (kind, first) = some_passes by_kind kinds some in inr (told_alone kind (strict (is_loose k.usage) firm) first))
         | inr off ↦ (let rows : IsTrue (list_any by_row (r.agrees ++ (r.begins ++ r.finer))) = rw off at h in
             let (row, first) = some_passes by_row (r.agrees ++ (r.begins ++ r.finer)) rows in inl (told_of row (row_of row) refl first))
       ]
@@ -95,10 +96,10 @@ module _ (k : Key) (before : List Reading) (r : Reading) (rest : List Reading) (
 abbrev IsTold : Key → Reading → Type 0
 IsTold k r = IsToldOfRow k r ⊎ IsToldAlone k r
 
-all_told : (k : Key) (before readings : List Reading) → k.readings ≡ before ++ readings → IsTrue (are_left k.is_loose before readings) → All (IsTold k) readings
+all_told : (k : Key) (before readings : List Reading) → k.readings ≡ before ++ readings → IsTrue (are_left (is_loose k.usage) before readings) → All (IsTold k) readings
 all_told k before [] same h = All-nil (IsTold k)
 all_told k before (r ∷ readings) same h =
-    let (here, later) = and_parts (is_left k.is_loose before r) (are_left k.is_loose (before ++ (r ∷ [])) readings) h in
+    let (here, later) = and_parts (is_left (is_loose k.usage) before r) (are_left (is_loose k.usage) (before ++ (r ∷ [])) readings) h in
     All-cons (IsTold k) r readings (left_told k before r readings same here)
     (all_told k (before ++ (r ∷ [])) readings (same ∙ sym (append_assoc before (r ∷ []) readings)) later)
 
@@ -110,7 +111,7 @@ told_of_key : (k : Key) → IsTrue (is_key_right k) → AreTold k
 told_of_key k h =
     let parts = and_parts (has_form k) (has_name k.part k.text && are_told k) h in
     let told = (and_parts (has_name k.part k.text) (are_told k) parts.1).1 in
-    elim (cases_Bool (are_left k.is_loose [] k.readings)) [
+    elim (cases_Bool (are_left (is_loose k.usage) [] k.readings)) [
       | inl on ↦ inl (all_told k [] k.readings refl on)
       | inr off ↦ (let only : IsTrue (is_name_only k) = rw off at told in inr only)
     ]

@@ -1,5 +1,5 @@
 -- The keys as the code lists them, by what stands near in its lists.
-use Rattle.std.proofs.Common.{◌≡◌, ◌∙◌, ℕ, List, ap, ap₂, map}
+use Rattle.std.proofs.Common.{◌≡◌, ◌∙◌, ℕ, List, ap, ap₂, map, refl, subst}
 use Rattle.std.specs.List.{flat_map}
 use Rattle.infer_more.proofs.NearLemmas.{Stretches, near, near_is}
 use Rattle.infer_named.specs.Key.{Key, NamedType, Origin, Reading, key, known, named, own, reading, row}
@@ -9,7 +9,9 @@ use Rattle.infer_named.specs.declared.table.Key as code_key
 use Rattle.infer_named.specs.declared.table.NamedType as code_type
 use Rattle.infer_named.specs.declared.table.Origin as code_origin
 use Rattle.infer_named.specs.declared.table.Origin.TheVariants.{Known, Own, Row}
+use Rattle.infer_named.specs.Texts.{free, tame}
 use Rattle.infer_named.specs.declared.table.Reading as code_reading
+use Rattle.infer_named.specs.declared.table.generated.sets.TheConstants.{FREE, TAME}
 use Rattle.infer_evidence.specs.declared.spans.Span.{Span}
 
 -- a type, by the stretches of the MIME types and of the rows' texts
@@ -40,6 +42,21 @@ set_near = set_by (near ranges) (near (rows_by (near row_texts)))
 set_is : set_near ≡ set_listed
 set_is = ap₂ set_by (near_is ranges) (near_is (rows_by (near row_texts)) ∙ ap (λ texts. stretch (rows_by texts)) (near_is row_texts))
 
+-- the two sets that no reading has
+tame_near : set_near TAME ≡ tame
+unfolding ranges row_spans row_texts tame
+tame_near = refl
+
+pub tame_listed : set_listed TAME ≡ tame
+tame_listed = subst (λ listed. listed TAME ≡ tame) set_is tame_near
+
+free_near : set_near FREE ≡ free
+unfolding ranges row_spans row_texts free
+free_near = refl
+
+pub free_listed : set_listed FREE ≡ free
+free_listed = subst (λ listed. listed FREE ≡ free) set_is free_near
+
 -- a reading, by its type and its sets
 abbrev reading_by : (code_type.NamedType → NamedType) → (Span → List (List ℕ)) → code_reading.Reading → Reading
 reading_by type rows r = reading (type r.named) r.asks (rows r.agrees) (rows r.begins) (rows r.finer) (leads_at r.leads)
@@ -53,7 +70,7 @@ reading_is = ap₂ reading_by type_is set_is
 -- and a key, by the stretches of the texts and of the readings
 abbrev key_by : (code_reading.Reading → Reading) → Stretches ℕ → Stretches code_reading.Reading → code_key.Key → Key
 key_by listed texts readings k =
-    key k.part (texts k.text.start k.text.count) k.is_loose (map listed (readings k.readings.start k.readings.count))
+    key k.part (texts k.text.start k.text.count) k.usage (map listed (readings k.readings.start k.readings.count))
 
 abbrev pub key_near : code_key.Key → Key
 key_near = key_by reading_near (near key_texts) (near readings)

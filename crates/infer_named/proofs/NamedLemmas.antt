@@ -12,6 +12,7 @@ use Rattle.infer_named.specs.Laws.{has_key}
 use Rattle.infer_named.specs.Nameless.{nameless}
 use Rattle.infer_named.specs.Table.{keys}
 use Rattle.infer_named.specs.declared.table.Part.TheVariants.{Whole}
+use Rattle.infer_named.specs.declared.table.Usage.TheVariants.{Strict}
 
 -- whether a row has a name
 abbrev pub IsNamed : Triple → Type 0
@@ -27,7 +28,7 @@ or_right false b on = on
 
 -- whether the key of this number takes the row, or it is one without a name
 abbrev pub is_taken : Triple → ℕ → Bool
-is_taken t number = is_among t nameless || list_any (takes t) (get_or keys number (key Whole [] false [])).readings
+is_taken t number = is_among t nameless || list_any (takes t) (get_or keys number (key Whole [] Strict [])).readings
 
 -- the extensions of the rows that the keys of these numbers do not take, each its own
 abbrev pub unnamed : List Triple → List ℕ → List (List ℕ)
@@ -40,11 +41,11 @@ of_taken : (t : Triple) (number : ℕ) → is_taken t number ≡ true → IsName
 of_taken t number taken = elim (cases_Bool (is_among t nameless)) [
   | inl on ↦ or_right (has_key t) (is_among t nameless) on
   | inr off ↦ (
-      let by : list_any (takes t) (get_or keys number (key Whole [] false [])).readings ≡ true = rw off at taken in
+      let by : list_any (takes t) (get_or keys number (key Whole [] Strict [])).readings ≡ true = rw off at taken in
       or_left (has_key t) (is_among t nameless) (elim (cases_lt number (length keys)) [
-        | inl within ↦ list_any_at (λ k. list_any (takes t) k.readings) keys number (key Whole [] false []) within by
-        | inr past ↦ absurd (let none : list_any (takes t) (get_or keys number (key Whole [] false [])).readings ≡ false
-            = ap (λ k. list_any (takes t) k.readings) (get_or_past keys number (key Whole [] false []) past) in cc)
+        | inl within ↦ list_any_at (λ k. list_any (takes t) k.readings) keys number (key Whole [] Strict []) within by
+        | inr past ↦ absurd (let none : list_any (takes t) (get_or keys number (key Whole [] Strict [])).readings ≡ false
+            = ap (λ k. list_any (takes t) k.readings) (get_or_past keys number (key Whole [] Strict []) past) in cc)
       ]))
 ]
 

@@ -5,6 +5,13 @@ use Rattle.infer_named.specs.declared.bytes.Kind.{Kind}
 use Rattle.infer_named.specs.declared.table.Asks.{Asks}
 use Rattle.infer_named.specs.declared.table.Asks.TheVariants.{Bytes, Nothing, Signature, Text}
 
+-- whether it asks for a text
+abbrev pub is_text : Asks → Bool
+is_text Signature = false
+is_text Text = true
+is_text Bytes = false
+is_text Nothing = false
+
 -- whether bytes of this kind are so
 abbrev pub admits : Asks → Kind → Bool
 admits Signature kind = false

@@ -1,7 +1,9 @@
 -- Keys of names, and what each may mean.
-use Rattle.std.specs.Prelude.{ℕ, Bool, List}
+use Rattle.std.specs.Prelude.{ℕ, Bool, false, true, List}
 use Rattle.infer_named.specs.declared.table.Asks.{Asks}
 use Rattle.infer_named.specs.declared.table.Part.{Part}
+use Rattle.infer_named.specs.declared.table.Usage.{Usage}
+use Rattle.infer_named.specs.declared.table.Usage.TheVariants.{Loose, Plain, Strict}
 
 -- who names a type: a row, whose extension this is; a registry or another program; or nobody else
 pub data Origin : Type 0 where
@@ -24,11 +26,17 @@ pub record Reading : Type 0 where
   pub finer : List (List ℕ)
   pub leads : List (List ℕ)
 
--- what it is of a name, its text, whether it is in use for other things too, and its readings in order
+-- whether a key is in use for other things too
+abbrev pub is_loose : Usage → Bool
+is_loose Strict = false
+is_loose Plain = false
+is_loose Loose = true
+
+-- what it is of a name, its text, for what it is in use, and its readings in order
 pub record Key : Type 0 where
   pub part : Part
   pub text : List ℕ
-  pub is_loose : Bool
+  pub usage : Usage
   pub readings : List Reading
 
 abbrev pub named : List ℕ → Origin → NamedType
@@ -38,5 +46,5 @@ abbrev pub reading : NamedType → Asks → List (List ℕ) → List (List ℕ) 
 reading type asks agrees begins finer leads =
     record { named = type; asks = asks; agrees = agrees; begins = begins; finer = finer; leads = leads }
 
-abbrev pub key : Part → List ℕ → Bool → List Reading → Key
-key part text is_loose readings = record { part = part; text = text; is_loose = is_loose; readings = readings }
+abbrev pub key : Part → List ℕ → Usage → List Reading → Key
+key part text usage readings = record { part = part; text = text; usage = usage; readings = readings }

@@ -1,5 +1,5 @@
 -- Laws of names and bytes. They hold for every key, so for every table.
-use Rattle.std.specs.Prelude.{All, ◌==◌, ◌&&◌, ◌||◌, if◌then◌else◌, codes, drop, nat_le, nat_lt, slice_index, unwrap_or, zero, suc, ◌+◌, ◌≡◌, ◌≢◌, ◌↔◌, ◌⊎◌, ◌<◌, ◌++◌, ℕ, Bool, false, true, IsTrue, List, [], ◌∷◌, Option, None, Some, length, not, option_map}
+use Rattle.std.specs.Prelude.{All, ◌==◌, ◌&&◌, ◌||◌, if◌then◌else◌, codes, drop, nat_le, nat_lt, slice_index, unwrap_or, zero, suc, ◌+◌, ◌≡◌, ◌≢◌, ◌↔◌, ◌⊎◌, ◌<◌, ◌++◌, ℕ, Bool, false, true, IsTrue, List, [], ◌∷◌, Option, None, Some, is_some, length, not, option_map}
 use Rattle.std.specs.List.{Contains, find, list_all, list_any}
 use Rattle.std.specs.Option.{option_map_or, option_or}
 use Rattle.std.specs.Str.{bytes_eq}
@@ -10,9 +10,9 @@ use Rattle.infer_formats.specs.Text.{IsText}
 use Rattle.infer_more.specs.Decided.{IsDecided}
 use Rattle.infer_more.specs.Wider.{IsWiderAnswer, shown}
 use Rattle.infer_named.specs.Asks.{admits}
-use Rattle.infer_named.specs.Bytes.{IsKind, lead_of}
-use Rattle.infer_named.specs.Join.{answer, fits, is_among, join, of_bytes, of_name, reading_of, reading_without, takes, told_by}
-use Rattle.infer_named.specs.Key.{Key, Reading}
+use Rattle.infer_named.specs.Bytes.{IsKind, is_empty, lead_of}
+use Rattle.infer_named.specs.Join.{answer, fits, has_no_leads, is_among, is_finer_text, is_free, join, of_bytes, of_name, reading_of, reading_without, takes, told_by}
+use Rattle.infer_named.specs.Key.{Key, Reading, is_loose}
 use Rattle.infer_named.specs.Nameless.{nameless}
 use Rattle.infer_named.specs.Names.{IsBase, IsKey, past, copies, copy_length, ends_in, is_key, is_version, is_version_byte, small, up_to}
 use Rattle.infer_named.specs.Table.{keys}
@@ -45,34 +45,36 @@ pub record BytesWin (k : Option Key) (t : Option Triple) (kind : Kind) (lead : L
 abbrev pub TheBytesWin : Type 0
 TheBytesWin = (k : Option Key) (t : Option Triple) (kind : Kind) (lead : List ℕ) → BytesWin k t kind lead
 
--- Nothing is invented. A type is told by the name alone only of bytes without one, by the first reading of a strict key that
+-- Nothing is invented. A type is told by the name alone only of bytes without one, by the first reading of a key that is not loose and
 -- fits and admits their kind: so never one that asks for a signature, and none that asks for a text where a byte is 00.
 abbrev pub NothingIsInvented : Type 0
 NothingIsInvented =
     (k : Option Key) (t : Option Triple) (kind : Kind) (lead : List ℕ) → (join k t kind lead).standing ≡ NameAlone
-    → (key : Key) × (r : Reading) × (k ≡ Some key) × (key.is_loose ≡ false) × (t ≡ None)
+    → (key : Key) × (r : Reading) × (k ≡ Some key) × (is_loose key.usage ≡ false) × (t ≡ None)
     × (reading_without key.readings kind lead ≡ Some r) × IsTrue (admits r.asks kind) × ((join k t kind lead).told ≡ Some (of_name r.named))
 
 -- whether there is no key, or a loose one
 abbrev pub is_silent : Option Key → Bool
-is_silent k = option_map_or (λ key. key.is_loose) k true
+is_silent k = option_map_or (λ key. is_loose key.usage) k true
 
--- Nothing is said exactly if the bytes have no type and there is no strict key.
+-- whether there are no bytes, and no reading admits that
+abbrev pub is_unfilled : Option Key → Kind → List ℕ → Bool
+is_unfilled k kind lead = is_empty kind && option_map_or (λ key. not (is_some (reading_without key.readings kind lead))) k true
+
+-- Nothing is said exactly if the bytes have no type, and there is no key but a loose one, or there are no bytes and no reading
+-- admits that.
 abbrev pub SilenceIsExact : Type 0
 SilenceIsExact =
     (k : Option Key) (t : Option Triple) (kind : Kind) (lead : List ℕ)
-    → (join k t kind lead).standing ≡ Nothing ↔ ((t ≡ None) × IsTrue (is_silent k))
+    → (join k t kind lead).standing ≡ Nothing ↔ ((t ≡ None) × IsTrue (is_silent k || is_unfilled k kind lead))
 
--- A lie stays visible. What has a type that no reading of a strict key takes is contradicted, whatever else it has.
+-- A lie stays visible. What has a type that no reading takes is contradicted, whatever else it has: by a strict key always, and by
+-- a plain one unless people name such files as they like. But a finer text is no lie where any text is none.
 abbrev pub LiesStayVisible : Type 0
 LiesStayVisible =
-    (k : Key) (t : Triple) (kind : Kind) (lead : List ℕ) → k.is_loose ≡ false → IsTrue (list_all (λ r. not (takes t r)) k.readings)
+    (k : Key) (t : Triple) (kind : Kind) (lead : List ℕ) → is_free k.usage t ≡ false → is_finer_text t k.readings ≡ false
+    → IsTrue (list_all (λ r. not (takes t r)) k.readings)
     → join (Some k) (Some t) kind lead ≡ answer Contradicts (Some (of_bytes t))
-
--- whether a reading has no leads
-abbrev pub has_no_leads : List (List ℕ) → Bool
-has_no_leads [] = true
-has_no_leads (lead ∷ leads) = false
 
 -- Three things of the bytes count at most: the type, the kind where there is no type, and the lead where a reading has leads.
 pub record OnlyThreeCount : Type 0 where
@@ -181,23 +183,23 @@ is_first test before r = test r && not (list_any test before)
 
 -- with a reading's first lead there are bytes of which it is the first that fits: without a type, of a kind that it admits, if
 -- the key is not loose; or with that of a row in its sets
-abbrev pub is_left : Bool → List Reading → Reading → Bool
-is_left is_loose before r =
+abbrev pub is_left : (loose : Bool) → List Reading → Reading → Bool
+is_left loose before r =
     let lead = first_lead r.leads in
-    (not is_loose && list_any (λ kind. may_lead kind lead && is_first (λ e. fits lead e && admits e.asks kind) before r) (Empty ∷ Binary ∷ Marked ∷ []))
+    (not loose && list_any (λ kind. may_lead kind lead && is_first (λ e. fits lead e && admits e.asks kind) before r) (Empty ∷ Binary ∷ Marked ∷ []))
     || list_any (λ row. option_map_or (λ t. is_first (λ e. fits lead e && takes t e) before r) (row_of row) false) (r.agrees ++ (r.begins ++ r.finer))
 
 -- such bytes are left to each reading
-abbrev pub are_left : Bool → List Reading → List Reading → Bool
-are_left is_loose before [] = true
-are_left is_loose before (r ∷ readings) = is_left is_loose before r && are_left is_loose (before ++ (r ∷ [])) readings
+abbrev pub are_left : (loose : Bool) → List Reading → List Reading → Bool
+are_left loose before [] = true
+are_left loose before (r ∷ readings) = is_left loose before r && are_left loose (before ++ (r ∷ [])) readings
 
 -- a loose key's only reading may be told of no bytes: it is the type of the name
 abbrev pub is_name_only : Key → Bool
-is_name_only k = k.is_loose && length k.readings == 1
+is_name_only k = is_loose k.usage && length k.readings == 1
 
 abbrev pub are_told : Key → Bool
-are_told k = are_left k.is_loose [] k.readings || is_name_only k
+are_told k = are_left (is_loose k.usage) [] k.readings || is_name_only k
 
 -- the last place from i on and below n whose byte passes the test
 abbrev pub last_below : (ℕ → Bool) → List ℕ → ℕ → ℕ → Option ℕ

@@ -78,4 +78,4 @@ reading_listed r = reading (type_listed r.named) r.asks (set_listed r.agrees) (s
 
 abbrev pub key_listed : code_key.Key → Key
 key_listed k =
-    key k.part (stretch key_texts k.text.start k.text.count) k.is_loose (map reading_listed (stretch readings k.readings.start k.readings.count))
+    key k.part (stretch key_texts k.text.start k.text.count) k.usage (map reading_listed (stretch readings k.readings.start k.readings.count))

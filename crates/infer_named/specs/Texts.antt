@@ -45,6 +45,34 @@ texts =
     ∷ codes "xib" ∷ codes "xkbrules" ∷ codes "xliff" ∷ codes "xmcd" ∷ codes "xmi" ∷ codes "xml" ∷ codes "xmp" ∷ codes "xpm"
     ∷ codes "xpm2" ∷ codes "xsd" ∷ codes "xslt" ∷ codes "xspf" ∷ codes "yaml" ∷ []
 
+-- those that no program runs and no browser renders
+unfoldable pub tame : List (List ℕ)
+tame =
+    codes "abook" ∷ codes "agekey" ∷ codes "asc" ∷ codes "asxref" ∷ codes "atom" ∷ codes "bib" ∷ codes "bookmarks" ∷ codes "busconfig"
+    ∷ codes "catmeta" ∷ codes "ccmx" ∷ codes "cdx" ∷ codes "clj" ∷ codes "cloudcfg" ∷ codes "cml" ∷ codes "cue" ∷ codes "dart"
+    ∷ codes "dbk" ∷ codes "dbusintro" ∷ codes "dbusservice" ∷ codes "dep5" ∷ codes "desktop" ∷ codes "diff" ∷ codes "docker" ∷ codes "dsc"
+    ∷ codes "dtsi" ∷ codes "eml" ∷ codes "escript" ∷ codes "exs" ∷ codes "fl" ∷ codes "flatpakref" ∷ codes "flatpakrepo" ∷ codes "fontconfig"
+    ∷ codes "gcurve" ∷ codes "geojson" ∷ codes "gff3" ∷ codes "ggr" ∷ codes "gitpatch" ∷ codes "glade" ∷ codes "gml" ∷ codes "gnuplot"
+    ∷ codes "gpl" ∷ codes "gpx" ∷ codes "gresource" ∷ codes "gschema" ∷ codes "gtkbuilder" ∷ codes "gv" ∷ codes "gx" ∷ codes "http"
+    ∷ codes "icontheme" ∷ codes "ics" ∷ codes "inf" ∷ codes "info" ∷ codes "iptables" ∷ codes "ipynb" ∷ codes "it87" ∷ codes "jad"
+    ∷ codes "jarmf" ∷ codes "jl" ∷ codes "jnlp" ∷ codes "kml" ∷ codes "la" ∷ codes "ldif" ∷ codes "ldml" ∷ codes "lingts"
+    ∷ codes "ll" ∷ codes "ly" ∷ codes "lyx" ∷ codes "m" ∷ codes "m4" ∷ codes "mbox" ∷ codes "meta4" ∷ codes "metainfo"
+    ∷ codes "metalink" ∷ codes "microdvd" ∷ codes "mimeinfo" ∷ codes "minisig" ∷ codes "mk" ∷ codes "mml" ∷ codes "modulefile" ∷ codes "mol2"
+    ∷ codes "mpl2" ∷ codes "mpsub" ∷ codes "msbuild" ∷ codes "mup" ∷ codes "ndjson" ∷ codes "news" ∷ codes "nex" ∷ codes "nft"
+    ∷ codes "nsc" ∷ codes "nzb" ∷ codes "opml" ∷ codes "osm" ∷ codes "owx" ∷ codes "pc" ∷ codes "pdbmol" ∷ codes "pkginfo"
+    ∷ codes "pkgmeta" ∷ codes "plist" ∷ codes "po" ∷ codes "pom" ∷ codes "ppd" ∷ codes "puml" ∷ codes "pysu" ∷ codes "qml"
+    ∷ codes "raml" ∷ codes "rdf" ∷ codes "rkt" ∷ codes "rng" ∷ codes "rq" ∷ codes "rss" ∷ codes "sam" ∷ codes "sami"
+    ∷ codes "sbml" ∷ codes "scc" ∷ codes "sch" ∷ codes "sdp" ∷ codes "sed" ∷ codes "sgf" ∷ codes "sitemap" ∷ codes "spec"
+    ∷ codes "srt" ∷ codes "srx" ∷ codes "ssa" ∷ codes "ssh2pub" ∷ codes "sshpub" ∷ codes "subviewer" ∷ codes "t2t" ∷ codes "tei"
+    ∷ codes "tex" ∷ codes "texi" ∷ codes "texlua" ∷ codes "toc" ∷ codes "tres" ∷ codes "tscn" ∷ codes "ttl" ∷ codes "ttml"
+    ∷ codes "ui" ∷ codes "unit" ∷ codes "uu" ∷ codes "vault" ∷ codes "vcf" ∷ codes "vcfg" ∷ codes "vnt" ∷ codes "vpnpcf"
+    ∷ codes "vtt" ∷ codes "wreg" ∷ codes "wsdl" ∷ codes "xbel" ∷ codes "xib" ∷ codes "xkbrules" ∷ codes "xliff" ∷ codes "xmcd"
+    ∷ codes "xmi" ∷ codes "xmp" ∷ codes "xsd" ∷ codes "xslt" ∷ codes "yaml" ∷ []
+
+-- the rows of files that people name as they like: texts and programs
+unfoldable pub free : List (List ℕ)
+free = codes "txt" ∷ codes "elf" ∷ codes "ocamlrun" ∷ codes "shar" ∷ texts
+
 -- with what the files of a type begin, as lists that readings have
 unfoldable pub lead_lists : List (List (List ℕ))
 lead_lists =

@@ -6,14 +6,16 @@ ghost use Rattle.infer_more.specs.Wider.{IsWiderAnswer};
 ghost use Rattle.infer_named.specs.Asks.{admits};
 ghost use Rattle.infer_named.specs.Bytes.{IsKind, has_no_zero, is_empty, lead_of};
 ghost use Rattle.infer_named.specs.Join.{answer, extension_of, first_type, fits, is_own, is_own_name, joined_with, keyed, mime_type_of, reading_of, reading_without, row_extension, standing_in, told_by, type_of_name, unnamed};
+ghost use Rattle.infer_named.specs.Key.{is_loose};
 ghost use Rattle.infer_named.specs.Listed.{key_listed, origin_listed, reading_listed, texts};
 ghost use Rattle.infer_named.specs.Named.{IsNamed, answer_of, key_of, told_listed};
 
 use crate::bytes::{Kind, kind_of, lead_of};
+use crate::lies::{is_finer_text, is_free};
 use crate::names::key;
 use crate::rows::is_among;
 use crate::table::{
-    Asks, Key, NamedType, Origin, Reading, leads, mime_type, readings_of, row_text,
+    Asks, Key, NamedType, Origin, Reading, Usage, leads, mime_type, readings_of, row_text,
 };
 use infer::{Identify, Type};
 
@@ -217,19 +219,24 @@ fn keyed_alone(key: &'static Key, buf: &[u8]) -> Named
         → answer_of result ≡ keyed (key_listed key.now) None kind (lead_of buf.now) }
     ensures key { key_of result ≡ Some (key_listed key.now) }
 {
-    if key.is_loose {
+    if is_loose(key.usage) {
         return silent(Standing::Nothing, Some(key));
     }
-    match reading_without(readings_of(key), kind_of(buf), buf) {
-        Some(reading) => telling(Standing::NameAlone, Told::Name(reading.named), Some(key)),
-        None => silent(Standing::Contradicts, Some(key)),
+    let kind = kind_of(buf);
+    if let Some(reading) = reading_without(readings_of(key), kind, buf) {
+        return telling(Standing::NameAlone, Told::Name(reading.named), Some(key));
+    }
+    if is_empty(kind) {
+        silent(Standing::Nothing, Some(key))
+    } else {
+        silent(Standing::Contradicts, Some(key))
     }
 }
 
 /// What it says of bytes with this type: what the first reading says that the bytes fit and that has it in a set.
 #[tactic(auto, using(crate::proofs::SetLemmas::takes_is))]
 fn joined(key: &'static Key, t: Type, buf: &[u8]) -> Named
-    ensures answer { answer_of result ≡ joined_with (key_listed key.now).is_loose (triple_of t)
+    ensures answer { answer_of result ≡ joined_with (key_listed key.now) (triple_of t)
         (reading_of (key_listed key.now).readings (triple_of t) (lead_of buf.now)) }
     ensures key { key_of result ≡ Some (key_listed key.now) }
 {
@@ -245,13 +252,24 @@ fn joined(key: &'static Key, t: Type, buf: &[u8]) -> Named
 
 /// What it says of bytes with this type, which no reading has.
 fn untaken(key: &'static Key, t: Type) -> Named
-    ensures answer { answer_of result ≡ joined_with (key_listed key.now).is_loose (triple_of t) None }
+    ensures answer { answer_of result ≡ joined_with (key_listed key.now) (triple_of t) None }
     ensures key { key_of result ≡ Some (key_listed key.now) }
 {
-    if key.is_loose {
+    if is_finer_text(&t, readings_of(key)) {
+        telling(Standing::BytesRefine, Told::Bytes(t), Some(key))
+    } else if is_free(key.usage, &t) {
         telling(Standing::BytesAlone, Told::Bytes(t), Some(key))
     } else {
         telling(Standing::Contradicts, Told::Bytes(t), Some(key))
+    }
+}
+
+fn is_loose(usage: Usage) -> bool
+    ensures { result ≡ is_loose usage }
+{
+    match usage {
+        Usage::Strict | Usage::Plain => false,
+        Usage::Loose => true,
     }
 }
 

@@ -14,7 +14,8 @@ pub fn nothing_is_invented()
     ensures { NothingIsInvented }
 {}
 
-/// Nothing is said exactly if the bytes have no type and the name has no strict key.
+/// Nothing is said exactly if the bytes have no type, and the name has no key but a loose one, or there are no bytes and no reading
+/// of the key allows that.
 #[tactic(auto, using(crate::proofs::LawLemmas::silence_exact))]
 pub fn silence_is_exact()
     ensures { SilenceIsExact }
@@ -52,7 +53,8 @@ pub fn growth()
     ensures decided { DecidedAnswersLast }
 {}
 
-/// A lie stays visible: bytes of a type that no reading of a strict key takes contradict it, whatever else they hold.
+/// A lie stays visible: bytes of a type that no reading of a strict key takes contradict it, whatever else they hold, and so those
+/// of a type that a plain key does not leave open. But a finer kind of plain text is no lie where any plain text is none.
 pub fn lies_stay_visible()
     ensures { LiesStayVisible }
 {}

@@ -5,8 +5,9 @@
 //! which rows may accept the bytes of such a file.
 //!
 //! Each module uses only those before it: `table`, the keys with their readings; `names`, the key of a name; `bytes`, what
-//! is asked of the bytes beside their wider answer; `rows`, whether a set of rows has a type; `join`, all together;
-//! `with_own_types`, types of a text beside these; `suspicious_name`, what is odd about a name.
+//! is asked of the bytes beside their wider answer; `rows`, whether a set of rows has a type; `lies`, which types are no lie
+//! though a key does not have them; `join`, all together; `with_own_types`, types of a text beside these;
+//! `suspicious_name`, what is odd about a name.
 #![tactic(auto)]
 
 ghost use Rattle.std.specs.Prelude.{◌≡◌, ◌≤◌, IfOk, None};
@@ -17,6 +18,7 @@ ghost use Rattle.infer_named.specs.Named.{IsNamed};
 mod bytes;
 mod join;
 pub mod laws;
+mod lies;
 mod names;
 mod rows;
 mod suspicious_name;
@@ -33,7 +35,7 @@ use std::io;
 use std::io::Read;
 use std::rt::Files;
 pub use suspicious_name::{Oddities, oddities_of as oddities};
-pub use table::{Asks, Key, NamedType, Origin, Part, Reading};
+pub use table::{Asks, Key, NamedType, Origin, Part, Reading, Usage};
 pub use with_own_types::{NamedBy, named_by};
 
 /// What the name and the first 8192 bytes of a reader say, or all if it has fewer. It reads and refuses as

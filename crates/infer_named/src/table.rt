@@ -16,6 +16,17 @@ pub enum Part {
     Extension,
 }
 
+/// For what a key is in use.
+#[derive(Clone, Copy, Debug)]
+pub enum Usage {
+    /// For files of its types, as everyone expects.
+    Strict,
+    /// For files of its types, which few people know, so that a text or a program may have such a name for another reason.
+    Plain,
+    /// For other things too.
+    Loose,
+}
+
 /// Who names a type.
 #[derive(Clone, Copy, Debug)]
 pub enum Origin {
@@ -65,18 +76,9 @@ pub struct Reading {
 /// What of a name stands in the table. Its text stands among those of all keys, and its readings among all.
 pub struct Key {
     pub(crate) part: Part,
-    pub(crate) is_loose: bool,
+    pub(crate) usage: Usage,
     pub(crate) text: Span,
     pub(crate) readings: Span,
-}
-
-macro_rules! is_loose {
-    (Strict) => {
-        false
-    };
-    (Loose) => {
-        true
-    };
 }
 
 macro_rules! span {
@@ -90,10 +92,10 @@ macro_rules! span {
 
 // A line each.
 macro_rules! keys {
-    ($($use:ident $part:ident $text:literal $length:literal $readings:literal $count:literal;)*) => {
+    ($($usage:ident $part:ident $text:literal $length:literal $readings:literal $count:literal;)*) => {
         [$(Key {
             part: Part::$part,
-            is_loose: is_loose!($use),
+            usage: Usage::$usage,
             text: span!($text $length),
             readings: span!($readings $count),
         }),*]
@@ -137,7 +139,6 @@ macro_rules! lists {
     };
 }
 
-pub(crate) use is_loose;
 pub(crate) use keys;
 pub(crate) use lists;
 pub(crate) use origin;
@@ -147,6 +148,7 @@ pub(crate) use spans;
 
 mod generated;
 
+pub(crate) use generated::{free, tame};
 use generated::{
     all_keys, all_ranges, all_readings, key_texts, mime_types, row_spans, row_texts, starts,
 };

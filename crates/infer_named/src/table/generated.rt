@@ -1,13 +1,14 @@
 //! The lists of the table, which `tools/tables` makes from names.txt, each with what it lists.
 ghost use Rattle.std.specs.Prelude.{◌≡◌, IsAscii, length, map};
-ghost use Rattle.infer_named.specs.Listed.{key_listed, key_texts, mime_types, ranges, readings, row_spans, row_texts};
+ghost use Rattle.infer_named.specs.Listed.{key_listed, key_texts, mime_types, ranges, readings, row_spans, row_texts, set_listed};
 ghost use Rattle.infer_named.specs.Slots.{starts};
 ghost use Rattle.infer_named.specs.Table.{keys};
+ghost use Rattle.infer_named.specs.Texts.{free, tame};
 
 use crate::table::{Key, Reading};
 use infer_evidence::Span;
 use keys::{KEYS, READINGS, STARTS};
-use sets::{RANGES, ROWS};
+use sets::{FREE, RANGES, ROWS, TAME};
 use texts::{KEY_TEXTS, MIME_TYPES, ROW_TEXTS};
 
 pub(crate) mod keys;
@@ -75,4 +76,20 @@ pub(crate) fn row_texts() -> &'static str
     ensures ascii { IsAscii result.now }
 {
     ROW_TEXTS
+}
+
+/// The rows of texts that no program runs and no browser renders.
+#[tactic(auto, using(crate::proofs::ListedLemmas::tame_listed))]
+pub(crate) fn tame() -> Span
+    ensures { set_listed result ≡ tame }
+{
+    TAME
+}
+
+/// The rows of files that people name as they like: texts and programs.
+#[tactic(auto, using(crate::proofs::ListedLemmas::free_listed))]
+pub(crate) fn free() -> Span
+    ensures { set_listed result ≡ free }
+{
+    FREE
 }

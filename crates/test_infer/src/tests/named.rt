@@ -59,7 +59,17 @@ const NAMED: &[(&[u8], &[u8], Standing, &str)] = &[
     ),
     (b"__init__.py", b"", Standing::NameAlone, "text/x-python"),
     (b".h.erb", b"fLaC", Standing::Contradicts, "audio/x-flac"),
-    (b"x.war", b"", Standing::Contradicts, ""),
+    (b"x.war", b"", Standing::Nothing, ""),
+    (b"x.war", b"\0", Standing::Contradicts, ""),
+    (b"a.blend", b"words\n", Standing::BytesAlone, "text/plain"),
+    (b"a.blend", b"\x89PNG", Standing::Contradicts, "image/png"),
+    (b"a.jpg", b"words\n", Standing::Contradicts, "text/plain"),
+    (
+        b"dates.md",
+        b"BEGIN:VCALENDAR\n",
+        Standing::BytesRefine,
+        "text/calendar",
+    ),
     (b"x.obj", b"a\0b", Standing::Nothing, ""),
 ];
 

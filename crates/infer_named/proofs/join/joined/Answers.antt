@@ -4,7 +4,7 @@ use Rattle.std.specs.Prelude.{is_some}
 use Rattle.infer.specs.Triple.{triple_of}
 use Rattle.infer_named.specs.Bytes.{lead_of}
 use Rattle.infer_named.specs.Join.{fits, joined_with, reading_of, takes}
-use Rattle.infer_named.specs.Listed.{reading_listed}
+use Rattle.infer_named.specs.Listed.{key_listed, reading_listed}
 use Rattle.infer_named.proofs.SetLemmas.{found_here, found_later, off_left, off_right, takes_is}
 use Rattle.infer_named.proofs.join.joined.Goals as goal
 use Rattle.infer_named.proofs.join.joined.Goals.{else-is_some-via-then-is_some+else-fits, else-is_some-via-else-is_some}
@@ -31,4 +31,4 @@ returns-then-fits-clause-answer c =
     let here = found_here reading_listed (λ r. fits lead r && takes t r) c.readings_of-readings.result.now c.loop-reading.reading-index _ c.loop-reading-test.true
     (and_from _ _ (sym c.fits.ensures ∙ c.if-fits.true) taken) in
     let found = ap (λ rs. reading_of rs t lead) (sym c.readings_of-readings.ensures) ∙ sym c.loop-reading.invariant ∙ here in
-    c.told_by.ensures.answer ∙ sym (ap (λ o. joined_with c.args.key.now.is_loose t o) found)
+    c.told_by.ensures.answer ∙ sym (ap (λ o. joined_with (key_listed c.args.key.now) t o) found)
