@@ -549,8 +549,8 @@ static void lines(void) {
     char line[64];
     int32_t standing;
     bool is_known;
-    line_is(&options, "main.py", "import os\n", 10, INFER_NAME_REFINES, true, "main.py: text/x-python py, us-ascii, name refines\n");
-    line_is(&options, "a.pdf", JPEG, INFER_CONTRADICTS, true, "a.pdf: image/jpeg jpg, contradicts: named application/pdf\n");
+    line_is(&options, "main.py", "import os\n", 10, INFER_NAME_REFINES, true, "main.py: text/x-python py, us-ascii\n");
+    line_is(&options, "a.pdf", JPEG, INFER_CONTRADICTS, true, "a.pdf: image/jpeg jpg, but named as application/pdf\n");
     line_is(&options, "a\xE2\x80\x8B", "\0\1", 2, INFER_NOTHING, false, "a\\u200b: unknown\n");
     options.form = INFER_LABEL_MIME;
     line_is(&options, "a", "import os\n", 10, INFER_BYTES_ALONE, true, "a: text/plain; charset=us-ascii\n");

@@ -124,8 +124,9 @@ void put_columns(const char *name, size_t name_size, const char *line, size_t si
         left -= name_width + 2;
     }
     if (type < size) {
-        const char *rest = line + type + 2;
-        size_t rest_size = size - type - 2, column = column_of(width_of(line, type), width_of(rest, rest_size), left);
+        const char *rest = line + type + strspn(line + type, ",: ");
+        size_t rest_size = size - (size_t)(rest - line);
+        size_t column = column_of(width_of(line, type), width_of(rest, rest_size), left);
         begun = lines->size;
         put_type(line, type, column, lines);
         put_blanks(begun, column, lines);

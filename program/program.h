@@ -66,6 +66,7 @@ void put_text(struct text *text, const char *more);
 void put_format(struct text *text, const char *format, ...) __attribute__((format(printf, 2, 3)));
 char *make_room(struct text *text, size_t size);
 void put_shown(struct text *text, const char *name, size_t size);
+size_t size_before(const char *const *marks, const char *line, size_t size);
 size_t type_size(const char *line, size_t size);
 bool end_output(void);
 void *allocated(void *memory);

@@ -25,29 +25,20 @@ struct summary *new_summary(const struct options *options) {
     return summary;
 }
 
-/* The length of what a line of JSON tells of the type: its first members, up to one of the others. */
+/* The length of what a line of JSON tells of the type: its first members. */
 static size_t json_type_size(const char *line, size_t size) {
-    static const char *const others[] = {",\"empty\":", ",\"encoding\":", ",\"standing\":", ",\"named\":", ",\"why\":"};
-    size_t end = size - sizeof "}\n" + 1;
-    for (size_t i = 0; i < sizeof others / sizeof *others; i++) {
-        const char *at = memmem(line, end, others[i], strlen(others[i]));
-        end = at ? (size_t)(at - line) : end;
-    }
-    return end;
+    static const char *const others[] = {"}\n", ",\"empty\":", ",\"encoding\":", ",\"standing\":", NULL};
+    return size_before(others, line, size);
 }
 
 /* What is told of the type, with what a name says that lies. */
 static void put_type(const struct options *options, const char *line, size_t size, bool is_lie, struct text *type) {
     bool is_json = options->line.form == INFER_LABEL_JSON;
-    const char *mark = is_json ? ",\"named\":" : ": named ";
+    const char *mark = is_json ? ",\"named\":" : ", but named as ", *end = is_json ? "}\n" : "\n";
     put_bytes(type, line, is_json ? json_type_size(line, size) : type_size(line, size));
     const char *named = is_lie && options->is_lies ? memmem(line, size, mark, strlen(mark)) : NULL;
-    if (named && is_json)
-        put_bytes(type, named, size - (size_t)(named - line) - (sizeof "}\n" - 1));
-    else if (named) {
-        put_text(type, ", ");
-        put_bytes(type, named + 2, size - (size_t)(named - line) - sizeof ": " + 1 - 1);
-    }
+    if (named)
+        put_bytes(type, named, size - (size_t)(named - line) - strlen(end));
     put_bytes(type, "", 1);
 }
 

@@ -61,10 +61,17 @@ void put_shown(struct text *text, const char *name, size_t size) {
     text->size += got - (sizeof ": \n" - 1);
 }
 
-/* The length of what a line tells of the type: up to the first ", " or ": ", or to its end. */
+/* How much of a line stands before all of these marks, whose last is a null pointer. */
+size_t size_before(const char *const *marks, const char *line, size_t size) {
+    for (; *marks; marks++) {
+        const char *at = memmem(line, size, *marks, strlen(*marks));
+        size = at ? (size_t)(at - line) : size;
+    }
+    return size;
+}
+
+/* The length of what a line tells of the type. */
 size_t type_size(const char *line, size_t size) {
-    size_t end = 0;
-    while (end < size && line[end] != '\n' && !(end + 1 < size && (line[end] == ',' || line[end] == ':') && line[end + 1] == ' '))
-        end++;
-    return end;
+    static const char *const others[] = {"\n", ", ", ": ", " by its name alone", NULL};
+    return size_before(others, line, size);
 }

@@ -178,13 +178,13 @@ def said():
 
 
 def is_told(mime_type, extension, more, named):
-    """Whether some row has the type, or a name tells of it, and infer_label has the words that follow, the last of which is
-    that the name contradicts where its own type follows."""
-    if named and not (more.endswith(", contradicts") and f" {named} (" in text_of("crates/infer_named/names.txt")):
-        return False
-    words = re.findall(r'b?", ([a-z ]+)"', text_of("crates/infer_label/src/line.rt"))
-    is_known = any(it[:2] == (mime_type, extension) for it in rows()) if extension else f" {mime_type} (" in text_of("crates/infer_named/names.txt")
-    return is_known and {*more.split(", ")[1:]} <= {*words, "us-ascii", "utf-8", "utf-16le", "utf-16be"}
+    """Whether some row has the type, or a name tells of it, and infer_label has the words that follow, the last of which
+    end in a blank where the name's type follows."""
+    words = "|".join(re.findall(r'b"(,? [a-z ]+)"', text_of("crates/infer_label/src/line.rt")))
+    names = text_of("crates/infer_named/names.txt")
+    is_known = any(it[:2] == (mime_type, extension) for it in rows()) if extension else f" {mime_type} (" in names
+    is_named = f" {named} (" in names if more.endswith(" ") else not named
+    return is_known and is_named and bool(re.fullmatch(f"(?:{words}|, us-ascii|, utf-(?:8|16le|16be))*", more))
 
 
 def are_reasons(text):
@@ -202,7 +202,7 @@ def check_lines(page):
     for line in [*spans(page), *blocks_of(page)]:
         found = re.fullmatch(r"(?:[\w.-]*/)*(?:[\w-]+\.\w+|-|folder|dll): (\S.*)", line)
         if found:
-            is_type = re.fullmatch(rf"({TYPE})(?: (\w+))?((?:, [\w -]+)*)(?:: named ({TYPE}))?(?:: (.+))?", found[1])
+            is_type = re.fullmatch(rf"({TYPE})(?: (\w+))?((?: by [\w ]+)?(?:, [\w -]+)*)({TYPE})?(?:: (.+))?", found[1])
             fits = is_told(*is_type.groups()[:4]) and are_reasons(is_type[5] or "at least 1 byte") if is_type else found[1] in said()
             yield fits, f"{page}: the program prints no line such as '{line}'"
     texts = re.findall(r'&\[u8\] = b"(.*)\\n"', text_of("crates/infer_tool/src/run.rt"))

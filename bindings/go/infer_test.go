@@ -467,7 +467,7 @@ func TestNames(t *testing.T) {
 	if len(all) < 900 {
 		t.Error(len(all))
 	}
-	if got := Line("main\n.py", []byte("import os\n")); got != `main\u000a.py: text/x-python py, us-ascii, name refines` {
+	if got := Line("main\n.py", []byte("import os\n")); got != `main\u000a.py: text/x-python py, us-ascii` {
 		t.Error(got)
 	}
 	if got := DetectNamed("a.dz", []byte("\x1F\x8B\x08")); got.Type != (NamedType{"application/x-dictzip", "", true}) {

@@ -103,7 +103,7 @@ test("each name and its bytes have their standing and their type", () => {
     }
     assert.deepEqual(new Set(namedVectors.map((it) => it.standing)), new Set(Object.values(infer.Standing)));
     const script = new TextEncoder().encode("import os\n");
-    assert.equal(infer.line("main\n.py", script), "main\\u000a.py: text/x-python py, us-ascii, name refines");
+    assert.equal(infer.line("main\n.py", script), "main\\u000a.py: text/x-python py, us-ascii");
     assert.equal(infer.line("\u{202e}".repeat(20000), script), `${"\\u202e".repeat(20000)}: text/plain txt, us-ascii`);
 });
 

@@ -31,46 +31,49 @@ standing_name NameAlone = codes "name alone"
 standing_name Contradicts = codes "contradicts"
 standing_name Nothing = codes "nothing"
 
+-- the verdict on the name: it fits the bytes, lies, stays unproven, or is silent
+abbrev pub verdict_name : Standing → List ℕ
+verdict_name Agree = codes "fits"
+verdict_name NameRefines = codes "fits"
+verdict_name BytesRefine = codes "fits"
+verdict_name BytesAlone = codes "silent"
+verdict_name NameAlone = codes "unproven"
+verdict_name Contradicts = codes "lies"
+verdict_name Nothing = codes "silent"
+
 abbrev pub or_none : Option (List ℕ) → List ℕ
 or_none None = []
 or_none (Some text) = text
 
--- As a text: the MIME type and the extension; that there are no bytes; the encoding; what the name did, where it did
--- something; and the type that it has, where it contradicts.
+-- As a text: the MIME type and the extension; that only the name tells them; that there are no bytes; the encoding; and
+-- the type that the name has, where it contradicts.
 abbrev pub extension_text : Option (List ℕ) → List ℕ
 extension_text None = []
 extension_text (Some extension) = codes " " ++ extension
+
+abbrev pub alone_text : Option Standing → List ℕ
+alone_text (Some NameAlone) = codes " by its name alone"
+alone_text standing = []
 
 abbrev pub empty_text : Bool → List ℕ
 empty_text true = codes ", empty"
 empty_text false = []
 
-abbrev pub type_text : Option (List ℕ) → Option (List ℕ) → Bool → List ℕ
-type_text (Some mime_type) extension empty = name_shown Text mime_type ++ (extension_text extension ++ empty_text empty)
-type_text None extension true = codes "empty"
-type_text None extension false = codes "unknown"
+abbrev pub type_text : Option (List ℕ) → Label → List ℕ
+type_text (Some mime_type) l =
+    name_shown Text mime_type ++ (extension_text l.extension ++ (alone_text l.standing ++ empty_text l.is_empty))
+type_text None l = if l.is_empty then codes "empty" else codes "unknown"
 
 abbrev pub encoding_text : Option Encoding → List ℕ
 encoding_text None = []
 encoding_text (Some encoding) = codes ", " ++ encoding_name encoding
 
-abbrev pub standing_text : Option Standing → List ℕ
-standing_text (Some NameRefines) = codes ", name refines"
-standing_text (Some BytesRefine) = codes ", bytes refine"
-standing_text (Some NameAlone) = codes ", name alone"
-standing_text (Some Contradicts) = codes ", contradicts"
-standing_text (Some Agree) = []
-standing_text (Some BytesAlone) = []
-standing_text (Some Nothing) = []
-standing_text None = []
-
 abbrev pub named_text : Option (List ℕ) → List ℕ
 named_text None = []
-named_text (Some mime_type) = codes ": named " ++ mime_type
+named_text (Some mime_type) = codes ", but named as " ++ mime_type
 
 abbrev pub label_text : Label → List ℕ
-label_text l =
-    type_text l.mime_type l.extension l.is_empty ++ (encoding_text l.encoding ++ (standing_text l.standing ++ named_text l.named))
+label_text l = type_text l.mime_type l ++ (encoding_text l.encoding ++ named_text l.named)
 
 -- As `file --mime` has it: what is unknown are some bytes, and what is no text has no encoding.
 abbrev pub mime_type_text : Option (List ℕ) → Bool → List ℕ
@@ -115,6 +118,10 @@ abbrev pub standing_member : Option Standing → List ℕ
 standing_member None = []
 standing_member (Some standing) = codes ",\"standing\":\"" ++ (standing_name standing ++ codes "\"")
 
+abbrev pub verdict_member : Option Standing → List ℕ
+verdict_member None = []
+verdict_member (Some standing) = codes ",\"verdict\":\"" ++ (verdict_name standing ++ codes "\"")
+
 abbrev pub named_member : Option (List ℕ) → List ℕ
 named_member None = []
 named_member (Some mime_type) = codes ",\"named\":\"" ++ (mime_type ++ codes "\"")
@@ -122,7 +129,8 @@ named_member (Some mime_type) = codes ",\"named\":\"" ++ (mime_type ++ codes "\"
 abbrev pub label_members : Label → List ℕ
 label_members l =
     type_members l.mime_type l.extension
-    ++ (empty_member l.is_empty ++ (encoding_member l.encoding ++ (standing_member l.standing ++ named_member l.named)))
+    ++ (empty_member l.is_empty ++ (encoding_member l.encoding
+    ++ (standing_member l.standing ++ (verdict_member l.standing ++ named_member l.named))))
 
 -- a sum may begin with "=", "+", "-" or "@", and with each of these in full width: U+FF1D, U+FF0B, U+FF0D and U+FF20
 abbrev pub begins_as_wide_sum : List ℕ → Bool

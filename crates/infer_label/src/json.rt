@@ -1,7 +1,7 @@
 //! The line of an input as an object of JSON.
 ghost use Rattle.std.specs.Prelude.{◌≡◌, ◌++◌, None, Some, codes, option_map};
 ghost use Rattle.infer_label.specs.Label.{label_listed};
-ghost use Rattle.infer_label.specs.Line.{empty_member, encoding_member, extension_member, hex_member, label_members, name_member, named_member, note_member, standing_member, standing_name, start, type_members, utf8_member};
+ghost use Rattle.infer_label.specs.Line.{empty_member, encoding_member, extension_member, hex_member, label_members, name_member, named_member, note_member, standing_member, standing_name, start, type_members, utf8_member, verdict_member, verdict_name};
 ghost use Rattle.infer_label.specs.Names.{name_shown};
 ghost use Rattle.infer_label.specs.Why.{why_listed};
 ghost use Rattle.infer_label.specs.WhyJson.{why_member};
@@ -88,6 +88,7 @@ fn write_members(label: &Label<'_>, out: &mut Room<'_>)
     write_empty_member(label.is_empty, out);
     write_encoding_member(label.encoding, out);
     write_standing_member(label.standing, out);
+    write_verdict_member(label.standing, out);
     write_named_member(label.named, out);
 }
 
@@ -149,6 +150,14 @@ fn write_standing_member(standing: Option<Standing>, out: &mut Room<'_>)
     }
 }
 
+fn write_verdict_member(standing: Option<Standing>, out: &mut Room<'_>)
+    ensures { Writes out.old out.new (verdict_member standing) }
+{
+    if let Some(standing) = standing {
+        write_member(b",\"verdict\":\"", verdict_name(standing), out);
+    }
+}
+
 fn write_named_member(named: Option<&str>, out: &mut Room<'_>)
     ensures { Writes out.old out.new (named_member (option_map (λ m. m.now) named.entry)) }
 {
@@ -178,5 +187,17 @@ pub fn standing_name(standing: Standing) -> &'static str
         Standing::NameAlone => "name alone",
         Standing::Contradicts => "contradicts",
         Standing::Nothing => "nothing",
+    }
+}
+
+/// The verdict on the name.
+fn verdict_name(standing: Standing) -> &'static str
+    ensures { result.now ≡ verdict_name standing }
+{
+    match standing {
+        Standing::Agree | Standing::NameRefines | Standing::BytesRefine => "fits",
+        Standing::BytesAlone | Standing::Nothing => "silent",
+        Standing::NameAlone => "unproven",
+        Standing::Contradicts => "lies",
     }
 }

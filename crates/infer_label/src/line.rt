@@ -1,7 +1,7 @@
 //! The line of an input.
-ghost use Rattle.std.specs.Prelude.{◌≡◌, ◌++◌, None, Some, codes, option_map};
+ghost use Rattle.std.specs.Prelude.{◌≡◌, ◌++◌, None, Some, codes, if◌then◌else◌, option_map};
 ghost use Rattle.infer_label.specs.Label.{label_listed};
-ghost use Rattle.infer_label.specs.Line.{charset_text, empty_text, encoding_text, extension_text, label_text, line, mime_text, mime_type_text, named_text, note_line, noted, standing_text, start, told, type_text};
+ghost use Rattle.infer_label.specs.Line.{alone_text, charset_text, empty_text, encoding_text, extension_text, label_text, line, mime_text, mime_type_text, named_text, note_line, noted, start, told, type_text};
 ghost use Rattle.infer_label.specs.Options.{options_listed};
 ghost use Rattle.infer_label.specs.Names.{name_shown};
 ghost use Rattle.infer_label.specs.Why.{why_listed};
@@ -121,32 +121,31 @@ fn write_text(label: &Label<'_>, why: Option<&Why<'_>>, out: &mut Room<'_>)
 fn write_label(label: &Label<'_>, out: &mut Room<'_>)
     ensures { Writes out.old out.new (label_text (label_listed label.now)) }
 {
-    write_type(label.mime_type, label.extension, label.is_empty, out);
+    write_type(label, out);
     write_encoding(label.encoding, out);
-    write_standing(label.standing, out);
     write_named(label.named, out);
 }
 
-fn write_type(mime_type: Option<&[u8]>, extension: Option<&str>, is_empty: bool, out: &mut Room<'_>)
-    ensures { Writes out.old out.new
-        (type_text (option_map (λ m. m.now) mime_type.entry) (option_map (λ e. e.now) extension.entry) is_empty) }
+fn write_type(label: &Label<'_>, out: &mut Room<'_>)
+    ensures { Writes out.old out.new (type_text (label_listed label.now).mime_type (label_listed label.now)) }
 {
-    match mime_type {
-        Some(mime_type) => write_known(mime_type, extension, is_empty, out),
-        None => out.write(without_type(is_empty)),
+    match label.mime_type {
+        Some(mime_type) => write_known(mime_type, label, out),
+        None => out.write(without_type(label.is_empty)),
     }
 }
 
-fn write_known(mime_type: &[u8], extension: Option<&str>, is_empty: bool, out: &mut Room<'_>)
-    ensures { Writes out.old out.new (type_text (Some mime_type.now) (option_map (λ e. e.now) extension.entry) is_empty) }
+fn write_known(mime_type: &[u8], label: &Label<'_>, out: &mut Room<'_>)
+    ensures { Writes out.old out.new (type_text (Some mime_type.now) (label_listed label.now)) }
 {
     write_name(mime_type, Form::Text, out);
-    write_extension(extension, out);
-    write_empty(is_empty, out);
+    write_extension(label.extension, out);
+    write_alone(label.standing, out);
+    write_empty(label.is_empty, out);
 }
 
 fn without_type(is_empty: bool) -> &'static [u8]
-    ensures { result.now ≡ type_text None None is_empty }
+    ensures { result.now ≡ (if is_empty then codes "empty" else codes "unknown") }
 {
     if is_empty { b"empty" } else { b"unknown" }
 }
@@ -157,6 +156,15 @@ fn write_extension(extension: Option<&str>, out: &mut Room<'_>)
     if let Some(extension) = extension {
         out.write(b" ");
         out.write_text(extension);
+    }
+}
+
+/// Writes that only the name tells the type, where it does.
+fn write_alone(standing: Option<Standing>, out: &mut Room<'_>)
+    ensures { Writes out.old out.new (alone_text standing) }
+{
+    if let Some(Standing::NameAlone) = standing {
+        out.write(b" by its name alone");
     }
 }
 
@@ -177,31 +185,12 @@ fn write_encoding(encoding: Option<Encoding>, out: &mut Room<'_>)
     }
 }
 
-/// Writes what the name did, where it did something.
-fn write_standing(standing: Option<Standing>, out: &mut Room<'_>)
-    ensures { Writes out.old out.new (standing_text standing) }
-{
-    out.write(standing_text(standing));
-}
-
-fn standing_text(standing: Option<Standing>) -> &'static [u8]
-    ensures { result.now ≡ standing_text standing }
-{
-    match standing {
-        Some(Standing::NameRefines) => b", name refines",
-        Some(Standing::BytesRefine) => b", bytes refine",
-        Some(Standing::NameAlone) => b", name alone",
-        Some(Standing::Contradicts) => b", contradicts",
-        Some(Standing::Agree | Standing::BytesAlone | Standing::Nothing) | None => b"",
-    }
-}
-
 /// Writes the type that the name has, where the bytes contradict it.
 fn write_named(named: Option<&str>, out: &mut Room<'_>)
     ensures { Writes out.old out.new (named_text (option_map (λ m. m.now) named.entry)) }
 {
     if let Some(mime_type) = named {
-        out.write(b": named ");
+        out.write(b", but named as ");
         out.write_text(mime_type);
     }
 }

@@ -375,7 +375,7 @@ def line(name: Name, obj: Contents | None = None, *, form: str = "text", why: bo
     cursor or is hidden.
 
     >>> infer.line("main.py", b"import os")
-    'main.py: text/x-python py, us-ascii, name refines'"""
+    'main.py: text/x-python py, us-ascii'"""
     return _library.line(_bytes_of_name(name), _named_front(name, obj), _forms.index(form), why)
 
 

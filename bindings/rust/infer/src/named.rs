@@ -188,7 +188,7 @@ pub fn oddities(name: &[u8]) -> Oddities {
 /// moves a cursor or is hidden.
 ///
 /// ```
-/// assert_eq!(infer::line(b"main.py", b"import os"), "main.py: text/x-python py, us-ascii, name refines");
+/// assert_eq!(infer::line(b"main.py", b"import os"), "main.py: text/x-python py, us-ascii");
 /// ```
 pub fn line(name: &[u8], buf: &[u8]) -> String {
     let mut out = vec![0; 1 + ffi::line(name, buf, &mut [])];

@@ -15,12 +15,12 @@ fn each_form_has_its_line(rt: HostRuntime) {
     let cases: [(Form, &[u8]); 4] = [
         (
             Form::Text,
-            b"a.pdf: image/png png, contradicts: named application/pdf\n",
+            b"a.pdf: image/png png, but named as application/pdf\n",
         ),
         (Form::Mime, b"a.pdf: image/png; charset=binary\n"),
         (
             Form::Json,
-            b"{\"name\":\"a.pdf\",\"mime_type\":\"image/png\",\"extension\":\"png\",\"standing\":\"contradicts\",\"named\":\"application/pdf\"}\n",
+            b"{\"name\":\"a.pdf\",\"mime_type\":\"image/png\",\"extension\":\"png\",\"standing\":\"contradicts\",\"verdict\":\"lies\",\"named\":\"application/pdf\"}\n",
         ),
         (
             Form::Csv,
@@ -56,7 +56,7 @@ fn a_short_room_holds_the_front(rt: HostRuntime) {
     );
     assert_eq!(rt;
         &whole[..len],
-        b"main.py: text/x-python py, us-ascii, name refines\n".as_slice()
+        b"main.py: text/x-python py, us-ascii\n".as_slice()
     );
     for size in 0..128 {
         let mut room = [0; 128];
