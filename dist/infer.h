@@ -332,9 +332,9 @@ uint32_t infer_oddities(const void *name, size_t name_len);
  *     char line[512];
  *     infer_label_line("main.py", 7, "import os\n", 10, &options, NULL, line, sizeof line);
  *
- * writes "main.py: text/x-python py, us-ascii, name refines\n". Whatever bytes a name has, no part of it can move the
- * cursor or is hidden: a control character, a line end, a mark of direction or an invisible character is written as \u
- * and four digits. */
+ * writes "main.py: text/x-python py, us-ascii\n". Whatever bytes a name has, no part of it can move the cursor or is
+ * hidden: a control character, a line end, a mark of direction or an invisible character is written as \u and four
+ * digits. */
 enum infer_label_look {
     INFER_LABEL_NAME_AND_BYTES = 0,
     INFER_LABEL_BYTES = 1,             /* the bytes alone */
