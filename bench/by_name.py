@@ -1,6 +1,6 @@
-"""Which names programs call lies. The library says so of a name and the first 8192 bytes, and no other does. So `file`
-is asked by the bytes, and Python's mimetypes by the name, with the list of Debian's package media-types. gio is asked
-twice: by the bytes, of a link that has a number as its name, and by the name alone.
+"""Which names programs call lies. The library says so of a name and the first 8192 bytes, and the others do not. So
+`file` is asked by the bytes, and Python's mimetypes by the name, with the list of Debian's package media-types. gio is
+asked twice: by the bytes, of a link that has a number as its name, and by the name alone.
 
 A name lies by them if they know a type of the name and one of the bytes, both differ, neither is a kind of the other,
 and not both are texts, as JSON and XML are too. What is the same type, and a kind of what, is said by
